@@ -1,0 +1,32 @@
+-- A cascade of two refusals; the tick is tested only where 12 found it to be at least 1.
+use native.Mathlib.Omega.{arith}
+use borrow.Author.Needs.{needs}
+use borrow.Author.Tests.{not-false}
+use mathlib.Core.Path.{sym, _∙_}
+use Rattle.terms.specs.Settings.{settingsVerdict}
+use Rattle.terms.proofs.Cascade.{cascade}
+use Rattle.terms.proofs.Valid.{ranged-tick}
+use Rattle.terms.proofs.judge.check.Statement.{statement}
+use Rattle.terms.proofs.judge.check.Tie as tie
+
+ranged-requires : tie.Need-ranged-requires
+ranged-requires c κs = search needs
+
+returns : tie.Need-returns
+unfolding settingsVerdict
+returns c = search cascade depth 14
+
+ticked-requires : tie.Need-ticked-requires
+ticked-requires c κs =
+    ranged-tick (c .before .before .args .g) (sym (c .before .ranged .ensures) ∙ not-false _ (c .if1 .left)) .0
+
+returns-2 : tie.Need-returns-2
+unfolding settingsVerdict
+returns-2 c = search cascade depth 14
+
+returns-3 : tie.Need-returns-3
+unfolding settingsVerdict
+returns-3 c = search cascade depth 14
+
+pub check-spec : {M : Type 1} → statement M
+check-spec = tie.close (tie.spec ranged-requires returns ticked-requires returns-2 returns-3)

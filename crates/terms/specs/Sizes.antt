@@ -1,0 +1,67 @@
+-- Document 01, "Numbers" and "Book and report room": the sizes, each named once. Later requests change them here.
+use Prim.Native.Nat.{ℕ, _+_, _*_}
+
+-- "256 orders of number, price and lots left"
+abbrev pub slots : ℕ
+slots = 256
+
+abbrev pub width : ℕ
+width = 3
+
+-- "a lent table of 768 64-bit numbers"
+abbrev pub tableLength : ℕ
+tableLength = slots * width
+
+-- "520 reports of six"
+abbrev pub reportsMost : ℕ
+reportsMost = 520
+
+abbrev pub recordLength : ℕ
+recordLength = 6
+
+-- "Report room is 3,120 numbers"
+abbrev pub roomLength : ℕ
+roomLength = reportsMost * recordLength
+
+-- "line room under 128 bytes"
+abbrev pub lineRoom : ℕ
+lineRoom = 128
+
+-- "Order numbers are 1 to 60,000"
+abbrev pub numbersMost : ℕ
+numbersMost = 60000
+
+-- "over 59,744 trades made": with so many an order may still come
+abbrev pub tradesBefore : ℕ
+tradesBefore = 59744
+
+-- "trades at most 60,000": such an order can meet every counter order
+abbrev pub tradesMost : ℕ
+tradesMost = tradesBefore + slots
+
+-- "Prices are whole paise, 1 to 100,000,000. Quantities are lots, 1 to 10,000. Times are milliseconds from the open, 0 to 86,400,000."
+abbrev pub priceMost : ℕ
+priceMost = 100000000
+
+abbrev pub lotsMost : ℕ
+lotsMost = 10000
+
+abbrev pub timeMost : ℕ
+timeMost = 86400000
+
+-- "base 1 to 50,000,000; ... tick 1 to 10,000; length 3,600,000 to 86,400,000; days to maturity 0 to 366"
+abbrev pub baseMost : ℕ
+baseMost = 50000000
+
+abbrev pub tickMost : ℕ
+tickMost = 10000
+
+abbrev pub lengthLeast : ℕ
+lengthLeast = 3600000
+
+abbrev pub daysMost : ℕ
+daysMost = 366
+
+-- "a number above 999,999,999 to be written"
+abbrev pub writtenMost : ℕ
+writtenMost = 999999999

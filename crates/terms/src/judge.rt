@@ -1,0 +1,46 @@
+// Settings judged: 12 out of range, then 13 off the tick, for any numbers whatever.
+use crate::Refusal;
+use crate::Settings;
+use crate::Verdict;
+use crate::numbers;
+use crate::sizes;
+ghost use mathlib.Core.Path.{_≡_};
+ghost use Prim.Native.Nat.{_<_};
+ghost use Rattle.terms.specs.Settings.{settingsRanged, settingsTicked, settingsVerdict};
+
+fn ranged(g: Settings) -> bool
+    ensures { λ r. ⌜ r ≡ settingsRanged g ⌝ }
+{
+    let base = (1 <= g.base) & (g.base <= sizes::BASE);
+    let tick = (1 <= g.tick) & (g.tick <= sizes::TICK);
+    let length = (sizes::SHORTEST <= g.length) & (g.length <= sizes::TIME);
+    let days = g.days <= sizes::DAYS;
+    let under = g.under <= sizes::PRICE;
+    let close = numbers::is_price(g.close);
+    let settle = numbers::is_price(g.settle);
+    base & close & settle & tick & length & days & under
+}
+
+fn ticked(g: Settings) -> bool
+    requires { ⌜ 0 < g .tick ⌝ }
+    ensures { λ r. ⌜ r ≡ settingsTicked g ⌝ }
+{
+    let tick = g.tick;
+    let base = numbers::on_tick(tick, g.base);
+    let close = numbers::on_tick(tick, g.close);
+    let settle = numbers::on_tick(tick, g.settle);
+    base & close & settle
+}
+
+// The first refusal of settings that applies.
+pub fn check(g: Settings) -> Verdict
+    ensures { λ r. ⌜ r ≡ settingsVerdict g ⌝ }
+{
+    if !ranged(g) {
+        return Verdict::Refused(Refusal::SettingsRange);
+    }
+    if !ticked(g) {
+        return Verdict::Refused(Refusal::SettingsOffTick);
+    }
+    Verdict::Fine
+}

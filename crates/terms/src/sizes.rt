@@ -1,0 +1,43 @@
+// The sizes of the base, each named once for code; specs/Sizes.antt names each once for definitions.
+
+// Orders a side, and the numbers that an order takes in its table.
+pub const SLOTS: usize = 256;
+
+pub const WIDTH: usize = 3;
+
+// The numbers of a side's table.
+pub const TABLE: usize = SLOTS * WIDTH;
+
+// Reports that one event can have, the numbers of a report, and of the room.
+pub const REPORTS: usize = 520;
+
+pub const RECORD: usize = 6;
+
+pub const ROOM: usize = REPORTS * RECORD;
+
+// The bytes that a line room must have.
+pub const LINE: usize = 128;
+
+// Order numbers in a day, and the trades after which no further order is taken.
+pub const NUMBERS: u64 = 60_000;
+
+pub const TRADES: u64 = 59_744;
+
+// The greatest price, quantity and time.
+pub const PRICE: u64 = 100_000_000;
+
+pub const LOTS: u64 = 10_000;
+
+pub const TIME: u64 = 86_400_000;
+
+// The ranges that settings alone have.
+pub const BASE: u64 = 50_000_000;
+
+pub const TICK: u64 = 10_000;
+
+pub const SHORTEST: u64 = 3_600_000;
+
+pub const DAYS: u64 = 366;
+
+// The greatest number that a line can hold.
+pub const DIGITS: u64 = 999_999_999;
