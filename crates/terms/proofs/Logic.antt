@@ -1,6 +1,6 @@
 -- Laws of tests that every crate uses. Assumes nothing.
 use Prim.Native.Nat.{ℕ, _≤_}
-use mathlib.Core.Path.{_≡_, refl}
+use mathlib.Core.Path.{_≡_, refl, sym}
 use mathlib.Core.Bool.{Bool, true, false, cond, _&&_, _||_, not, false≢true, true≢false}
 use borrow.Author.Tests.{leb-true, le-leb}
 use lib.Dec.{leb}
@@ -21,6 +21,12 @@ cond-true b x y e = rw e
 
 pub cond-false : {A : Type 0} (b : Bool) (x y : A) → b ≡ false → cond b x y ≡ y
 cond-false b x y e = rw e
+
+-- two tests that pass together are one
+pub same : (p q : Bool) → (p ≡ true → q ≡ true) → (q ≡ true → p ≡ true) → p ≡ q
+same true q f g = sym (f refl)
+same false true f g = g refl
+same false false f g = refl
 
 -- ---- conjunctions, apart and together
 

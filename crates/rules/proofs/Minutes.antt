@@ -1,0 +1,84 @@
+-- The boundaries of minutes: two steps of time are one, and a second boundary without trades settles the reference. Assumes nothing.
+use Prim.Native.Nat.{ℕ, zero, suc, _+_, _-_, _/_, _≤_}
+use native.Mathlib.Omega.{arith}
+use native.Mathlib.Nat.{zero-add, suc-add}
+use mathlib.Core.Path.{_≡_, refl, sym, ap, _∙_}
+use borrow.Author.Tests.{eq-eqb, ne-eqb}
+use lib.Dec.{eqb}
+use Rattle.terms.proofs.Logic.{cases}
+use Rattle.rules.specs.declared.Reckoning.{Reckoning}
+use Rattle.rules.specs.Reference.{theoreticalOr, noTrades, boundary, boundaries, crossed, reckoned}
+
+-- boundaries one after the other
+pub boundaries-add : (j k under days : ℕ) (r : Reckoning) → boundaries k under days (boundaries j under days r) ≡ boundaries (j + k) under days r
+unfolding boundaries
+boundaries-add zero k under days r = rw (zero-add k)
+boundaries-add (suc j) k under days r = rw (suc-add j k) (boundaries-add j k under days (boundary under days r))
+
+crossed-add : (s t u : ℕ) → s ≤ t → t ≤ u → crossed s t + crossed t u ≡ crossed s u
+crossed-add s t u h k = omega arith
+
+-- TWO STEPS OF TIME ARE ONE: up to t and then up to u is up to u
+pub reckoned-twice : (r : Reckoning) (under days s t u : ℕ) → s ≤ t → t ≤ u → reckoned (reckoned r under days s t) under days t u ≡ reckoned r under days s u
+unfolding reckoned
+reckoned-twice r under days s t u h k =
+    boundaries-add (crossed s t) (crossed t u) under days r
+    ∙ ap (λ (n : ℕ). boundaries n under days r) (crossed-add s t u h k)
+
+-- ---- for the code, which reckons at most two boundaries
+
+or-settles : (x u d : ℕ) → theoreticalOr (theoreticalOr x u d) u d ≡ theoreticalOr x u d
+unfolding theoreticalOr
+or-settles x u d = cases (eqb u 0) (λ e. rw e) (λ e. rw e)
+
+boundary-settles : (u d : ℕ) (r : Reckoning) → boundary u d (boundary u d (boundary u d r)) ≡ boundary u d (boundary u d r)
+boundary-settles u d r = λ i. record { reference = or-settles (boundary u d r .reference) u d i; minute = noTrades }
+
+-- a second boundary is as good as any number of them
+boundaries-settle : (k u d : ℕ) (r : Reckoning) → boundaries (suc (suc k)) u d r ≡ boundary u d (boundary u d r)
+unfolding boundaries
+boundaries-settle zero u d r = refl
+boundaries-settle (suc k) u d r = boundaries-settle k u d (boundary u d r) ∙ boundary-settles u d r
+
+-- a reckoning right after a boundary
+abbrev fresh : ℕ → Reckoning
+fresh price = record { reference = price; minute = noTrades }
+
+boundary-quiet : (u d : ℕ) (r : Reckoning) → r .minute .count ≡ 0 → boundary u d r ≡ fresh (theoreticalOr (r .reference) u d)
+boundary-quiet u d r e = rw (eq-eqb (r .minute .count) 0 e)
+
+boundary-busy : (u d : ℕ) (r : Reckoning) → (r .minute .count ≡ 0 → ⊥) → boundary u d r ≡ fresh (r .minute .sum / r .minute .count)
+boundary-busy u d r n = rw (ne-eqb (r .minute .count) 0 n)
+
+quiet-at : (k u d : ℕ) (r : Reckoning) → (k ≡ 0 → ⊥) → r .minute .count ≡ 0 → boundaries k u d r ≡ fresh (theoreticalOr (r .reference) u d)
+unfolding boundaries
+quiet-at zero u d r n e = absurd (n refl)
+quiet-at (suc zero) u d r n e = boundary-quiet u d r e
+quiet-at (suc (suc k)) u d r n e =
+    boundaries-settle k u d r
+    ∙ (ap (boundary u d) (boundary-quiet u d r e) ∙ ap fresh (or-settles (r .reference) u d))
+
+busy-at : (k u d : ℕ) (r : Reckoning) → (k ≡ 0 → ⊥) → (k ≡ 1 → ⊥) → (r .minute .count ≡ 0 → ⊥) → boundaries k u d r ≡ fresh (theoreticalOr (r .minute .sum / r .minute .count) u d)
+busy-at zero u d r n m e = absurd (n refl)
+busy-at (suc zero) u d r n m e = absurd (m refl)
+busy-at (suc (suc k)) u d r n m e = boundaries-settle k u d r ∙ ap (boundary u d) (boundary-busy u d r e)
+
+-- the four answers of the code
+module _ (r : Reckoning) (u d s t : ℕ) where
+  pub reckon-none : crossed s t ≡ 0 → r ≡ reckoned r u d s t
+  unfolding reckoned boundaries
+  reckon-none e = rw e
+
+  pub reckon-quiet : (p : ℕ) → p ≡ theoreticalOr (r .reference) u d → (crossed s t ≡ 0 → ⊥) → r .minute .count ≡ 0 → fresh p ≡ reckoned r u d s t
+  unfolding reckoned
+  reckon-quiet p h n e = ap fresh h ∙ sym (quiet-at (crossed s t) u d r n e)
+
+  pub reckon-once : crossed s t ≡ 1 → (r .minute .count ≡ 0 → ⊥) → fresh (r .minute .sum / r .minute .count) ≡ reckoned r u d s t
+  unfolding reckoned boundaries
+  reckon-once e n = rw e (sym (boundary-busy u d r n))
+
+  pub reckon-busy : (p : ℕ) → p ≡ theoreticalOr (r .minute .sum / r .minute .count) u d → (crossed s t ≡ 0 → ⊥) → (crossed s t ≡ 1 → ⊥) → (r .minute .count ≡ 0 → ⊥) → fresh p ≡ reckoned r u d s t
+  unfolding reckoned
+  reckon-busy p h n m e = ap fresh h ∙ sym (busy-at (crossed s t) u d r n m e)
+
+pub ruleset reckonings = (reckon-none, reckon-quiet, reckon-once, reckon-busy)

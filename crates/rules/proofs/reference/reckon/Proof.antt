@@ -1,0 +1,42 @@
+-- At most two boundaries tell: the first sees the minute's trades, and any later one settles the reference.
+use borrow.Author.Needs.{needs}
+use Rattle.rules.proofs.Minutes.{reckonings}
+use Rattle.rules.proofs.reference.reckon.Statement.{statement}
+use Rattle.rules.proofs.reference.reckon.Tie as tie
+
+sub-crossed : tie.Need-sub-crossed
+sub-crossed c = search needs
+
+returns : tie.Need-returns
+returns c = search reckonings
+
+theoretical-or-requires : tie.Need-theoretical-or-requires
+theoretical-or-requires c κs = search needs
+
+returns-2 : tie.Need-returns-2
+returns-2 c = search reckonings
+
+div-average : tie.Need-div-average
+div-average c = search needs
+
+returns-3 : tie.Need-returns-3
+returns-3 c = search reckonings
+
+theoretical-or-requires-2 : tie.Need-theoretical-or-requires-2
+theoretical-or-requires-2 c κs = search needs
+
+returns-4 : tie.Need-returns-4
+returns-4 c = search reckonings
+
+pub reckon-spec : {M : Type 1} → statement M
+reckon-spec =
+    tie.close
+    (tie.spec
+    sub-crossed
+    returns
+    theoretical-or-requires
+    returns-2
+    div-average
+    returns-3
+    theoretical-or-requires-2
+    returns-4)

@@ -1,0 +1,16 @@
+-- Each end is what its call answers.
+use borrow.Author.Needs.{needs}
+use Rattle.rules.proofs.slabs.band_at.Statement.{statement}
+use Rattle.rules.proofs.slabs.band_at.Tie as tie
+
+low-at-requires : tie.Need-low-at-requires
+low-at-requires c κs = search needs
+
+high-at-requires : tie.Need-high-at-requires
+high-at-requires c κs = search needs
+
+returns : tie.Need-returns
+returns c = simp (c .high-at .ensures, c .before .low-at .ensures)
+
+pub band-at-spec : {M : Type 1} → statement M
+band-at-spec = tie.close (tie.spec low-at-requires high-at-requires returns)

@@ -1,0 +1,23 @@
+-- What the rounded numbers of document 01 mean, said without the arithmetic that computes them. proofs/ shows that they mean it.
+use Prim.Native.Nat.{ℕ, _+_, _-_, _*_, _%_, _≤_, _<_}
+use mathlib.Core.Path.{_≡_}
+
+-- "the smallest tick multiple not below base×(100−p)/100"
+pub record IsLow (base tick p low : ℕ) : Type 0 where
+  pub multiple : low % tick ≡ 0
+  pub reaches : base * (100 - p) ≤ low * 100
+  pub least : (k : ℕ) → base * (100 - p) ≤ k * tick * 100 → low ≤ k * tick
+
+-- "the greatest not above base×(100+p)/100"
+pub record IsHigh (base tick p high : ℕ) : Type 0 where
+  pub multiple : high % tick ≡ 0
+  pub within : high * 100 ≤ base * (100 + p)
+  pub greatest : (k : ℕ) → k * tick * 100 ≤ base * (100 + p) → k * tick ≤ high
+
+-- value÷lots "to the nearest tick, halves up": it is a multiple of the tick from half a tick below the price, that excluded, to half a
+-- tick above it; and no other multiple is
+pub record IsNearest (tick value lots price : ℕ) : Type 0 where
+  pub multiple : price % tick ≡ 0
+  pub not-above : 2 * (price * lots) ≤ 2 * value + lots * tick
+  pub not-below : 2 * value < 2 * (price * lots) + lots * tick
+  pub only : (k : ℕ) → 2 * (k * tick * lots) ≤ 2 * value + lots * tick → 2 * value < 2 * (k * tick * lots) + lots * tick → k * tick ≡ price

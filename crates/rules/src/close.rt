@@ -1,0 +1,179 @@
+// The tape of trades, and what the close makes of it: the close price and the next day's base (000).
+use crate::Tally;
+use crate::Tape;
+use terms::Closing;
+ghost use mathlib.Core.Path.{_≡_};
+ghost use Prim.Native.Nat.{_*_, _≤_, _<_};
+ghost use Rattle.terms.specs.Sizes.{priceMost, lotsMost, tradesMost, lengthLeast, tickMost};
+ghost use Rattle.rules.specs.Close.{inHalfHour, tallied, tallyAll, noTally, halfAfter, remembered, tapeAfter, lastOr, average, closingOf, TallyFits, TenFits, TapeFits};
+
+// The last half hour of a session of this length.
+const HALF_HOUR: u64 = 1_800_000;
+
+// Whether a trade at a time is in the half hour that the close looks at.
+pub fn in_half_hour(length: u64, time: u64) -> bool
+    requires { ⌜ lengthLeast ≤ length ⌝ }
+    ensures { λ r. ⌜ r ≡ inHalfHour length time ⌝ }
+{
+    length - HALF_HOUR <= time
+}
+
+// What lots at a price come to.
+fn worth(price: u64, lots: u64) -> u64
+    requires { ⌜ (price ≤ priceMost) × (lots ≤ lotsMost) ⌝ }
+    ensures { λ r. ⌜ (r ≡ price * lots) × (r ≤ priceMost * lots) ⌝ }
+{
+    price * lots
+}
+
+// One trade more in a tally.
+fn tally_after(t: Tally, price: u64, lots: u64) -> Tally
+    requires { ⌜ TallyFits t × (price ≤ priceMost) × (lots ≤ lotsMost) ⌝ }
+    ensures { λ r. ⌜ r ≡ tallied t price lots ⌝ }
+{
+    let count = t.count + 1;
+    let sum = t.lots + lots;
+    let more = worth(price, lots);
+    Tally {
+        count: count,
+        lots: sum,
+        value: t.value + more,
+    }
+}
+
+// One number more of the last ten, of which n were there.
+fn pushed(old: [u64; 10], n: u64, x: u64) -> [u64; 10]
+    ensures { λ r. ⌜ r ≡ remembered old n x ⌝ }
+{
+    if n < 10 {
+        let mut r = old;
+        let at = n as usize;
+        r[at] = x;
+        return r;
+    }
+    [
+        old[1],
+        old[2],
+        old[3],
+        old[4],
+        old[5],
+        old[6],
+        old[7],
+        old[8],
+        old[9],
+        x,
+    ]
+}
+
+// The half hour's tally after a trade; late says whether it is in the half hour.
+fn half_after(half: Tally, late: bool, price: u64, lots: u64) -> Tally
+    requires { ⌜ TallyFits half × (price ≤ priceMost) × (lots ≤ lotsMost) ⌝ }
+    ensures { λ r. ⌜ r ≡ halfAfter half late price lots ⌝ }
+{
+    if late {
+        return tally_after(half, price, lots);
+    }
+    half
+}
+
+// A trade remembered; late says whether it is in the half hour.
+pub fn tape_after(t: Tape, late: bool, price: u64, lots: u64) -> Tape
+    requires { ⌜ (t .trades ≤ tradesMost) × TallyFits (t .half) × (price ≤ priceMost) × (lots ≤ lotsMost) ⌝ }
+    ensures { λ r. ⌜ r ≡ tapeAfter t late price lots ⌝ }
+{
+    let n = t.trades;
+    let trades = n + 1;
+    let old = t.half;
+    let prices = t.prices;
+    let sizes = t.sizes;
+    let last = pushed(prices, n, price);
+    let taken = pushed(sizes, n, lots);
+    let half = half_after(old, late, price, lots);
+    Tape {
+        trades: trades,
+        prices: last,
+        sizes: taken,
+        half: half,
+    }
+}
+
+// The last trade's price, or the other before any trade.
+pub fn last_or(other: u64, t: Tape) -> u64
+    ensures { λ r. ⌜ r ≡ lastOr other t ⌝ }
+{
+    let n = t.trades;
+    if n == 0 {
+        return other;
+    }
+    if 10 <= n {
+        return t.prices[9];
+    }
+    let at = (n - 1) as usize;
+    t.prices[at]
+}
+
+// The last ten trades added up.
+fn last_ten(prices: [u64; 10], sizes: [u64; 10]) -> Tally
+    requires { ⌜ TenFits prices sizes ⌝ }
+    ensures { λ r. ⌜ (r ≡ tallyAll noTally prices sizes) × TallyFits r × (1 ≤ r .lots) ⌝ }
+{
+    let mut t = Tally {
+        count: 0,
+        lots: 0,
+        value: 0,
+    };
+    let mut i: usize = 0;
+    while i < 10 {
+        t = tally_after(t, prices[i], sizes[i]);
+        i += 1;
+    }
+    t
+}
+
+// A tick's worth of each lot.
+fn spread(lots: u64, tick: u64) -> u64
+    requires { ⌜ (1 ≤ lots) × (lots ≤ lotsMost * tradesMost) × (tick ≤ tickMost) ⌝ }
+    ensures { λ r. ⌜ (r ≡ lots * tick) × (tick ≤ r) × (r ≤ lotsMost * tradesMost * tickMost) ⌝ }
+{
+    lots * tick
+}
+
+// Value by lots, to the nearest tick, halves up.
+fn nearest_tick(tick: u64, t: Tally) -> u64
+    requires { ⌜ (1 ≤ tick) × (tick ≤ tickMost) × TallyFits t × (1 ≤ t .lots) ⌝ }
+    ensures { λ r. ⌜ r ≡ average tick t ⌝ }
+{
+    let unit = spread(t.lots, tick);
+    let value = t.value;
+    (2 * value + unit) / (2 * unit) * tick
+}
+
+// The close price and the next base, from the tape, the previous close and today's settlement.
+pub fn closing(tick: u64, close: u64, t: Tape, settle: u64) -> Closing
+    requires { ⌜ (1 ≤ tick) × (tick ≤ tickMost) × TapeFits t ⌝ }
+    ensures { λ r. ⌜ r ≡ closingOf tick close t settle ⌝ }
+{
+    let half = t.half;
+    let trades = t.trades;
+    if 10 <= half.count {
+        let price = nearest_tick(tick, half);
+        return Closing {
+            price: price,
+            base: price,
+        };
+    }
+    if 10 <= trades {
+        let prices = t.prices;
+        let sizes = t.sizes;
+        let price = nearest_tick(tick, last_ten(prices, sizes));
+        return Closing {
+            price: price,
+            base: price,
+        };
+    }
+    let price = last_or(close, t);
+    Closing {
+        price: price,
+        base: settle,
+    }
+}

@@ -1,0 +1,88 @@
+// The reference price: at the opening, over the boundaries of minutes, and the range around it.
+use crate::Minute;
+use crate::Range;
+use crate::Reckoning;
+use crate::Row;
+ghost use mathlib.Core.Path.{_≡_};
+ghost use Prim.Native.Nat.{_≤_};
+ghost use Rattle.terms.specs.Sizes.{priceMost, daysMost, timeMost};
+ghost use Rattle.rules.specs.Reference.{theoreticalOr, referenceMost, minuteAfter, reckoned, MinuteFits, RangeFits, rangeOf, inRange};
+
+// The theoretical price, or the other where no underlying is known.
+pub fn theoretical_or(other: u64, under: u64, days: u64) -> u64
+    requires { ⌜ (under ≤ priceMost) × (days ≤ daysMost) ⌝ }
+    ensures { λ r. ⌜ r ≡ theoreticalOr other under days ⌝ }
+{
+    if under == 0 {
+        return other;
+    }
+    crate::growth::theoretical(under, days)
+}
+
+// The minute with one trade more.
+pub fn minute_after(m: Minute, price: u64) -> Minute
+    requires { ⌜ MinuteFits m × (price ≤ priceMost) ⌝ }
+    ensures { λ r. ⌜ r ≡ minuteAfter m price ⌝ }
+{
+    let count = m.count + 1;
+    let sum = m.sum + price;
+    Minute {
+        count: count,
+        sum: sum,
+    }
+}
+
+// The reckoning after every boundary that lies after the one time, up to and including the other.
+pub fn reckon(r: Reckoning, under: u64, days: u64, from: u64, to: u64) -> Reckoning
+    requires { ⌜ (under ≤ priceMost) × (days ≤ daysMost) × (from ≤ to) ⌝ }
+    ensures { λ r′. ⌜ r′ ≡ reckoned r under days from to ⌝ }
+{
+    let crossed = to / 60_000 - from / 60_000;
+    if crossed == 0 {
+        return r;
+    }
+    let none = Minute { count: 0, sum: 0 };
+    let count = r.minute.count;
+    if count == 0 {
+        let price = theoretical_or(r.reference, under, days);
+        return Reckoning {
+            reference: price,
+            minute: none,
+        };
+    }
+    let average = r.minute.sum / count;
+    if crossed == 1 {
+        return Reckoning {
+            reference: average,
+            minute: none,
+        };
+    }
+    let price = theoretical_or(average, under, days);
+    Reckoning {
+        reference: price,
+        minute: none,
+    }
+}
+
+// The range around a reference: by the initial percent, whatever the band's is now.
+pub fn range_of(slab: Row, reference: u64) -> Range
+    ensures { λ r. ⌜ r ≡ rangeOf slab reference ⌝ }
+{
+    Range {
+        percent: slab.initial,
+        reference: reference,
+    }
+}
+
+// Whether a price lies in the execution range. Any price may be asked about.
+pub fn in_range(r: Range, x: u64) -> bool
+    requires { ⌜ RangeFits r ⌝ }
+    ensures { λ b. ⌜ b ≡ inRange r x ⌝ }
+{
+    let reference = r.reference;
+    let reach = r.percent * reference / 200;
+    if x < reference {
+        return reference - x <= reach;
+    }
+    x - reference <= reach
+}

@@ -1,0 +1,126 @@
+// Slabs: the percents of each category, the band at a percent, and the cooling-off.
+use crate::Row;
+use terms::Band;
+use terms::Category;
+ghost use mathlib.Core.Path.{_≡_};
+ghost use Prim.Native.Nat.{_+_, _≤_};
+ghost use Rattle.terms.specs.Sizes.{timeMost};
+ghost use Rattle.rules.specs.Slabs.{slabOf, percentOf, percentMost, Priced, lowAt, highAt, bandAt, inBand, touches, coolingAfter, overBy};
+
+const SLABS: [Row; 8] = [
+    Row {
+        initial: 4,
+        enhanced: 2,
+    },
+    Row {
+        initial: 4,
+        enhanced: 2,
+    },
+    Row {
+        initial: 3,
+        enhanced: 1,
+    },
+    Row {
+        initial: 6,
+        enhanced: 3,
+    },
+    Row {
+        initial: 6,
+        enhanced: 3,
+    },
+    Row {
+        initial: 6,
+        enhanced: 3,
+    },
+    Row {
+        initial: 3,
+        enhanced: 3,
+    },
+    Row {
+        initial: 6,
+        enhanced: 3,
+    },
+];
+
+const COOLING: u64 = 900_000;
+
+// The row of a category.
+pub fn slab_of(c: Category) -> Row
+    ensures { λ r. ⌜ (r ≡ slabOf c) × (r .initial + r .enhanced ≤ percentMost) ⌝ }
+{
+    let n = terms::numbers::of_category(c);
+    SLABS[n]
+}
+
+// The percent in force after so many widenings.
+pub fn percent_of(slab: Row, widened: u64) -> u64
+    requires { ⌜ slab .initial + slab .enhanced ≤ percentMost ⌝ }
+    ensures { λ r. ⌜ (r ≡ percentOf slab widened) × (r ≤ percentMost) ⌝ }
+{
+    if widened == 0 {
+        return slab.initial;
+    }
+    slab.initial + slab.enhanced
+}
+
+fn low_at(base: u64, tick: u64, percent: u64) -> u64
+    requires { ⌜ Priced base tick percent ⌝ }
+    ensures { λ r. ⌜ r ≡ lowAt base tick percent ⌝ }
+{
+    let part = base * (100 - percent);
+    let unit = 100 * tick;
+    (part + (unit - 1)) / unit * tick
+}
+
+fn high_at(base: u64, tick: u64, percent: u64) -> u64
+    requires { ⌜ Priced base tick percent ⌝ }
+    ensures { λ r. ⌜ r ≡ highAt base tick percent ⌝ }
+{
+    let part = base * (100 + percent);
+    let unit = 100 * tick;
+    part / unit * tick
+}
+
+// The band at a percent.
+pub fn band_at(base: u64, tick: u64, percent: u64) -> Band
+    requires { ⌜ Priced base tick percent ⌝ }
+    ensures { λ r. ⌜ r ≡ bandAt base tick percent ⌝ }
+{
+    let low = low_at(base, tick, percent);
+    let high = high_at(base, tick, percent);
+    Band {
+        low: low,
+        high: high,
+    }
+}
+
+pub fn in_band(b: Band, x: u64) -> bool
+    ensures { λ r. ⌜ r ≡ inBand b x ⌝ }
+{
+    (b.low <= x) & (x <= b.high)
+}
+
+// The end of the cooling-off after a trade at a price, 0 for none.
+pub fn cooling_after(widened: u64, cooling: u64, time: u64, b: Band, price: u64) -> u64
+    requires { ⌜ time ≤ timeMost ⌝ }
+    ensures { λ r. ⌜ r ≡ coolingAfter widened cooling time b price ⌝ }
+{
+    let end = time + COOLING;
+    if widened != 0 {
+        return cooling;
+    }
+    if cooling != 0 {
+        return cooling;
+    }
+    if (price == b.low) | (price == b.high) {
+        return end;
+    }
+    cooling
+}
+
+// A cooling-off has ended by a time.
+pub fn over_by(cooling: u64, t: u64) -> bool
+    ensures { λ r. ⌜ r ≡ overBy cooling t ⌝ }
+{
+    (cooling != 0) & (cooling <= t)
+}
