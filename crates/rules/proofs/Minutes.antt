@@ -7,7 +7,7 @@ use borrow.Author.Tests.{eq-eqb, ne-eqb}
 use lib.Dec.{eqb}
 use Rattle.terms.proofs.Logic.{cases}
 use Rattle.rules.specs.declared.Reckoning.{Reckoning}
-use Rattle.rules.specs.Reference.{theoreticalOr, noTrades, boundary, boundaries, crossed, reckoned}
+use Rattle.rules.specs.Reference.{theoreticalOr, quiet, boundary, boundaries, crossed, reckoned}
 
 -- boundaries one after the other
 pub boundaries-add : (j k under days : ℕ) (r : Reckoning) → boundaries k under days (boundaries j under days r) ≡ boundaries (j + k) under days r
@@ -32,7 +32,7 @@ unfolding theoreticalOr
 or-settles x u d = cases (eqb u 0) (λ e. rw e) (λ e. rw e)
 
 boundary-settles : (u d : ℕ) (r : Reckoning) → boundary u d (boundary u d (boundary u d r)) ≡ boundary u d (boundary u d r)
-boundary-settles u d r = λ i. record { reference = or-settles (boundary u d r .reference) u d i; minute = noTrades }
+boundary-settles u d r = ap quiet (or-settles (boundary u d r .reference) u d)
 
 -- a second boundary is as good as any number of them
 boundaries-settle : (k u d : ℕ) (r : Reckoning) → boundaries (suc (suc k)) u d r ≡ boundary u d (boundary u d r)
@@ -40,25 +40,21 @@ unfolding boundaries
 boundaries-settle zero u d r = refl
 boundaries-settle (suc k) u d r = boundaries-settle k u d (boundary u d r) ∙ boundary-settles u d r
 
--- a reckoning right after a boundary
-abbrev fresh : ℕ → Reckoning
-fresh price = record { reference = price; minute = noTrades }
-
-boundary-quiet : (u d : ℕ) (r : Reckoning) → r .minute .count ≡ 0 → boundary u d r ≡ fresh (theoreticalOr (r .reference) u d)
+boundary-quiet : (u d : ℕ) (r : Reckoning) → r .minute .count ≡ 0 → boundary u d r ≡ quiet (theoreticalOr (r .reference) u d)
 boundary-quiet u d r e = rw (eq-eqb (r .minute .count) 0 e)
 
-boundary-busy : (u d : ℕ) (r : Reckoning) → (r .minute .count ≡ 0 → ⊥) → boundary u d r ≡ fresh (r .minute .sum / r .minute .count)
+boundary-busy : (u d : ℕ) (r : Reckoning) → (r .minute .count ≡ 0 → ⊥) → boundary u d r ≡ quiet (r .minute .sum / r .minute .count)
 boundary-busy u d r n = rw (ne-eqb (r .minute .count) 0 n)
 
-quiet-at : (k u d : ℕ) (r : Reckoning) → (k ≡ 0 → ⊥) → r .minute .count ≡ 0 → boundaries k u d r ≡ fresh (theoreticalOr (r .reference) u d)
+quiet-at : (k u d : ℕ) (r : Reckoning) → (k ≡ 0 → ⊥) → r .minute .count ≡ 0 → boundaries k u d r ≡ quiet (theoreticalOr (r .reference) u d)
 unfolding boundaries
 quiet-at zero u d r n e = absurd (n refl)
 quiet-at (suc zero) u d r n e = boundary-quiet u d r e
 quiet-at (suc (suc k)) u d r n e =
     boundaries-settle k u d r
-    ∙ (ap (boundary u d) (boundary-quiet u d r e) ∙ ap fresh (or-settles (r .reference) u d))
+    ∙ (ap (boundary u d) (boundary-quiet u d r e) ∙ ap quiet (or-settles (r .reference) u d))
 
-busy-at : (k u d : ℕ) (r : Reckoning) → (k ≡ 0 → ⊥) → (k ≡ 1 → ⊥) → (r .minute .count ≡ 0 → ⊥) → boundaries k u d r ≡ fresh (theoreticalOr (r .minute .sum / r .minute .count) u d)
+busy-at : (k u d : ℕ) (r : Reckoning) → (k ≡ 0 → ⊥) → (k ≡ 1 → ⊥) → (r .minute .count ≡ 0 → ⊥) → boundaries k u d r ≡ quiet (theoreticalOr (r .minute .sum / r .minute .count) u d)
 busy-at zero u d r n m e = absurd (n refl)
 busy-at (suc zero) u d r n m e = absurd (m refl)
 busy-at (suc (suc k)) u d r n m e = boundaries-settle k u d r ∙ ap (boundary u d) (boundary-busy u d r e)
@@ -69,16 +65,16 @@ module _ (r : Reckoning) (u d s t : ℕ) where
   unfolding reckoned boundaries
   reckon-none e = rw e
 
-  pub reckon-quiet : (p : ℕ) → p ≡ theoreticalOr (r .reference) u d → (crossed s t ≡ 0 → ⊥) → r .minute .count ≡ 0 → fresh p ≡ reckoned r u d s t
+  pub reckon-quiet : (x : Reckoning) (p : ℕ) → x ≡ quiet p → p ≡ theoreticalOr (r .reference) u d → (crossed s t ≡ 0 → ⊥) → r .minute .count ≡ 0 → x ≡ reckoned r u d s t
   unfolding reckoned
-  reckon-quiet p h n e = ap fresh h ∙ sym (quiet-at (crossed s t) u d r n e)
+  reckon-quiet x p q h n e = q ∙ (ap quiet h ∙ sym (quiet-at (crossed s t) u d r n e))
 
-  pub reckon-once : crossed s t ≡ 1 → (r .minute .count ≡ 0 → ⊥) → fresh (r .minute .sum / r .minute .count) ≡ reckoned r u d s t
+  pub reckon-once : (x : Reckoning) → x ≡ quiet (r .minute .sum / r .minute .count) → crossed s t ≡ 1 → (r .minute .count ≡ 0 → ⊥) → x ≡ reckoned r u d s t
   unfolding reckoned boundaries
-  reckon-once e n = rw e (sym (boundary-busy u d r n))
+  reckon-once x q e n = q ∙ rw e (sym (boundary-busy u d r n))
 
-  pub reckon-busy : (p : ℕ) → p ≡ theoreticalOr (r .minute .sum / r .minute .count) u d → (crossed s t ≡ 0 → ⊥) → (crossed s t ≡ 1 → ⊥) → (r .minute .count ≡ 0 → ⊥) → fresh p ≡ reckoned r u d s t
+  pub reckon-busy : (x : Reckoning) (p : ℕ) → x ≡ quiet p → p ≡ theoreticalOr (r .minute .sum / r .minute .count) u d → (crossed s t ≡ 0 → ⊥) → (crossed s t ≡ 1 → ⊥) → (r .minute .count ≡ 0 → ⊥) → x ≡ reckoned r u d s t
   unfolding reckoned
-  reckon-busy p h n m e = ap fresh h ∙ sym (busy-at (crossed s t) u d r n m e)
+  reckon-busy x p q h n m e = q ∙ (ap quiet h ∙ sym (busy-at (crossed s t) u d r n m e))
 
 pub ruleset reckonings = (reckon-none, reckon-quiet, reckon-once, reckon-busy)

@@ -3,7 +3,6 @@ use Prim.Native.Nat.{ℕ}
 use mathlib.Core.Path.{_≡_, refl}
 use mathlib.Core.Bool.{true, false}
 use mathlib.Core.List.{List, [], _∷_}
-use lib.ListN.{replicate}
 use Rattle.terms.specs.declared.Category.the-variants.{Sensitive, Gems}
 use Rattle.terms.specs.declared.Side.the-variants.{Buy}
 use Rattle.rules.specs.declared.Tape.{Tape}
@@ -11,12 +10,9 @@ use Rattle.rules.specs.Slabs.{slabOf, percentOf, lowAt, highAt, bandAt}
 use Rattle.rules.specs.Growth.{factorial, term, terms, growth}
 use Rattle.rules.specs.Reference.{crossed, rangeOf, inRange}
 use Rattle.rules.specs.Mark.{beyondMark}
-use Rattle.rules.specs.Close.{noTally, tallied, tallyAll, remembered, tapeAfter, inHalfHour, nearest, closePrice}
+use Rattle.rules.specs.Close.{blankTape, tallied, tallyAll, remembered, tapeAfter, inHalfHour, nearest, closePrice}
 
--- a tape before any trade, and with one-lot trades at these prices, none of them in the half hour
-abbrev pub blank : Tape
-blank = record { trades = 0; prices = replicate 10 0; sizes = replicate 10 0; half = noTally }
-
+-- a tape with one-lot trades at these prices, none of them in the half hour
 abbrev pub oneLots : Tape → List ℕ → Tape
 oneLots t [] = t
 oneLots t (p ∷ ps) = oneLots (tapeAfter t false p 1) ps
@@ -25,7 +21,7 @@ pub record Worked : Type 0 where
   pub P4 : bandAt 1003 1 (percentOf (slabOf Sensitive) 0) ≡ record { low = 973; high = 1033 }
   pub P5 : inRange (rangeOf (slabOf Gems) 10225) 10375 ≡ true
   pub P6 : inRange (rangeOf (slabOf Gems) 10225) 10380 ≡ false
-  pub P7 : closePrice 1 100 (oneLots blank (100 ∷ 100 ∷ 100 ∷ 100 ∷ 100 ∷ 101 ∷ 101 ∷ 101 ∷ 101 ∷ 101 ∷ [])) ≡ 101
+  pub P7 : closePrice 1 100 (oneLots blankTape (100 ∷ 100 ∷ 100 ∷ 100 ∷ 100 ∷ 101 ∷ 101 ∷ 101 ∷ 101 ∷ 101 ∷ [])) ≡ 101
   pub P8 : inHalfHour 3600000 1800000 ≡ true
   pub P9 : inHalfHour 3600000 1799999 ≡ false
   pub P10 : beyondMark Buy 10150 10350 ≡ false

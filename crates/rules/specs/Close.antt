@@ -3,7 +3,7 @@ use Prim.Native.Nat.{ℕ, _+_, _-_, _*_, _/_, _≤_, _<_, min}
 use mathlib.Core.Bool.{Bool, cond, _||_}
 use mathlib.Core.List.{List, [], _∷_, _++_}
 use lib.Dec.{leb, ltb, eqb}
-use lib.ListN.{getD, set, take, drop}
+use lib.ListN.{getD, set, take, drop, replicate}
 use Rattle.terms.specs.declared.Closing.{Closing}
 use Rattle.terms.specs.Sizes.{priceMost, lotsMost, tradesMost}
 use Rattle.rules.specs.declared.Tally.{Tally}
@@ -52,6 +52,10 @@ halfAfter half late price lots =
       lots = cond late (tallied half price lots .lots) (half .lots);
       value = cond late (tallied half price lots .value) (half .value);
     }
+
+-- before any trade
+abbrev pub blankTape : Tape
+blankTape = record { trades = 0; prices = replicate 10 0; sizes = replicate 10 0; half = noTally }
 
 -- a trade remembered; late: in the half hour
 unfoldable pub tapeAfter : Tape → Bool → ℕ → ℕ → Tape

@@ -36,14 +36,15 @@ pub record MinuteFits (m : Minute) : Type 0 where
 
 -- ---- the boundaries
 
+-- a reference, and a minute that has just begun
+abbrev pub quiet : ℕ → Reckoning
+quiet price = record { reference = price; minute = noTrades }
+
 -- "if the minute just ended had trades, the reference is the plain average of their prices, rounded down; else, if an underlying is
 -- known, the theoretical price; else it stays"
 abbrev pub boundary : ℕ → ℕ → Reckoning → Reckoning
 boundary under days r =
-    record {
-      reference = cond (eqb (r .minute .count) 0) (theoreticalOr (r .reference) under days) (r .minute .sum / r .minute .count);
-      minute = noTrades;
-    }
+    quiet (cond (eqb (r .minute .count) 0) (theoreticalOr (r .reference) under days) (r .minute .sum / r .minute .count))
 
 unfoldable pub boundaries : ℕ → ℕ → ℕ → Reckoning → Reckoning
 boundaries zero under days r = r

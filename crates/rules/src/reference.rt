@@ -6,7 +6,7 @@ use crate::Row;
 ghost use mathlib.Core.Path.{_≡_};
 ghost use Prim.Native.Nat.{_≤_};
 ghost use Rattle.terms.specs.Sizes.{priceMost, daysMost, timeMost};
-ghost use Rattle.rules.specs.Reference.{theoreticalOr, referenceMost, minuteAfter, reckoned, MinuteFits, RangeFits, rangeOf, inRange};
+ghost use Rattle.rules.specs.Reference.{theoreticalOr, minuteAfter, quiet, reckoned, MinuteFits, RangeFits, rangeOf, inRange};
 
 // The theoretical price, or the other where no underlying is known.
 pub fn theoretical_or(other: u64, under: u64, days: u64) -> u64
@@ -32,6 +32,17 @@ pub fn minute_after(m: Minute, price: u64) -> Minute
     }
 }
 
+// A reference, and a minute that has just begun.
+pub fn begun(price: u64) -> Reckoning
+    ensures { λ r. ⌜ r ≡ quiet price ⌝ }
+{
+    let none = Minute { count: 0, sum: 0 };
+    Reckoning {
+        reference: price,
+        minute: none,
+    }
+}
+
 // The reckoning after every boundary that lies after the one time, up to and including the other.
 pub fn reckon(r: Reckoning, under: u64, days: u64, from: u64, to: u64) -> Reckoning
     requires { ⌜ (under ≤ priceMost) × (days ≤ daysMost) × (from ≤ to) ⌝ }
@@ -41,27 +52,15 @@ pub fn reckon(r: Reckoning, under: u64, days: u64, from: u64, to: u64) -> Reckon
     if crossed == 0 {
         return r;
     }
-    let none = Minute { count: 0, sum: 0 };
     let count = r.minute.count;
     if count == 0 {
-        let price = theoretical_or(r.reference, under, days);
-        return Reckoning {
-            reference: price,
-            minute: none,
-        };
+        return begun(theoretical_or(r.reference, under, days));
     }
     let average = r.minute.sum / count;
     if crossed == 1 {
-        return Reckoning {
-            reference: average,
-            minute: none,
-        };
+        return begun(average);
     }
-    let price = theoretical_or(average, under, days);
-    Reckoning {
-        reference: price,
-        minute: none,
-    }
+    begun(theoretical_or(average, under, days))
 }
 
 // The range around a reference: by the initial percent, whatever the band's is now.

@@ -13,17 +13,26 @@ returns c = search reckonings
 theoretical-or-requires : tie.Need-theoretical-or-requires
 theoretical-or-requires c κs = search needs
 
+begun-requires : tie.Need-begun-requires
+begun-requires c κs = search needs
+
 returns-2 : tie.Need-returns-2
 returns-2 c = search reckonings
 
 div-average : tie.Need-div-average
 div-average c = search needs
 
+begun-requires-2 : tie.Need-begun-requires-2
+begun-requires-2 c κs = search needs
+
 returns-3 : tie.Need-returns-3
 returns-3 c = search reckonings
 
 theoretical-or-requires-2 : tie.Need-theoretical-or-requires-2
 theoretical-or-requires-2 c κs = search needs
+
+begun-requires-3 : tie.Need-begun-requires-3
+begun-requires-3 c κs = search needs
 
 returns-4 : tie.Need-returns-4
 returns-4 c = search reckonings
@@ -35,8 +44,11 @@ reckon-spec =
     sub-crossed
     returns
     theoretical-or-requires
+    begun-requires
     returns-2
     div-average
+    begun-requires-2
     returns-3
     theoretical-or-requires-2
+    begun-requires-3
     returns-4)

@@ -1,0 +1,4 @@
+pub mod Now
+pub mod Opening
+pub mod Clock
+pub mod Trades

@@ -1,0 +1,46 @@
+// The clock steps that an event makes before it acts: the slab, then the reference. Time is the event's.
+use crate::Session;
+use rules::reference;
+use rules::slabs;
+ghost use mathlib.Core.Path.{_≡_};
+ghost use Prim.Native.Nat.{_≤_};
+ghost use Rattle.state.specs.Now.{Steady};
+ghost use Rattle.state.specs.Clock.{widenedBy, coolingBy, clockStep};
+
+fn widened_by(widened: u64, cooling: u64, t: u64) -> u64
+    requires { ⌜ widened ≤ 1 ⌝ }
+    ensures { λ r. ⌜ r ≡ widenedBy widened cooling t ⌝ }
+{
+    let more = widened + 1;
+    if slabs::over_by(cooling, t) {
+        return more;
+    }
+    widened
+}
+
+fn cooling_by(cooling: u64, t: u64) -> u64
+    ensures { λ r. ⌜ r ≡ coolingBy cooling t ⌝ }
+{
+    if slabs::over_by(cooling, t) {
+        return 0;
+    }
+    cooling
+}
+
+// The session at the time of an event that is not before it.
+pub fn step(s: Session, t: u64) -> Session
+    requires { ⌜ Steady s × (s .time ≤ t) ⌝ }
+    ensures { λ r. ⌜ r ≡ clockStep s t ⌝ }
+{
+    let old = s.reckoning;
+    let cooling = s.cooling;
+    let widened = widened_by(s.widened, cooling, t);
+    let ends = cooling_by(cooling, t);
+    let reckoning = reference::reckon(old, s.under, s.settings.days, s.time, t);
+    let mut r = s;
+    r.time = t;
+    r.widened = widened;
+    r.cooling = ends;
+    r.reckoning = reckoning;
+    r
+}

@@ -1,0 +1,46 @@
+// What is in force in a session: the percent, the band, the range.
+use crate::Session;
+use rules::Range;
+use rules::Row;
+use rules::reference;
+use rules::slabs;
+use terms::Band;
+ghost use mathlib.Core.Path.{_≡_};
+ghost use Prim.Native.Nat.{_+_, _≤_};
+ghost use Rattle.rules.specs.Slabs.{slabOf, percentMost};
+ghost use Rattle.state.specs.Now.{Steady, percentNow, bandNow, rangeNow};
+
+// The percents of the session's category.
+fn slab_in(s: Session) -> Row
+    ensures { λ r. ⌜ (r ≡ slabOf (s .settings .category)) × (r .initial + r .enhanced ≤ percentMost) ⌝ }
+{
+    let g = s.settings;
+    let category = g.category;
+    slabs::slab_of(category)
+}
+
+// The band in force.
+pub fn band_now(s: Session) -> Band
+    requires { ⌜ Steady s ⌝ }
+    ensures { λ r. ⌜ r ≡ bandNow s ⌝ }
+{
+    let slab = slab_in(s);
+    let percent = slabs::percent_of(slab, s.widened);
+    slabs::band_at(s.settings.base, s.settings.tick, percent)
+}
+
+// The percent in force.
+pub fn percent_now(s: Session) -> u64
+    ensures { λ r. ⌜ r ≡ percentNow s ⌝ }
+{
+    let slab = slab_in(s);
+    slabs::percent_of(slab, s.widened)
+}
+
+// The range that trades must be in.
+pub fn range_now(s: Session) -> Range
+    ensures { λ r. ⌜ r ≡ rangeNow s ⌝ }
+{
+    let slab = slab_in(s);
+    reference::range_of(slab, s.reckoning.reference)
+}

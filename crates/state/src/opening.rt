@@ -1,0 +1,110 @@
+// The opening of a session.
+use crate::Opened;
+use crate::Session;
+use rules::Tally;
+use rules::Tape;
+use rules::reference;
+use terms::Category;
+use terms::Settings;
+use terms::Verdict;
+use terms::judge;
+ghost use mathlib.Core.Path.{_≡_};
+ghost use Rattle.terms.specs.Settings.{Valid};
+ghost use Rattle.rules.specs.Close.{blankTape};
+ghost use Rattle.state.specs.Opening.{openedSession, fixedSession, openingOf};
+
+// A tape before any trade.
+fn blank() -> Tape
+    ensures { λ r. ⌜ r ≡ blankTape ⌝ }
+{
+    let prices = [0u64; 10];
+    let sizes = [0u64; 10];
+    let half = Tally {
+        count: 0,
+        lots: 0,
+        value: 0,
+    };
+    Tape {
+        trades: 0,
+        prices: prices,
+        sizes: sizes,
+        half: half,
+    }
+}
+
+// The session that valid settings open.
+fn opened(g: Settings) -> Session
+    requires { ⌜ Valid g ⌝ }
+    ensures { λ r. ⌜ r ≡ openedSession g ⌝ }
+{
+    let under = g.under;
+    let price = reference::theoretical_or(g.base, under, g.days);
+    let reckoning = reference::begun(price);
+    let tape = blank();
+    Session {
+        settings: g,
+        time: 0,
+        closed: false,
+        buys: 0,
+        sells: 0,
+        widened: 0,
+        cooling: 0,
+        reckoning: reckoning,
+        under: under,
+        given: 0,
+        tape: tape,
+    }
+}
+
+// The one session that a refused opening answers with: broad, open, every number zero. It is not sound.
+fn fixed() -> Session
+    ensures { λ r. ⌜ r ≡ fixedSession ⌝ }
+{
+    let settings = Settings {
+        category: Category::Broad,
+        base: 0,
+        close: 0,
+        settle: 0,
+        tick: 0,
+        length: 0,
+        days: 0,
+        under: 0,
+    };
+    let reckoning = reference::begun(0);
+    let tape = blank();
+    Session {
+        settings: settings,
+        time: 0,
+        closed: false,
+        buys: 0,
+        sells: 0,
+        widened: 0,
+        cooling: 0,
+        reckoning: reckoning,
+        under: 0,
+        given: 0,
+        tape: tape,
+    }
+}
+
+// Opens a session, or refuses the settings by 12 or 13. It touches no table.
+pub fn begin(g: Settings) -> Opened
+    ensures { λ r. ⌜ r ≡ openingOf g ⌝ }
+{
+    match judge::check(g) {
+        Verdict::Fine => {
+            let session = opened(g);
+            Opened {
+                verdict: Verdict::Fine,
+                session: session,
+            }
+        }
+        Verdict::Refused(r) => {
+            let session = fixed();
+            Opened {
+                verdict: Verdict::Refused(r),
+                session: session,
+            }
+        }
+    }
+}

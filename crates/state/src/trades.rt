@@ -1,0 +1,34 @@
+// A trade in the session: what it adds to the cooling-off, the minute and the tape.
+use crate::Session;
+use rules::Reckoning;
+use rules::close;
+use rules::reference;
+use rules::slabs;
+use terms::Band;
+ghost use mathlib.Core.Path.{_≡_};
+ghost use Prim.Native.Nat.{_≤_, _<_};
+ghost use Rattle.terms.specs.Sizes.{priceMost, lotsMost, tradesMost};
+ghost use Rattle.state.specs.Now.{Steady, bandNow};
+ghost use Rattle.state.specs.Trades.{withTrade};
+
+// The session after a trade of some lots at a price; band is the band in force.
+pub fn with_trade(s: Session, band: Band, price: u64, lots: u64) -> Session
+    requires { ⌜ Steady s × (band ≡ bandNow s) × (price ≤ priceMost) × (lots ≤ lotsMost) ⌝ }
+    ensures { λ r. ⌜ r ≡ withTrade s price lots ⌝ }
+{
+    let minute = s.reckoning.minute;
+    let tape = s.tape;
+    let late = close::in_half_hour(s.settings.length, s.time);
+    let after = close::tape_after(tape, late, price, lots);
+    let running = reference::minute_after(minute, price);
+    let cooling = slabs::cooling_after(s.widened, s.cooling, s.time, band, price);
+    let reckoning = Reckoning {
+        reference: s.reckoning.reference,
+        minute: running,
+    };
+    let mut r = s;
+    r.cooling = cooling;
+    r.reckoning = reckoning;
+    r.tape = after;
+    r
+}
