@@ -1,4 +1,6 @@
+pub mod Set
 pub mod Now
 pub mod Opening
 pub mod Clock
 pub mod Trades
+pub mod Day
