@@ -8,7 +8,7 @@ use native.Mathlib.Nat.{lt-div-mul-add, div-lt-iff-lt-mul, div-mul-le-self, le-d
 use borrow.Author.Tests.{eqb-true}
 use Rattle.terms.specs.Numbers.{onTick}
 use Rattle.terms.proofs.Logic.{between-facts, between-make}
-use Rattle.rules.specs.Slabs.{lowAt, highAt, bandAt, inBand, Priced}
+use Rattle.rules.specs.Slabs.{lowAt, highAt, bandAt, bandMost, inBand, Priced}
 use Rattle.rules.specs.Meaning.{IsLow, IsHigh}
 
 -- ---- meaning
@@ -98,6 +98,6 @@ pub low-small : {base tick p : ℕ} → Priced base tick p → lowAt base tick p
 unfolding lowAt
 low-small {base} {tick} {p} h = omega (arith, low-part h, hundredth (base * (100 - p) + (100 * tick - 1)) tick)
 
-pub high-small : {base tick p : ℕ} → Priced base tick p → highAt base tick p ≤ 65000000
+pub high-small : {base tick p : ℕ} → Priced base tick p → highAt base tick p ≤ bandMost
 unfolding highAt
 high-small {base} {tick} {p} h = omega (arith, high-part h, hundredth (base * (100 + p)) tick)

@@ -45,6 +45,10 @@ highAt base tick p = base * (100 + p) / (100 * tick) * tick
 abbrev pub bandAt : ℕ → ℕ → ℕ → Band
 bandAt base tick p = record { low = lowAt base tick p; high = highAt base tick p }
 
+-- no band reaches above it
+abbrev pub bandMost : ℕ
+bandMost = 65000000
+
 abbrev pub inBand : Band → ℕ → Bool
 inBand b x = between (b .low) x (b .high)
 

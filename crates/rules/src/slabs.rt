@@ -5,7 +5,7 @@ use terms::Category;
 ghost use mathlib.Core.Path.{_≡_};
 ghost use Prim.Native.Nat.{_+_, _≤_};
 ghost use Rattle.terms.specs.Sizes.{timeMost};
-ghost use Rattle.rules.specs.Slabs.{slabOf, percentOf, percentMost, Priced, lowAt, highAt, bandAt, inBand, touches, coolingAfter, overBy};
+ghost use Rattle.rules.specs.Slabs.{slabOf, percentOf, percentMost, Priced, lowAt, highAt, bandAt, bandMost, inBand, coolingAfter, overBy};
 
 const SLABS: [Row; 8] = [
     Row {
@@ -84,7 +84,7 @@ fn high_at(base: u64, tick: u64, percent: u64) -> u64
 // The band at a percent.
 pub fn band_at(base: u64, tick: u64, percent: u64) -> Band
     requires { ⌜ Priced base tick percent ⌝ }
-    ensures { λ r. ⌜ r ≡ bandAt base tick percent ⌝ }
+    ensures { λ r. ⌜ (r ≡ bandAt base tick percent) × (r .high ≤ bandMost) ⌝ }
 {
     let low = low_at(base, tick, percent);
     let high = high_at(base, tick, percent);

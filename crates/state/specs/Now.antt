@@ -25,7 +25,7 @@ abbrev pub rangeNow : Session → Range
 rangeNow s = rangeOf (slabOf (s .settings .category)) (s .reckoning .reference)
 
 -- what code relies on in the numbers of a session: every sum and product that it makes stays within a word
-pub record Steady (s : Session) : Type 0 where
+pub record Clocked (s : Session) : Type 0 where
   pub valid : Valid (s .settings)
   pub time-small : s .time ≤ timeMost
   pub buys-few : s .buys ≤ slots
@@ -36,5 +36,10 @@ pub record Steady (s : Session) : Type 0 where
   pub reference-small : s .reckoning .reference ≤ referenceMost
   pub under-small : s .under ≤ priceMost
   pub given-small : s .given ≤ numbersMost
+  pub trades-small : s .tape .trades ≤ tradesMost
+
+-- and in what it remembers of trades
+pub record Steady (s : Session) : Type 0 where
+  pub clocked : Clocked s
   pub minute-fits : MinuteFits (s .reckoning .minute)
   pub tape-fits : TapeFits (s .tape)

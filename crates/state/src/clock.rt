@@ -2,9 +2,11 @@
 use crate::Session;
 use rules::reference;
 use rules::slabs;
+use terms::Band;
 ghost use mathlib.Core.Path.{_≡_};
 ghost use Prim.Native.Nat.{_≤_};
-ghost use Rattle.state.specs.Now.{Steady};
+ghost use Rattle.rules.specs.Slabs.{bandMost};
+ghost use Rattle.state.specs.Now.{Clocked, bandNow};
 ghost use Rattle.state.specs.Clock.{widenedBy, coolingBy, clockStep};
 
 fn widened_by(widened: u64, cooling: u64, t: u64) -> u64
@@ -29,7 +31,7 @@ fn cooling_by(cooling: u64, t: u64) -> u64
 
 // The session at the time of an event that is not before it.
 pub fn step(s: Session, t: u64) -> Session
-    requires { ⌜ Steady s × (s .time ≤ t) ⌝ }
+    requires { ⌜ Clocked s × (s .time ≤ t) ⌝ }
     ensures { λ r. ⌜ r ≡ clockStep s t ⌝ }
 {
     let old = s.reckoning;
@@ -43,4 +45,17 @@ pub fn step(s: Session, t: u64) -> Session
     r.cooling = ends;
     r.reckoning = reckoning;
     r
+}
+
+// The band after the clock steps up to a time.
+pub fn band_at(s: Session, t: u64) -> Band
+    requires { ⌜ Clocked s ⌝ }
+    ensures { λ r. ⌜ (r ≡ bandNow (clockStep s t)) × (r .high ≤ bandMost) ⌝ }
+{
+    let g = s.settings;
+    let category = g.category;
+    let slab = slabs::slab_of(category);
+    let widened = widened_by(s.widened, s.cooling, t);
+    let percent = slabs::percent_of(slab, widened);
+    slabs::band_at(g.base, g.tick, percent)
 }

@@ -7,8 +7,8 @@ use rules::slabs;
 use terms::Band;
 ghost use mathlib.Core.Path.{_≡_};
 ghost use Prim.Native.Nat.{_+_, _≤_};
-ghost use Rattle.rules.specs.Slabs.{slabOf, percentMost};
-ghost use Rattle.state.specs.Now.{Steady, percentNow, bandNow, rangeNow};
+ghost use Rattle.rules.specs.Slabs.{slabOf, percentMost, bandMost};
+ghost use Rattle.state.specs.Now.{Clocked, percentNow, bandNow, rangeNow};
 
 // The percents of the session's category.
 fn slab_in(s: Session) -> Row
@@ -21,8 +21,8 @@ fn slab_in(s: Session) -> Row
 
 // The band in force.
 pub fn band_now(s: Session) -> Band
-    requires { ⌜ Steady s ⌝ }
-    ensures { λ r. ⌜ r ≡ bandNow s ⌝ }
+    requires { ⌜ Clocked s ⌝ }
+    ensures { λ r. ⌜ (r ≡ bandNow s) × (r .high ≤ bandMost) ⌝ }
 {
     let slab = slab_in(s);
     let percent = slabs::percent_of(slab, s.widened);

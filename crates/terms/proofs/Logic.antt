@@ -2,7 +2,7 @@
 use Prim.Native.Nat.{ℕ, _≤_}
 use mathlib.Core.Path.{_≡_, refl, sym}
 use mathlib.Core.Bool.{Bool, true, false, cond, _&&_, _||_, not, false≢true, true≢false}
-use borrow.Author.Tests.{leb-true, le-leb}
+use borrow.Author.Tests.{leb-true, le-leb, not-true, not-false}
 use lib.Dec.{leb}
 use Rattle.terms.specs.Truth.{_⊓_, between}
 
@@ -50,6 +50,23 @@ between-facts a x b h = let p = split (leb a x) (leb x b) h in (leb-true a x (p 
 
 pub between-make : (a x b : ℕ) → a ≤ x → x ≤ b → between a x b ≡ true
 between-make a x b h k = join (leb a x) (leb x b) (le-leb a x h) (le-leb x b k)
+
+-- ---- a list of conditions, a `return` at a time: `search conditions` answers each. Code tests `found`, which is what must hold
+
+pub fails : (found h rest : Bool) → found ≡ h → not found ≡ true → false ≡ (h ⊓ rest)
+unfolding _⊓_
+fails found h rest s e = rw (← s, not-true found e)
+
+pub passes : (x found h rest : Bool) → found ≡ h → not found ≡ false → x ≡ rest → x ≡ (h ⊓ rest)
+unfolding _⊓_
+passes x found h rest s e f = rw (← s, not-false found e) f
+
+pub regroup : (x a b c : Bool) → x ≡ (a ⊓ (b ⊓ c)) → x ≡ (a ⊓ b ⊓ c)
+unfolding _⊓_
+regroup x true b c e = e
+regroup x false b c e = e
+
+pub ruleset conditions = (fails, passes, regroup)
 
 -- ---- disjunctions
 

@@ -6,7 +6,7 @@ use borrow.Author.Tests.{leb-true}
 use Rattle.terms.specs.declared.Settings.{Settings}
 use Rattle.terms.specs.declared.Verdict.the-variants.{Fine}
 use Rattle.terms.specs.Sizes.{baseMost, tickMost, lengthLeast, timeMost, priceMost}
-use Rattle.terms.specs.Settings.{settingsRanged, settingsTicked, settingsVerdict, Valid}
+use Rattle.terms.specs.Settings.{settingsRanged, settingsTicked, settingsValid, settingsVerdict, Valid}
 use Rattle.terms.proofs.Logic.{both, between-facts}
 use Rattle.terms.proofs.Cascade.{fine-first}
 
@@ -55,3 +55,8 @@ fine-valid g e =
     let r = fine-first _ (settingsRanged g) _ e in
     let t = fine-first _ (settingsTicked g) _ (r .1) in
     facts g (r .0) (t .0)
+
+-- and so are settings that are judged valid
+pub valid-facts : (g : Settings) → settingsValid g ≡ true → Valid g
+unfolding settingsValid
+valid-facts g e = let p = both e in facts g (p .0) (p .1)

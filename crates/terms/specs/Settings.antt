@@ -28,6 +28,10 @@ settingsRanged g =
 unfoldable pub settingsTicked : Settings → Bool
 settingsTicked g = onTick (g .tick) (g .base) ⊓ onTick (g .tick) (g .close) ⊓ onTick (g .tick) (g .settle)
 
+-- "its settings are valid"
+unfoldable pub settingsValid : Settings → Bool
+settingsValid g = settingsRanged g ⊓ settingsTicked g
+
 -- 12, then 13
 unfoldable pub settingsVerdict : Settings → Verdict
 settingsVerdict g = firstFailed (unless SettingsRange (settingsRanged g) ∷ unless SettingsOffTick (settingsTicked g) ∷ [])

@@ -6,7 +6,7 @@ use crate::numbers;
 use crate::sizes;
 ghost use mathlib.Core.Path.{_≡_};
 ghost use Prim.Native.Nat.{_<_};
-ghost use Rattle.terms.specs.Settings.{settingsRanged, settingsTicked, settingsVerdict};
+ghost use Rattle.terms.specs.Settings.{settingsRanged, settingsTicked, settingsValid, settingsVerdict};
 
 fn ranged(g: Settings) -> bool
     ensures { λ r. ⌜ r ≡ settingsRanged g ⌝ }
@@ -43,4 +43,14 @@ pub fn check(g: Settings) -> Verdict
         return Verdict::Refused(Refusal::SettingsOffTick);
     }
     Verdict::Fine
+}
+
+// Whether settings are valid: neither refusal applies.
+pub fn is_valid(g: Settings) -> bool
+    ensures { λ r. ⌜ r ≡ settingsValid g ⌝ }
+{
+    if !ranged(g) {
+        return false;
+    }
+    ticked(g)
 }

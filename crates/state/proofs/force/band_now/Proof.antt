@@ -13,7 +13,7 @@ band-at-requires : tie.Need-band-at-requires
 band-at-requires c κs = search needs
 
 returns : tie.Need-returns
-returns c = simp (c .band-at .ensures, c .before .percent-of .ensures .0, c .before .before .slab-in .ensures .0)
+returns c = (simp (c .band-at .ensures .0, c .before .percent-of .ensures .0, c .before .before .slab-in .ensures .0), c .band-at .ensures .1)
 
 pub band-now-spec : {M : Type 1} → statement M
 band-now-spec = tie.close (tie.spec slab-in-requires percent-of-requires band-at-requires returns)

@@ -1,0 +1,13 @@
+pub mod Facts
+pub mod Once
+pub mod Apart
+pub mod Kept
+pub mod Enters
+pub mod Multiples
+pub mod Bits
+pub mod Fresh
+pub mod Keys
+pub mod Turns
+pub mod Both
+pub mod LowBits
+pub mod Books

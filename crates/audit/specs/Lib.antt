@@ -1,0 +1,3 @@
+pub mod Sound
+pub mod Marks
+pub mod Pass

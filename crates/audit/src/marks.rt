@@ -1,0 +1,18 @@
+// A map with a bit for each number.
+ghost use mathlib.Core.Path.{_≡_};
+ghost use Prim.Native.Nat.{_*_, _<_};
+ghost use lib.ListN.{length};
+ghost use Rattle.audit.specs.Marks.{hasMark, withMark};
+
+// Marks a number; whether it was marked already.
+pub fn mark(map: &mut [u64], x: u64) -> bool
+    requires { ⌜ x < 64 * length (now map) ⌝ }
+    ensures { λ r. ⌜ (r ≡ hasMark (now (map .entry)) x) × (now (map .exit) ≡ withMark (now (map .entry)) x) ⌝ }
+{
+    let at = (x / 64) as usize;
+    let b = x % 64;
+    let w = map[at];
+    map[at] = w | (1 << b);
+    let v = w >> b;
+    v % 2 == 1
+}

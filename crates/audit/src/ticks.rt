@@ -1,0 +1,26 @@
+// Whether a price is a multiple of the tick, by a product and a shift where a division would take longest.
+ghost use mathlib.Core.Path.{_≡_};
+ghost use Prim.Native.Nat.{_≤_, _<_};
+ghost use Rattle.terms.specs.Sizes.{tickMost};
+ghost use Rattle.terms.specs.Numbers.{onTick};
+ghost use Rattle.audit.specs.Pass.{scale, factorOf};
+
+const SCALE: u64 = 4_294_967_296;
+
+// A price times this, over SCALE, is the price over the tick, where it is a multiple.
+pub fn factor(tick: u64) -> u64
+    requires { ⌜ 1 ≤ tick ⌝ }
+    ensures { λ r. ⌜ r ≡ factorOf tick ⌝ }
+{
+    SCALE / tick + 1
+}
+
+pub fn on_tick(price: u64, tick: u64, factor: u64) -> bool
+    requires { ⌜ (price < scale) × (1 ≤ tick) × (tick ≤ tickMost) × (factor ≡ factorOf tick) ⌝ }
+    ensures { λ r. ⌜ r ≡ onTick tick price ⌝ }
+{
+    let wide = price * factor;
+    let times = wide / SCALE;
+    let back = times * tick;
+    back == price
+}

@@ -1,0 +1,9 @@
+pub mod Conserve
+pub mod Fills
+pub mod Mark
+pub mod Over
+pub mod Priority
+pub mod Remainder
+pub mod Search
+pub mod Stops
+pub mod Sweep

@@ -1,0 +1,6 @@
+pub mod Matching
+pub mod Over
+pub mod Places
+pub mod Priority
+pub mod Told
+pub mod View

@@ -1,0 +1,42 @@
+// The view of a side: the live part of the named table, where it lies.
+use terms::Side;
+use terms::sizes;
+ghost use mathlib.Core.Path.{_≡_};
+ghost use Prim.Native.Nat.{_≤_};
+ghost use lib.ListN.{length};
+ghost use Rattle.terms.specs.Sizes.{tableLength};
+ghost use Rattle.book.specs.View.{livePart, viewOf};
+
+// The numbers of n orders.
+fn live<'a>(t: &'a [u64], n: usize) -> &'a [u64]
+    requires { ⌜ tableLength ≤ length (now t) ⌝ }
+    ensures { λ r. ⌜ now r ≡ livePart n (now (t .entry)) ⌝ }
+{
+    if sizes::SLOTS < n {
+        return &t[0..0];
+    }
+    let end = sizes::WIDTH * n;
+    &t[0..end]
+}
+
+// The live part of the named table, for any tables and counts; the empty part where a table is short or the count too large.
+pub fn view<'a>(
+    side: Side,
+    buys: &'a [u64],
+    sells: &'a [u64],
+    buying: usize,
+    selling: usize,
+) -> &'a [u64]
+    ensures { λ r. ⌜ now r ≡ viewOf side (now (buys .entry)) (now (sells .entry)) buying selling ⌝ }
+{
+    if buys.len() < sizes::TABLE {
+        return &buys[0..0];
+    }
+    if sells.len() < sizes::TABLE {
+        return &sells[0..0];
+    }
+    match side {
+        Side::Buy => live(buys, buying),
+        Side::Sell => live(sells, selling),
+    }
+}

@@ -1,0 +1,1 @@
+// engine: the public calls.

@@ -1,0 +1,111 @@
+-- What matching leaves in the lent numbers: `sweep` of the counter orders, its trades as records in the room, and the answer.
+use Prim.Native.Nat.{ℕ, _+_, _-_, _*_, _≤_}
+use mathlib.Core.Path.{_≡_}
+use mathlib.Core.Bool.{Bool, _&&_, not}
+use mathlib.Core.List.{List, [], _∷_}
+use lib.ListN.{length, drop}
+use Rattle.terms.specs.declared.Order.{Order}
+use Rattle.terms.specs.declared.Report.{Report}
+use Rattle.terms.specs.declared.Said.the-variants.{Trade}
+use Rattle.terms.specs.Sizes.{recordLength}
+use Rattle.terms.specs.Records.{recordsOf}
+use Rattle.rules.specs.Reference.{inRange}
+use Rattle.tables.specs.Put.{put}
+use Rattle.tables.specs.Tables.{tableOf}
+use Rattle.book.specs.Matching.{Taker, Swept, taker, fits, beyond, part, sweep, reportAt, dealOf, tradeReports, ownLastOr}
+use Rattle.matching.specs.declared.Incoming.{Incoming}
+use Rattle.matching.specs.declared.Meeting.{Meeting}
+use Rattle.matching.specs.declared.Passed.{Passed}
+use Rattle.matching.specs.declared.Matched.{Matched}
+
+-- ---- the whole of a sweep
+
+abbrev pub takerOf : Incoming → Taker
+takerOf x = taker (x .side) (x .kind) (x .range)
+
+-- what the incoming order does with the counter orders
+abbrev pub sweptOf : Incoming → List Order → Swept
+sweptOf x os = sweep (takerOf x) 0 (x .lots) os
+
+-- the reports of these fills, as they stand in the room
+abbrev pub recordsFor : Incoming → List Order → List ℕ
+recordsFor x fills = recordsOf (tradeReports (x .time) (x .side) (x .number) fills)
+
+-- the answer, of a sweep whose reports begin at a place
+abbrev pub matchedOf : Incoming → ℕ → Swept → Matched
+matchedOf x at w =
+    record {
+      count = length (w .rest);
+      left = w .left;
+      trades = length (w .fills);
+      at = at + recordLength * length (w .fills);
+      last = ownLastOr (x .last) (w .fills);
+      out = w .out;
+    }
+
+-- table t of the counter orders os and the room become t′ and room′, and r is the answer
+pub record SweptInto (x : Incoming) (os : List Order) (t room : List ℕ) (at : ℕ) (t′ room′ : List ℕ) (r : Matched) : Type 0 where
+  pub book : t′ ≡ tableOf (sweptOf x os .rest) t
+  pub told : room′ ≡ put room at (recordsFor x (sweptOf x os .fills))
+  pub answer : r ≡ matchedOf x at (sweptOf x os)
+
+-- ---- one counter price
+
+-- the incoming order trades there if the price fits, is in range and not beyond the mark; it stops for want of range if the price fits
+-- and is not in range
+abbrev pub meetingOf : Taker → ℕ → ℕ → Meeting
+meetingOf q first price =
+    record {
+      trades = fits (q .side) (q .kind) price && inRange (q .range) price && not (beyond (q .side) (q .kind) first price);
+      out = fits (q .side) (q .kind) price && not (inRange (q .range) price);
+    }
+
+-- ---- a sweep on its way
+
+-- the report of a fill
+abbrev pub fillReport : Incoming → Order → Report
+fillReport x f = reportAt (x .time) (Trade (dealOf (x .side) (x .number) f))
+
+-- the first order has lost some lots
+unfoldable pub trim : ℕ → List Order → List Order
+trim lots [] = []
+trim lots (o ∷ os) = part o (o .lots - lots) ∷ os
+
+unfoldable pub headLots : List Order → ℕ
+headLots [] = 0
+headLots (o ∷ os) = o .lots
+
+-- all that a sweep leaves
+pub record End : Type 0 where
+  pub rest : List Order
+  pub left : ℕ
+  pub trades : ℕ
+  pub last : ℕ
+  pub out : Bool
+  pub room : List ℕ
+
+-- the same from a state on its way: so many trades done, the first and the last at these prices, so many lots left, before the orders os
+abbrev pub endOf : Incoming → ℕ → ℕ → ℕ → List ℕ → Swept → End
+endOf x at done last room w =
+    record {
+      rest = w .rest;
+      left = w .left;
+      trades = done + length (w .fills);
+      last = ownLastOr last (w .fills);
+      out = w .out;
+      room = put room (at + recordLength * done) (recordsFor x (w .fills));
+    }
+
+unfoldable pub finish : Incoming → ℕ → ℕ → ℕ → ℕ → ℕ → List Order → List ℕ → End
+finish x at done first last lots os room = endOf x at done last room (sweep (takerOf x) first lots os)
+
+-- what the loop says when it stops before slot i
+abbrev pub passedWhole : ℕ → ℕ → ℕ → Bool → Passed
+passedWhole i left last out = record { whole = i; part = 0; left = left; trades = i; last = last; out = out }
+
+-- the loop's answer, over n orders, is how the sweep ends
+pub record Passes (n : ℕ) (os : List Order) (end : End) (room : List ℕ) (r : Passed) : Type 0 where
+  pub within : r .whole ≤ n
+  pub few : r .trades ≤ n
+  pub cuts : r .part ≤ headLots (drop (r .whole) os)
+  pub same : end ≡ record { rest = trim (r .part) (drop (r .whole) os); left = r .left; trades = r .trades; last = r .last; out = r .out; room = room }

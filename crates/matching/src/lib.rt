@@ -1,0 +1,51 @@
+// matching: an order that comes in sweeps the counter side's table, and each of its trades is reported in the room.
+// It may use terms, rules, tables and book. It promises: table, room and answer are what `sweep` of the counter orders says, for
+// both sides by one function, whatever the orders are. It asks for room for a report of each counter order, and for no more.
+
+pub mod crossing;
+pub mod deals;
+pub mod prices;
+
+use rules::Range;
+use terms::Kind;
+use terms::Side;
+
+// An order that comes in, with the range that its trades must be in, its number and time, and the price that stands for its
+// own last trade while it has none.
+pub struct Incoming {
+    pub side: Side,
+    pub kind: Kind,
+    pub range: Range,
+    pub number: u64,
+    pub lots: u64,
+    pub time: u64,
+    pub last: u64,
+}
+
+// What an incoming order does at a counter price: whether it trades, or, if not, stops for want of range.
+pub struct Meeting {
+    pub trades: bool,
+    pub out: bool,
+}
+
+// How far a sweep came: counter orders that traded whole, lots that the next one traded, lots left of the incoming order,
+// trades made, the price of the last, and whether it stopped for want of range.
+pub struct Passed {
+    pub whole: usize,
+    pub part: u64,
+    pub left: u64,
+    pub trades: usize,
+    pub last: u64,
+    pub out: bool,
+}
+
+// What a sweep comes to: counter orders that remain, lots left, trades made, the place in the room behind their reports, the
+// price of the last, and whether it stopped for want of range.
+pub struct Matched {
+    pub count: usize,
+    pub left: u64,
+    pub trades: usize,
+    pub at: usize,
+    pub last: u64,
+    pub out: bool,
+}

@@ -1,0 +1,70 @@
+// Whether an incoming order trades at a counter price: limit, range, mark.
+use crate::Incoming;
+use crate::Meeting;
+use rules::mark;
+use rules::reference;
+use terms::Kind;
+use terms::Side;
+ghost use mathlib.Core.Path.{_≡_};
+ghost use Prim.Native.Nat.{_≤_};
+ghost use Rattle.rules.specs.Reference.{RangeFits};
+ghost use Rattle.rules.specs.Mark.{markMost};
+ghost use Rattle.book.specs.Matching.{fitsLimit, fits, beyond, firstAfter};
+ghost use Rattle.matching.specs.Sweeps.{takerOf, meetingOf};
+
+fn is_within(side: Side, limit: u64, price: u64) -> bool
+    ensures { λ r. ⌜ r ≡ fitsLimit side limit price ⌝ }
+{
+    match side {
+        Side::Buy => price <= limit,
+        Side::Sell => limit <= price,
+    }
+}
+
+// The counter price fits the limit; a market order has none.
+fn is_fitting(side: Side, kind: Kind, price: u64) -> bool
+    ensures { λ r. ⌜ r ≡ fits side kind price ⌝ }
+{
+    match kind {
+        Kind::Limit(limit) => is_within(side, limit, price),
+        Kind::Market => true,
+    }
+}
+
+// A market order that has traded, for the first time at `first`, and a counter price beyond its mark.
+fn is_beyond(side: Side, kind: Kind, first: u64, price: u64) -> bool
+    requires { ⌜ first ≤ markMost ⌝ }
+    ensures { λ r. ⌜ r ≡ beyond side kind first price ⌝ }
+{
+    match kind {
+        Kind::Limit(_) => false,
+        Kind::Market => (first != 0) & mark::beyond_mark(side, first, price),
+    }
+}
+
+// The price of the first trade, once there is one at this price.
+pub fn first_after(first: u64, price: u64) -> u64
+    ensures { λ r. ⌜ r ≡ firstAfter first price ⌝ }
+{
+    if first == 0 {
+        return price;
+    }
+    first
+}
+
+// What the incoming order does at this price, once it has traded at `first`.
+pub fn meet(x: Incoming, first: u64, price: u64) -> Meeting
+    requires { ⌜ RangeFits (x .range) × (first ≤ markMost) ⌝ }
+    ensures { λ r. ⌜ r ≡ meetingOf (takerOf x) first price ⌝ }
+{
+    let side = x.side;
+    let kind = x.kind;
+    let range = x.range;
+    let fitting = is_fitting(side, kind, price);
+    let ranged = reference::in_range(range, price);
+    let beyond = is_beyond(side, kind, first, price);
+    Meeting {
+        trades: fitting & ranged & !beyond,
+        out: fitting & !ranged,
+    }
+}

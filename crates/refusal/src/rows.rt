@@ -1,0 +1,263 @@
+// The rows of the table of refusals, 2 to 11, for an event on a day.
+use state::Session;
+use state::clock;
+use terms::Act;
+use terms::Band;
+use terms::Entry;
+use terms::Event;
+use terms::Kind;
+use terms::Life;
+use terms::Refusal;
+use terms::Side;
+use terms::Verdict;
+use terms::numbers;
+use terms::sizes;
+ghost use mathlib.Core.Path.{_≡_};
+ghost use Prim.Native.Nat.{_≤_};
+ghost use lib.ListN.{length};
+ghost use Rattle.terms.specs.Sizes.{tableLength};
+ghost use Rattle.terms.specs.Truth.{_⊓_};
+ghost use Rattle.terms.specs.Numbers.{isPrice, isTime, onTick};
+ghost use Rattle.terms.specs.Refusals.{firstFailed};
+ghost use Rattle.rules.specs.Slabs.{inBand};
+ghost use Rattle.state.specs.Now.{Clocked, bandNow};
+ghost use Rattle.state.specs.Clock.{clockStep};
+ghost use Rattle.soundness.specs.Sound.{dayIn};
+ghost use Rattle.refusal.specs.Refusals.{ofLimit, numbersRight, inHours, ticksRight, bandRight, finds, lifeHasPlace, hasNumbers, bookRules, laterRules, refusalOf};
+ghost use Rattle.refusal.specs.Tabled.{Tabled, liveOn, placeFor};
+
+fn limit_priced(kind: Kind) -> bool
+    ensures { λ r. ⌜ r ≡ ofLimit isPrice kind ⌝ }
+{
+    match kind {
+        Kind::Limit(price) => numbers::is_price(price),
+        Kind::Market => true,
+    }
+}
+
+fn limit_ticked(tick: u64, kind: Kind) -> bool
+    requires { ⌜ 1 ≤ tick ⌝ }
+    ensures { λ r. ⌜ r ≡ ofLimit (onTick tick) kind ⌝ }
+{
+    match kind {
+        Kind::Limit(price) => numbers::on_tick(tick, price),
+        Kind::Market => true,
+    }
+}
+
+fn limit_banded(band: Band, kind: Kind) -> bool
+    ensures { λ r. ⌜ r ≡ ofLimit (inBand band) kind ⌝ }
+{
+    match kind {
+        Kind::Limit(price) => rules::slabs::in_band(band, price),
+        Kind::Market => true,
+    }
+}
+
+fn entry_right(n: Entry) -> bool
+    ensures { λ r. ⌜ r ≡ numbersRight (Act.Enter n) ⌝ }
+{
+    let kind = n.kind;
+    let lots = numbers::is_lots(n.lots);
+    let priced = limit_priced(kind);
+    lots & priced
+}
+
+// The numbers of the event, but for its time.
+fn numbers_right(act: Act) -> bool
+    ensures { λ r. ⌜ r ≡ numbersRight act ⌝ }
+{
+    match act {
+        Act::Enter(n) => entry_right(n),
+        Act::Withdraw(number) => numbers::is_number(number),
+        Act::Under(price) => numbers::is_price(price),
+        Act::Clock => true,
+        Act::Finish(settle) => numbers::is_price(settle),
+    }
+}
+
+// 4.
+fn event_right(e: Event) -> bool
+    ensures { λ r. ⌜ r ≡ (isTime (e .time) ⊓ numbersRight (e .act)) ⌝ }
+{
+    let act = e.act;
+    let time = numbers::is_time(e.time);
+    let right = numbers_right(act);
+    time & right
+}
+
+// 6.
+fn in_hours(act: Act, t: u64, length: u64) -> bool
+    ensures { λ r. ⌜ r ≡ inHours act t length ⌝ }
+{
+    match act {
+        Act::Enter(_) => t < length,
+        Act::Withdraw(_) => t < length,
+        Act::Under(_) => t < length,
+        Act::Clock => t < length,
+        Act::Finish(_) => length <= t,
+    }
+}
+
+// 7.
+fn ticks_right(tick: u64, act: Act) -> bool
+    requires { ⌜ 1 ≤ tick ⌝ }
+    ensures { λ r. ⌜ r ≡ ticksRight tick act ⌝ }
+{
+    match act {
+        Act::Enter(n) => {
+            let kind = n.kind;
+            limit_ticked(tick, kind)
+        }
+        Act::Finish(settle) => numbers::on_tick(tick, settle),
+        Act::Withdraw(_) => true,
+        Act::Under(_) => true,
+        Act::Clock => true,
+    }
+}
+
+// 8, by the band after the clock steps.
+fn band_right(s: Session, t: u64, act: Act) -> bool
+    requires { ⌜ Clocked s ⌝ }
+    ensures { λ r. ⌜ r ≡ bandRight (bandNow (clockStep s t)) act ⌝ }
+{
+    match act {
+        Act::Enter(n) => {
+            let kind = n.kind;
+            let band = clock::band_at(s, t);
+            limit_banded(band, kind)
+        }
+        Act::Withdraw(_) => true,
+        Act::Under(_) => true,
+        Act::Clock => true,
+        Act::Finish(_) => true,
+    }
+}
+
+// 9.
+fn finds_it(s: Session, act: Act, buys: &[u64], sells: &[u64]) -> bool
+    requires { ⌜ Tabled s (now buys) (now sells) ⌝ }
+    ensures { λ r. ⌜ r ≡ finds (dayIn s (now (buys .entry)) (now (sells .entry))) act ⌝ }
+{
+    match act {
+        Act::Withdraw(number) => {
+            let nbuys = s.buys as usize;
+            let nsells = s.sells as usize;
+            let bought = book::side::is_resting(buys, nbuys, number);
+            let sold = book::side::is_resting(sells, nsells, number);
+            bought | sold
+        }
+        Act::Enter(_) => true,
+        Act::Under(_) => true,
+        Act::Clock => true,
+        Act::Finish(_) => true,
+    }
+}
+
+// The live orders of a side.
+fn held(s: Session, side: Side) -> u64
+    ensures { λ r. ⌜ r ≡ liveOn side s ⌝ }
+{
+    match side {
+        Side::Buy => s.buys,
+        Side::Sell => s.sells,
+    }
+}
+
+fn life_has_place(life: Life, held: u64) -> bool
+    ensures { λ r. ⌜ r ≡ lifeHasPlace life held ⌝ }
+{
+    match life {
+        Life::AllDay => held < (sizes::SLOTS as u64),
+        Life::Ioc => true,
+    }
+}
+
+// 10.
+fn has_place(s: Session, act: Act) -> bool
+    ensures { λ r. ⌜ r ≡ placeFor s act ⌝ }
+{
+    match act {
+        Act::Enter(n) => {
+            let side = n.side;
+            let life = n.life;
+            life_has_place(life, held(s, side))
+        }
+        Act::Withdraw(_) => true,
+        Act::Under(_) => true,
+        Act::Clock => true,
+        Act::Finish(_) => true,
+    }
+}
+
+// 11.
+fn has_numbers(given: u64, trades: u64, act: Act) -> bool
+    ensures { λ r. ⌜ r ≡ hasNumbers given trades act ⌝ }
+{
+    match act {
+        Act::Enter(_) => (given < sizes::NUMBERS) & (trades <= sizes::TRADES),
+        Act::Withdraw(_) => true,
+        Act::Under(_) => true,
+        Act::Clock => true,
+        Act::Finish(_) => true,
+    }
+}
+
+// The rows that look at the book.
+fn book_rows(s: Session, e: Event, buys: &[u64], sells: &[u64]) -> Verdict
+    requires { ⌜ Clocked s × Tabled s (now buys) (now sells) ⌝ }
+    ensures { λ r. ⌜ r ≡ firstFailed (bookRules (dayIn s (now (buys .entry)) (now (sells .entry))) e) ⌝ }
+{
+    let act = e.act;
+    if !band_right(s, e.time, act) {
+        return Verdict::Refused(Refusal::OutsideBand);
+    }
+    if !finds_it(s, act, buys, sells) {
+        return Verdict::Refused(Refusal::NotResting);
+    }
+    if !has_place(s, act) {
+        return Verdict::Refused(Refusal::SideFull);
+    }
+    if !has_numbers(s.given, s.tape.trades, act) {
+        return Verdict::Refused(Refusal::DayFull);
+    }
+    Verdict::Fine
+}
+
+// The rows that look at the event and the clock, then those of the book.
+fn event_rows(s: Session, e: Event, buys: &[u64], sells: &[u64]) -> Verdict
+    requires { ⌜ Clocked s × Tabled s (now buys) (now sells) ⌝ }
+    ensures { λ r. ⌜ r ≡ firstFailed (laterRules (dayIn s (now (buys .entry)) (now (sells .entry))) e) ⌝ }
+{
+    let act = e.act;
+    let t = e.time;
+    let running = !s.closed;
+    if !running {
+        return Verdict::Refused(Refusal::Closed);
+    }
+    if !event_right(e) {
+        return Verdict::Refused(Refusal::NumberRange);
+    }
+    let forward = s.time <= t;
+    if !forward {
+        return Verdict::Refused(Refusal::TimeBack);
+    }
+    if !in_hours(act, t, s.settings.length) {
+        return Verdict::Refused(Refusal::OutOfHours);
+    }
+    if !ticks_right(s.settings.tick, act) {
+        return Verdict::Refused(Refusal::OffTick);
+    }
+    book_rows(s, e, buys, sells)
+}
+
+// The first row from 2 to 11 that applies to an event.
+pub fn verdict(s: Session, e: Event, buys: &[u64], sells: &[u64]) -> Verdict
+    requires { ⌜ (tableLength ≤ length (now buys)) × (tableLength ≤ length (now sells)) ⌝ }
+    ensures { λ r. ⌜ r ≡ refusalOf (dayIn s (now (buys .entry)) (now (sells .entry))) e ⌝ }
+{
+    if !soundness::is_sound(s, buys, sells) {
+        return Verdict::Refused(Refusal::Unsound);
+    }
+    event_rows(s, e, buys, sells)
+}

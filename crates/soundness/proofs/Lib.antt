@@ -1,0 +1,4 @@
+pub mod Lists
+pub mod Bounds
+pub mod Clocked
+pub mod Border

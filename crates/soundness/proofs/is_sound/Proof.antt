@@ -1,0 +1,29 @@
+-- The book is looked at only where the session's numbers are sound.
+use borrow.Author.Needs.{needs}
+use mathlib.Core.Path.{sym, _∙_}
+use native.Mathlib.Omega.{arith}
+use borrow.Author.Tests.{not-false}
+use Rattle.soundness.proofs.Clocked.{session-clocked}
+use Rattle.soundness.proofs.Border.{numbers-unsound, book-decides}
+use Rattle.soundness.proofs.is_sound.Statement.{statement}
+use Rattle.soundness.proofs.is_sound.Tie as tie
+
+session-sound-requires : tie.Need-session-sound-requires
+session-sound-requires c κs = search needs
+
+returns : tie.Need-returns
+returns c = numbers-unsound _ _ _ _ (c .before .session-sound .ensures) (c .if1 .taken)
+
+band-now-requires : tie.Need-band-now-requires
+band-now-requires c κs = session-clocked (c .before .before .before .before .args .s) (sym (c .before .session-sound .ensures) ∙ not-false _ (c .if1 .left))
+
+book-sound-requires : tie.Need-book-sound-requires
+book-sound-requires c κs = let k = session-clocked (c .before .before .before .before .before .args .s) (sym (c .before .before .session-sound .ensures) ∙ not-false _ (c .before .if1 .left)) in omega (arith, k, k .valid, c .band-now .ensures .1, c .before .before .before .before .before .pre)
+
+returns-2 : tie.Need-returns-2
+returns-2 c = book-decides _ _ _ _ (c .before .before .before .session-sound .ensures) _ _ (c .before .before .if1 .left) (c .before .band-now .ensures .0) (c .book-sound .ensures)
+
+pub is-sound-spec : {M : Type 1} → statement M
+is-sound-spec =
+    tie.close
+    (tie.spec session-sound-requires returns band-now-requires book-sound-requires returns-2)

@@ -1,0 +1,79 @@
+// soundness: whether a session that is handed in is sound, with the orders that its tables hold.
+// It may use terms, rules, tables, book, audit and state. It promises: the answer IS document 01's paragraph, of any numbers
+// whatever and of any tables that are long enough; nothing is written. From a sound session follow the facts that the engine
+// computes with.
+
+pub mod numbers;
+
+use state::Session;
+use state::force;
+ghost use mathlib.Core.Path.{_≡_};
+ghost use Prim.Native.Nat.{_≤_};
+ghost use lib.ListN.{length};
+ghost use Rattle.terms.specs.Sizes.{tableLength};
+ghost use Rattle.state.specs.Now.{Clocked};
+ghost use Rattle.soundness.specs.Sound.{clockSound, tapeSound, sessionSound, sound, dayIn};
+
+// The settings are valid, the time, the counts, the slab and the single numbers within their bounds.
+fn clock_sound(s: Session) -> bool
+    ensures { λ r. ⌜ r ≡ clockSound s ⌝ }
+{
+    let g = s.settings;
+    if !terms::judge::is_valid(g) {
+        return false;
+    }
+    if !numbers::time_sound(s) {
+        return false;
+    }
+    if !numbers::counts_sound(s) {
+        return false;
+    }
+    if !numbers::slab_sound(s) {
+        return false;
+    }
+    numbers::numbers_sound(s)
+}
+
+// What is remembered of trades is possible.
+fn tape_sound(s: Session) -> bool
+    requires { ⌜ Clocked s ⌝ }
+    ensures { λ r. ⌜ r ≡ tapeSound s ⌝ }
+{
+    let tick = s.settings.tick;
+    let trades = s.tape.trades;
+    let tape = s.tape;
+    let half = tape.half;
+    let reckoning = s.reckoning;
+    let minute = reckoning.minute;
+    if !numbers::half_sound(tick, trades, half) {
+        return false;
+    }
+    if !numbers::minute_sound(trades, minute) {
+        return false;
+    }
+    numbers::remembered_sound(tick, tape)
+}
+
+// The numbers of a session, but for its live orders.
+pub fn session_sound(s: Session) -> bool
+    ensures { λ r. ⌜ r ≡ sessionSound s ⌝ }
+{
+    if !clock_sound(s) {
+        return false;
+    }
+    tape_sound(s)
+}
+
+// The session and its orders.
+pub fn is_sound(s: Session, buys: &[u64], sells: &[u64]) -> bool
+    requires { ⌜ (tableLength ≤ length (now buys)) × (tableLength ≤ length (now sells)) ⌝ }
+    ensures { λ r. ⌜ r ≡ sound (dayIn s (now (buys .entry)) (now (sells .entry))) ⌝ }
+{
+    if !session_sound(s) {
+        return false;
+    }
+    let nbuys = s.buys as usize;
+    let nsells = s.sells as usize;
+    let band = force::band_now(s);
+    audit::book_sound(buys, nbuys, sells, nsells, s.given, s.settings.tick, band)
+}

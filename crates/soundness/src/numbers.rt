@@ -1,0 +1,159 @@
+// The numbers of a session, part by part, as the paragraph on soundness lists them.
+use rules::Minute;
+use rules::Tally;
+use rules::Tape;
+use state::Session;
+use terms::sizes;
+ghost use mathlib.Core.Path.{_≡_};
+ghost use Prim.Native.Nat.{_*_, _≤_};
+ghost use lib.ListN.{take};
+ghost use Rattle.terms.specs.Sizes.{priceMost, lotsMost, tradesMost, timeMost, tickMost};
+ghost use Rattle.terms.specs.Numbers.{isLots};
+ghost use Rattle.rules.specs.Close.{kept};
+ghost use Rattle.soundness.specs.Dividing.{Dividing};
+ghost use Rattle.soundness.specs.Sound.{timeSound, countsSound, slabSound, numbersSound, every, priceSound, rememberedSound, halfSound, minuteSound};
+
+// The greatest reference, and how far ahead a cooling-off can end.
+const REFERENCE: u64 = 110_600_000;
+
+const COOLING: u64 = 900_000;
+
+pub fn time_sound(s: Session) -> bool
+    ensures { λ r. ⌜ r ≡ timeSound s ⌝ }
+{
+    let small = s.time <= sizes::TIME;
+    let below = s.time < s.settings.length;
+    small & (s.closed | below)
+}
+
+pub fn counts_sound(s: Session) -> bool
+    ensures { λ r. ⌜ r ≡ countsSound s ⌝ }
+{
+    let most = sizes::SLOTS as u64;
+    (s.buys <= most) & (s.sells <= most)
+}
+
+pub fn slab_sound(s: Session) -> bool
+    requires { ⌜ s .time ≤ timeMost ⌝ }
+    ensures { λ r. ⌜ r ≡ slabSound s ⌝ }
+{
+    let end = s.time + COOLING;
+    let once = s.widened <= 1;
+    let initial = (s.widened == 0) | (s.cooling == 0);
+    let near = s.cooling <= end;
+    once & initial & near
+}
+
+pub fn numbers_sound(s: Session) -> bool
+    ensures { λ r. ⌜ r ≡ numbersSound s ⌝ }
+{
+    let reference = (1 <= s.reckoning.reference) & (s.reckoning.reference <= REFERENCE);
+    let under = s.under <= sizes::PRICE;
+    let given = s.given <= sizes::NUMBERS;
+    let trades = s.tape.trades <= sizes::TRADES + (sizes::SLOTS as u64);
+    reference & under & given & trades
+}
+
+fn price_sound(tick: u64, factor: u64, x: u64) -> bool
+    requires { ⌜ Dividing tick factor ⌝ }
+    ensures { λ r. ⌜ r ≡ priceSound tick x ⌝ }
+{
+    if !terms::numbers::is_price(x) {
+        return false;
+    }
+    audit::ticks::on_tick(x, tick, factor)
+}
+
+// The first n of ten prices are sound.
+fn prices_sound(prices: [u64; 10], n: usize, tick: u64, factor: u64) -> bool
+    requires { ⌜ (n ≤ 10) × Dividing tick factor ⌝ }
+    ensures { λ r. ⌜ r ≡ every (priceSound tick) (take n prices) ⌝ }
+{
+    let mut i: usize = 0;
+    while i < n {
+        if !price_sound(tick, factor, prices[i]) {
+            return false;
+        }
+        i += 1;
+    }
+    true
+}
+
+// The first n of ten sizes are sound.
+fn sizes_sound(lots: [u64; 10], n: usize) -> bool
+    requires { ⌜ n ≤ 10 ⌝ }
+    ensures { λ r. ⌜ r ≡ every isLots (take n lots) ⌝ }
+{
+    let mut i: usize = 0;
+    while i < n {
+        if !terms::numbers::is_lots(lots[i]) {
+            return false;
+        }
+        i += 1;
+    }
+    true
+}
+
+// How many trades are remembered.
+fn remembered(trades: u64) -> usize
+    ensures { λ r. ⌜ (r ≡ kept trades) × (r ≤ 10) ⌝ }
+{
+    if 10 <= trades {
+        return 10;
+    }
+    trades as usize
+}
+
+pub fn remembered_sound(tick: u64, t: Tape) -> bool
+    requires { ⌜ (1 ≤ tick) × (tick ≤ tickMost) ⌝ }
+    ensures { λ r. ⌜ r ≡ rememberedSound tick t ⌝ }
+{
+    let prices = t.prices;
+    let lots = t.sizes;
+    let n = remembered(t.trades);
+    let factor = audit::ticks::factor(tick);
+    if !prices_sound(prices, n, tick, factor) {
+        return false;
+    }
+    sizes_sound(lots, n)
+}
+
+// Lots times a number that is not large.
+fn times(lots: u64, x: u64) -> u64
+    requires { ⌜ (lots ≤ lotsMost * tradesMost) × (x ≤ priceMost) ⌝ }
+    ensures { λ r. ⌜ r ≡ lots * x ⌝ }
+{
+    lots * x
+}
+
+pub fn half_sound(tick: u64, trades: u64, h: Tally) -> bool
+    requires { ⌜ (tick ≤ tickMost) × (trades ≤ tradesMost) ⌝ }
+    ensures { λ r. ⌜ r ≡ halfSound tick trades h ⌝ }
+{
+    let count = h.count;
+    let lots = h.lots;
+    let value = h.value;
+    if !(count <= trades) {
+        return false;
+    }
+    let most = sizes::LOTS * count;
+    if !((count <= lots) & (lots <= most)) {
+        return false;
+    }
+    let least = times(lots, tick);
+    let greatest = times(lots, sizes::PRICE);
+    (least <= value) & (value <= greatest)
+}
+
+pub fn minute_sound(trades: u64, m: Minute) -> bool
+    requires { ⌜ trades ≤ tradesMost ⌝ }
+    ensures { λ r. ⌜ r ≡ minuteSound trades m ⌝ }
+{
+    let count = m.count;
+    let sum = m.sum;
+    if !(count <= trades) {
+        return false;
+    }
+    let most = sizes::PRICE * count;
+    (count <= sum) & (sum <= most)
+}

@@ -1,0 +1,5 @@
+pub mod Puts
+pub mod Copies
+pub mod Slots
+pub mod Whole
+pub mod Written

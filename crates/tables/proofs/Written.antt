@@ -1,0 +1,57 @@
+-- Reports as records: their lengths, and six numbers written in two runs. Assumes nothing.
+use Prim.Native.Nat.{ℕ, _+_, _*_, _≤_}
+use native.Mathlib.Omega.{arith}
+use mathlib.Core.Path.{_≡_, refl, sym}
+use mathlib.Core.List.{List, [], _∷_, _++_, append-assoc}
+use lib.ListN.{length, length-append}
+use Rattle.terms.specs.declared.Report.{Report}
+use Rattle.terms.specs.declared.Said.{Said}
+use Rattle.terms.specs.declared.Said.the-variants.{Accept, Trade, Convert, Cancel, Slab, Ref, Close}
+use Rattle.terms.specs.Sizes.{recordLength}
+use Rattle.terms.specs.Reports.{kindOf}
+use Rattle.terms.specs.Records.{fieldsOf, recordOf, recordsOf}
+use Rattle.tables.specs.Put.{put}
+use Rattle.tables.specs.Fields.{listed}
+use Rattle.tables.specs.declared.room.Four.{Four}
+use Rattle.tables.proofs.Puts.{put-put}
+
+length-fields : (s : Said) → length (fieldsOf s) ≡ 4
+length-fields (Accept number) = refl
+length-fields (Trade d) = refl
+length-fields (Convert o) = refl
+length-fields (Cancel e) = refl
+length-fields (Slab b) = refl
+length-fields (Ref price) = refl
+length-fields (Close c) = refl
+
+pub length-record : (r : Report) → length (recordOf r) ≡ recordLength
+unfolding recordOf
+length-record r = let e : length (fieldsOf (r .said)) ≡ 4 = length-fields (r .said) in omega arith
+
+pub length-records : (rs : List Report) → length (recordsOf rs) ≡ recordLength * length rs
+unfolding recordsOf
+length-records [] = refl
+length-records (r ∷ rs) =
+    let e : length (recordOf r) ≡ recordLength = length-record r in
+    let f : length (recordsOf rs) ≡ recordLength * length rs = length-records rs in
+    simp length-append (omega arith)
+
+records-append : (rs ss : List Report) → recordsOf (rs ++ ss) ≡ recordsOf rs ++ recordsOf ss
+unfolding recordsOf
+records-append [] ss = refl
+records-append (r ∷ rs) ss = rw (records-append rs ss) (sym (append-assoc (recordOf r) (recordsOf rs) (recordsOf ss)))
+
+-- reports written behind reports
+pub put-records : (room : List ℕ) (at : ℕ) (rs ss : List Report) → at + recordLength * length rs ≤ length room
+    → put (put room at (recordsOf rs)) (at + recordLength * length rs) (recordsOf ss) ≡ put room at (recordsOf (rs ++ ss))
+put-records room at rs ss h =
+    let l : length (recordsOf rs) ≡ recordLength * length rs = length-records rs in
+    rw (records-append rs ss, ← l) (put-put room at (recordsOf rs) (recordsOf ss) (omega arith))
+
+-- kind, time and the first field, then the other three fields, are the record
+pub record-done : (t u v : List ℕ) (at : ℕ) (r : Report) (f : Four) (s : Said) (k : ℕ) → r .said ≡ s → listed f ≡ fieldsOf s → k ≡ kindOf s
+    → u ≡ put t at (k ∷ r .time ∷ f .first ∷ []) → v ≡ put u (at + 3) (f .second ∷ f .third ∷ f .fourth ∷ []) → at + recordLength ≤ length t
+    → v ≡ put t at (recordOf r)
+unfolding recordOf
+record-done t u v at r f s k d e g p q h =
+    rw (d, ← e, ← g) (cc (put-put t at (k ∷ r .time ∷ f .first ∷ []) (f .second ∷ f .third ∷ f .fourth ∷ []) (omega arith)))

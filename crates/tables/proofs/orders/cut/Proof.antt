@@ -1,0 +1,58 @@
+-- The orders behind the cut move down over it, and zeros fill the slots that they leave.
+use Rattle.tables.proofs.Whole.{cut-done}
+use borrow.Author.Needs.{needs}
+use Rattle.tables.proofs.orders.cut.Statement.{statement}
+use Rattle.tables.proofs.orders.cut.Tie as tie
+
+add-behind : tie.Need-add-behind
+add-behind c = search needs
+
+sub-moved : tie.Need-sub-moved
+sub-moved c = search needs
+
+mul-moved : tie.Need-mul-moved
+mul-moved c = search needs
+
+mul-shift-down : tie.Need-mul-shift-down
+mul-shift-down c = search needs
+
+mul-shift-down-2 : tie.Need-mul-shift-down-2
+mul-shift-down-2 c = search needs
+
+shift-down-requires : tie.Need-shift-down-requires
+shift-down-requires c κs = search needs
+
+sub-clear : tie.Need-sub-clear
+sub-clear c = search needs
+
+mul-clear : tie.Need-mul-clear
+mul-clear c = search needs
+
+mul-clear-2 : tie.Need-mul-clear-2
+mul-clear-2 c = search needs
+
+clear-requires : tie.Need-clear-requires
+clear-requires c κs = search needs
+
+same-length : tie.Need-same-length
+same-length c = search needs
+
+returns : tie.Need-returns
+returns c = search cut-done
+
+pub cut-spec : {M : Type 1} → statement M
+cut-spec =
+    tie.close
+    (tie.spec
+    add-behind
+    sub-moved
+    mul-moved
+    mul-shift-down
+    mul-shift-down-2
+    shift-down-requires
+    sub-clear
+    mul-clear
+    mul-clear-2
+    clear-requires
+    same-length
+    returns)

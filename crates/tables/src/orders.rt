@@ -1,0 +1,78 @@
+// Orders in a side's table: read, stored, taken out, put in, changed; and the part past the live orders cleared.
+use crate::flat;
+use terms::Order;
+use terms::sizes;
+ghost use mathlib.Core.Path.{_≡_};
+ghost use mathlib.Core.List.{_∷_, _++_};
+ghost use Prim.Native.Nat.{_+_, _*_, _≤_, _<_};
+ghost use lib.ListN.{length, take, drop};
+ghost use Rattle.terms.specs.Sizes.{slots, width, tableLength};
+ghost use Rattle.tables.specs.Put.{put};
+ghost use Rattle.tables.specs.Tables.{numbersOf, orderAt, decode, tableOf, Holds};
+
+// The order in slot i.
+pub fn order_at(t: &[u64], i: usize) -> Order
+    requires { ⌜ (i < slots) × (width * i + width ≤ length (now t)) ⌝ }
+    ensures { λ r. ⌜ r ≡ orderAt (now (t .entry)) i ⌝ }
+{
+    let at = sizes::WIDTH * i;
+    Order {
+        number: t[at],
+        price: t[at + 1],
+        lots: t[at + 2],
+    }
+}
+
+// An order's numbers, from `at` on.
+pub fn store(t: &mut [u64], at: usize, o: Order)
+    requires { ⌜ at + width ≤ length (now t) ⌝ }
+    ensures { λ _. ⌜ now (t .exit) ≡ put (now (t .entry)) at (numbersOf o) ⌝ }
+{
+    flat::store3(t, at, o.number, o.price, o.lots);
+}
+
+// k orders from slot i on are taken out.
+pub fn cut(t: &mut [u64], n: usize, i: usize, k: usize)
+    requires { ⌜ Holds n (now t) × (i + k ≤ n) ⌝ }
+    ensures { λ _. ⌜ now (t .exit) ≡ tableOf (take i (decode n (now (t .entry))) ++ drop (i + k) (decode n (now (t .entry)))) (now (t .entry)) ⌝ }
+{
+    let behind = i + k;
+    let moved = sizes::WIDTH * (n - behind);
+    flat::shift_down(t, sizes::WIDTH * i, sizes::WIDTH * behind, moved);
+    flat::clear(t, sizes::WIDTH * (n - k), sizes::WIDTH * k);
+}
+
+// The first k orders are taken out.
+pub fn remove_first(t: &mut [u64], n: usize, k: usize)
+    requires { ⌜ Holds n (now t) × (k ≤ n) ⌝ }
+    ensures { λ _. ⌜ now (t .exit) ≡ tableOf (drop k (decode n (now (t .entry)))) (now (t .entry)) ⌝ }
+{
+    cut(t, n, 0, k);
+}
+
+// An order goes in at slot i.
+pub fn put_in(t: &mut [u64], n: usize, i: usize, o: Order)
+    requires { ⌜ Holds n (now t) × (i ≤ n) × (n < slots) ⌝ }
+    ensures { λ _. ⌜ now (t .exit) ≡ tableOf (take i (decode n (now (t .entry))) ++ (o ∷ drop i (decode n (now (t .entry))))) (now (t .entry)) ⌝ }
+{
+    let at = sizes::WIDTH * i;
+    flat::shift_up(t, at + sizes::WIDTH, at, sizes::WIDTH * (n - i));
+    store(t, at, o);
+}
+
+// The order in slot i becomes o.
+pub fn change(t: &mut [u64], n: usize, i: usize, o: Order)
+    requires { ⌜ Holds n (now t) × (i < n) ⌝ }
+    ensures { λ _. ⌜ now (t .exit) ≡ tableOf (take i (decode n (now (t .entry))) ++ (o ∷ drop (i + 1) (decode n (now (t .entry))))) (now (t .entry)) ⌝ }
+{
+    store(t, sizes::WIDTH * i, o);
+}
+
+// Whatever lies past the n live orders becomes zero, to the end of the table.
+pub fn clear_tail(t: &mut [u64], n: usize)
+    requires { ⌜ (n ≤ slots) × (tableLength ≤ length (now t)) ⌝ }
+    ensures { λ _. ⌜ now (t .exit) ≡ tableOf (decode n (now (t .entry))) (now (t .entry)) ⌝ }
+{
+    let live = sizes::WIDTH * n;
+    flat::clear(t, live, sizes::TABLE - live);
+}
