@@ -1,3 +1,4 @@
+pub mod Afters
 pub mod Conserve
 pub mod Fills
 pub mod Mark
@@ -7,3 +8,4 @@ pub mod Remainder
 pub mod Search
 pub mod Stops
 pub mod Sweep
+pub mod Views

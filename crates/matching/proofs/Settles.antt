@@ -13,9 +13,11 @@ use Rattle.tables.specs.Tables.{orderAt, decode, tableOf, Holds}
 use Rattle.tables.proofs.Slots.{length-decode, decode-read, decode-end}
 use Rattle.tables.proofs.Whole.{After, after}
 use Rattle.book.specs.Matching.{part}
+use Rattle.book.proofs.Conserve.{sweep-fewer}
 use Rattle.matching.specs.declared.Incoming.{Incoming}
 use Rattle.matching.specs.declared.Passed.{Passed}
-use Rattle.matching.specs.Sweeps.{sweptOf, trim, headLots, End, finish, Passes, SweptInto}
+use Rattle.matching.specs.declared.Matched.{Matched}
+use Rattle.matching.specs.Sweeps.{takerOf, sweptOf, trim, headLots, End, finish, Passes, SweptInto}
 use Rattle.matching.proofs.Ends.{trim-none}
 use Rattle.matching.proofs.Turns.{head-lots}
 
@@ -83,3 +85,13 @@ swept-into x n t room at t′ room′ r h e =
       told = sym (rw add-zero at (ap (λ (y : End). y .room) (h .same)));
       answer = rw (count, some, ap (λ (y : End). y .left) (h .same), ap (λ (y : End). y .last) (h .same), ap (λ (y : End). y .out) (h .same));
     }
+
+-- what a caller knows then: the table holds the orders that remain
+pub after-sweep : (x : Incoming) (n : ℕ) (t room : List ℕ) (at : ℕ) (t′ room′ : List ℕ) (r : Matched) → Holds n t →
+    SweptInto x (decode n t) t room at t′ room′ r → After (r .count) (sweptOf x (decode n t) .rest) t t′
+after-sweep x n t room at t′ room′ r h k =
+    let os = decode n t in
+    let l : length os ≡ n = length-decode n t in
+    let few : n ≤ slots = h .few in
+    let less = sweep-fewer (takerOf x) 0 (x .lots) os in
+    rw (k .answer) (after (length (sweptOf x os .rest)) (sweptOf x os .rest) t t′ (k .book) refl (omega (arith, less .rest)) (h .long))

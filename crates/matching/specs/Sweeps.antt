@@ -84,7 +84,7 @@ pub record End : Type 0 where
   pub out : Bool
   pub room : List ℕ
 
--- the same from a state on its way: so many trades done, the first and the last at these prices, so many lots left, before the orders os
+-- what w leaves, after `done` trades, the last of them at this price, whose reports stand in the room from `at` on
 abbrev pub endOf : Incoming → ℕ → ℕ → ℕ → List ℕ → Swept → End
 endOf x at done last room w =
     record {
@@ -96,6 +96,8 @@ endOf x at done last room w =
       room = put room (at + recordLength * done) (recordsFor x (w .fills));
     }
 
+-- what a sweep leaves from a state on its way: `done` trades, the first and the last of them at these prices, and so many lots left
+-- before the orders os
 unfoldable pub finish : Incoming → ℕ → ℕ → ℕ → ℕ → ℕ → List Order → List ℕ → End
 finish x at done first last lots os room = endOf x at done last room (sweep (takerOf x) first lots os)
 

@@ -1,10 +1,11 @@
 -- A trade in the session: cooling-off, minute, tape.
-use Prim.Native.Nat.{ℕ}
+use Prim.Native.Nat.{ℕ, _+_, _≤_}
 use mathlib.Core.List.{List, [], _∷_}
 use Rattle.terms.specs.declared.Order.{Order}
+use Rattle.terms.specs.Sizes.{lengthLeast, timeMost, tradesMost}
 use Rattle.rules.specs.Slabs.{coolingAfter}
-use Rattle.rules.specs.Reference.{minuteAfter}
-use Rattle.rules.specs.Close.{inHalfHour, tapeAfter}
+use Rattle.rules.specs.Reference.{minuteAfter, MinuteFits}
+use Rattle.rules.specs.Close.{inHalfHour, tapeAfter, TallyFits}
 use Rattle.state.specs.declared.Session.{Session}
 use Rattle.state.specs.Now.{bandNow}
 
@@ -28,3 +29,13 @@ withTrade s price lots =
 unfoldable pub withTrades : Session → List Order → Session
 withTrades s [] = s
 withTrades s (f ∷ fs) = withTrades (withTrade s (f .price) (f .lots)) fs
+
+-- so many more trades fit into a session
+pub record TradesFit (s : Session) (more : ℕ) : Type 0 where
+  pub long : lengthLeast ≤ s .settings .length
+  pub time-small : s .time ≤ timeMost
+  pub trades-few : s .tape .trades + more ≤ tradesMost
+  pub half-few : s .tape .half .count + more ≤ tradesMost
+  pub minute-few : s .reckoning .minute .count + more ≤ tradesMost
+  pub half-fits : TallyFits (s .tape .half)
+  pub minute-fits : MinuteFits (s .reckoning .minute)

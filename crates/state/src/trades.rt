@@ -8,12 +8,12 @@ use terms::Band;
 ghost use mathlib.Core.Path.{_≡_};
 ghost use Prim.Native.Nat.{_≤_, _<_};
 ghost use Rattle.terms.specs.Sizes.{priceMost, lotsMost, tradesMost};
-ghost use Rattle.state.specs.Now.{Steady, bandNow};
-ghost use Rattle.state.specs.Trades.{withTrade};
+ghost use Rattle.state.specs.Now.{bandNow};
+ghost use Rattle.state.specs.Trades.{withTrade, TradesFit};
 
 // The session after a trade of some lots at a price; band is the band in force.
 pub fn with_trade(s: Session, band: Band, price: u64, lots: u64) -> Session
-    requires { ⌜ Steady s × (band ≡ bandNow s) × (price ≤ priceMost) × (lots ≤ lotsMost) ⌝ }
+    requires { ⌜ TradesFit s 1 × (band ≡ bandNow s) × (price ≤ priceMost) × (lots ≤ lotsMost) ⌝ }
     ensures { λ r. ⌜ r ≡ withTrade s price lots ⌝ }
 {
     let minute = s.reckoning.minute;

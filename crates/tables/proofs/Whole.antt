@@ -1,6 +1,7 @@
 -- A side's whole table: what `tableOf` keeps, and orders taken out, put in and changed. Assumes nothing.
 use Prim.Native.Nat.{ℕ, _+_, _-_, _*_, _≤_, _<_}
 use native.Mathlib.Omega.{arith}
+use native.Mathlib.Nat.{add-zero}
 use native.Mathlib.Numerals.{add-one}
 use mathlib.Core.Path.{_≡_, refl, sym, ap, _∙_}
 use mathlib.Core.List.{List, [], _∷_, _++_, append-assoc}
@@ -136,6 +137,9 @@ three-parts os i k = rw (← drop-drop k i os, take-append-drop k (drop i os)) (
 
 one-part : (os : List Order) (i : ℕ) (o : Order) → i < length os → take i os ++ (getD os i o ∷ drop (i + 1) os) ≡ os
 one-part os i o h = rw (add-one i, ← drop-cons os i o h) (take-append-drop i os)
+
+pub cut-none : (n : ℕ) (t : List ℕ) → Holds n t → (i k : ℕ) → k ≡ 0 → t ≡ tableOf (take i (decode n t) ++ drop (i + k) (decode n t)) t
+cut-none n t h i k e = rw (e, add-zero, take-append-drop i (decode n t)) (h .shape)
 
 module _ (n : ℕ) (t : List ℕ) (h : Holds n t) (u v : List ℕ) (i : ℕ) where
   pub cut-done : (k : ℕ) → u ≡ put t (width * i) (take (width * (n - (i + k))) (drop (width * (i + k)) t)) → v ≡ put u (width * (n - k)) (replicate (width * k) 0) → i + k ≤ n

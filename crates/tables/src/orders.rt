@@ -36,6 +36,9 @@ pub fn cut(t: &mut [u64], n: usize, i: usize, k: usize)
     requires { ⌜ Holds n (now t) × (i + k ≤ n) ⌝ }
     ensures { λ _. ⌜ now (t .exit) ≡ tableOf (take i (decode n (now (t .entry))) ++ drop (i + k) (decode n (now (t .entry)))) (now (t .entry)) ⌝ }
 {
+    if k == 0 {
+        return;
+    }
     let behind = i + k;
     let moved = sizes::WIDTH * (n - behind);
     flat::shift_down(t, sizes::WIDTH * i, sizes::WIDTH * behind, moved);
