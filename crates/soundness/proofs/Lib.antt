@@ -2,3 +2,6 @@ pub mod Lists
 pub mod Bounds
 pub mod Clocked
 pub mod Border
+pub mod Days
+pub mod Kept
+pub mod Parts

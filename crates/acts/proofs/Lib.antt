@@ -1,0 +1,12 @@
+pub mod Ends
+pub mod Entries
+pub mod Few
+pub mod Hears
+pub mod Leftovers
+pub mod Lots
+pub mod Meets
+pub mod Numbers
+pub mod Recalled
+pub mod Reports
+pub mod Says
+pub mod Stays

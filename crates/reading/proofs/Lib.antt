@@ -1,0 +1,2 @@
+pub mod EventLines
+pub mod SettingsLines

@@ -1,0 +1,54 @@
+-- Document 01, "Book and report room": a report told back from the six numbers of its record.
+use Prim.Native.Nat.{ℕ}
+use mathlib.Core.Path.{_≡_}
+use mathlib.Core.Bool.{Bool, true, cond, _&&_}
+use mathlib.Core.List.{List}
+use lib.Dec.{eqb}
+use Rattle.terms.specs.declared.Report.{Report}
+use Rattle.terms.specs.declared.Said.{Said}
+use Rattle.terms.specs.declared.Said.the-variants.{Accept, Trade, Convert, Cancel, Slab, Ref, Close}
+use Rattle.terms.specs.declared.Why.the-variants.{Asked, Immediate, OutOfRange, OutsideBand, DayEnd}
+use Rattle.terms.specs.Records.{recordOf}
+use Rattle.records.specs.declared.ReadRecord.{ReadRecord}
+use Rattle.records.specs.declared.ReadWhy.{ReadWhy}
+
+-- the contract: the report whose record the numbers are, or that they are no report's
+abbrev pub RecordRead : List ℕ → ReadRecord → Type 0
+RecordRead numbers (ReadRecord.Told r) = numbers ≡ recordOf r
+RecordRead numbers ReadRecord.Nothing = (r : Report) → numbers ≡ recordOf r → ⊥
+
+-- ---- the same computed
+
+abbrev pub whyFrom : ℕ → ReadWhy
+whyFrom n =
+    cond (eqb n 1) (ReadWhy.Reason Asked)
+    (cond (eqb n 2) (ReadWhy.Reason Immediate)
+    (cond (eqb n 3) (ReadWhy.Reason OutOfRange)
+    (cond (eqb n 4) (ReadWhy.Reason OutsideBand)
+    (cond (eqb n 5) (ReadWhy.Reason DayEnd) ReadWhy.Nothing))))
+
+-- "unused ones zero"
+abbrev pub zeroTwo : ℕ → ℕ → Bool
+zeroTwo c d = eqb c 0 && eqb d 0
+
+abbrev pub zeroThree : ℕ → ℕ → ℕ → Bool
+zeroThree b c d = eqb b 0 && eqb c 0 && eqb d 0
+
+-- what is said, where the unused numbers are zero
+abbrev pub toldIf : Bool → ℕ → Said → ReadRecord
+toldIf unused time said = cond unused (ReadRecord.Told (record { time = time; said = said })) ReadRecord.Nothing
+
+abbrev pub endedFrom : ReadWhy → ℕ → ℕ → ℕ → ℕ → ReadRecord
+endedFrom (ReadWhy.Reason why) time a b d = toldIf (eqb d 0) time (Cancel (record { number = a; lots = b; why = why }))
+endedFrom ReadWhy.Nothing time a b d = ReadRecord.Nothing
+
+-- by the kind
+unfoldable pub reportFrom : ℕ → ℕ → ℕ → ℕ → ℕ → ℕ → ReadRecord
+reportFrom kind time a b c d =
+    cond (eqb kind 1) (toldIf (zeroThree b c d) time (Accept a))
+    (cond (eqb kind 2) (toldIf true time (Trade (record { buy = a; sell = b; lots = c; price = d })))
+    (cond (eqb kind 3) (toldIf (eqb d 0) time (Convert (record { number = a; price = c; lots = b })))
+    (cond (eqb kind 4) (endedFrom (whyFrom c) time a b d)
+    (cond (eqb kind 5) (toldIf (zeroTwo c d) time (Slab (record { low = a; high = b })))
+    (cond (eqb kind 6) (toldIf (zeroThree b c d) time (Ref a))
+    (cond (eqb kind 7) (toldIf (zeroTwo c d) time (Close (record { price = a; base = b }))) ReadRecord.Nothing))))))

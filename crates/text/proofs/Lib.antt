@@ -1,0 +1,6 @@
+pub mod Digits
+pub mod Grammars
+pub mod Rightness
+pub mod Steps
+pub mod Rooms
+pub mod Fills

@@ -1,0 +1,7 @@
+pub mod Text
+pub mod Numerals
+pub mod Forms
+pub mod Grammar
+pub mod Reading
+pub mod Pieces
+pub mod Room

@@ -1,0 +1,4 @@
+pub mod Writing
+pub mod ByKind
+pub mod Back
+pub mod ReportLines
