@@ -52,7 +52,7 @@ pub record Ready (s : Session) (d : Day) : Type 0 where
   pub parts : Parts s
   pub book : BookOf s (d .buys) (d .sells)
 
-ready : (d : Day) (t : ℕ) → sound d ≡ true → d .session .time ≤ t → t ≤ timeMost →
+pub ready : (d : Day) (t : ℕ) → sound d ≡ true → d .session .time ≤ t → t ≤ timeMost →
     (d .session .closed || ltb t (d .session .settings .length)) ≡ true →
     Ready (clockStep (d .session) t) d
 unfolding clockStep

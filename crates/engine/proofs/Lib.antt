@@ -1,0 +1,6 @@
+pub mod Kept
+pub mod Listing
+pub mod Starts
+pub mod Dones
+pub mod Orders
+pub mod Applies

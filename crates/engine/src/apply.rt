@@ -1,0 +1,44 @@
+// An event on a session and lent numbers.
+use crate::Answer;
+use crate::Applied;
+use crate::accepted;
+use state::Session;
+use terms::Event;
+use terms::Refusal;
+use terms::Verdict;
+use terms::sizes;
+ghost use mathlib.Core.Path.{_≡_};
+ghost use Rattle.engine.specs.Calls.{AppliedAs, roomy};
+
+// Both tables and the room are long enough.
+fn is_roomy(buys: &[u64], sells: &[u64], room: &[u64]) -> bool
+    ensures { λ r. ⌜ r ≡ roomy (now (buys .entry)) (now (sells .entry)) (now (room .entry)) ⌝ }
+{
+    let bought = sizes::TABLE <= buys.len();
+    let sold = sizes::TABLE <= sells.len();
+    let told = sizes::ROOM <= room.len();
+    bought & sold & told
+}
+
+// A refusal: the session that was given, and nothing written.
+fn refused(r: Refusal, s: Session) -> Applied
+    ensures { λ a. ⌜ a ≡ record { answer = Answer.Refused r; session = s } ⌝ }
+{
+    Applied {
+        answer: Answer::Refused(r),
+        session: s,
+    }
+}
+
+// Applies an event: the first refusal that applies, or the clock steps and the act, with the reports in the room.
+pub fn apply(s: Session, e: Event, buys: &mut [u64], sells: &mut [u64], room: &mut [u64]) -> Applied
+    ensures { λ r. ⌜ AppliedAs s e (now (buys .entry)) (now (sells .entry)) (now (room .entry)) (now (buys .exit)) (now (sells .exit)) (now (room .exit)) r ⌝ }
+{
+    if !is_roomy(buys, sells, room) {
+        return refused(Refusal::SmallRoom, s);
+    }
+    match refusal::rows::verdict(s, e, buys, sells) {
+        Verdict::Refused(r) => refused(r, s),
+        Verdict::Fine => accepted::carry_out(s, e, buys, sells, room),
+    }
+}

@@ -1,0 +1,24 @@
+// The view of a side.
+use state::Session;
+use terms::Side;
+use terms::sizes;
+ghost use mathlib.Core.Path.{_≡_};
+ghost use Rattle.engine.specs.Calls.{viewCall};
+
+// The live part of the named table; the empty part for a session that is not sound or a short table.
+pub fn view<'a>(side: Side, s: Session, buys: &'a [u64], sells: &'a [u64]) -> &'a [u64]
+    ensures { λ r. ⌜ now r ≡ viewCall side s (now (buys .entry)) (now (sells .entry)) ⌝ }
+{
+    if buys.len() < sizes::TABLE {
+        return &buys[0..0];
+    }
+    if sells.len() < sizes::TABLE {
+        return &sells[0..0];
+    }
+    if !soundness::is_sound(s, buys, sells) {
+        return &buys[0..0];
+    }
+    let buying = s.buys as usize;
+    let selling = s.sells as usize;
+    book::view::view(side, buys, sells, buying, selling)
+}

@@ -1,0 +1,265 @@
+-- A clock line changes no trade: a day and the same day ticked answer every later event alike, and are one day after it, or two closed
+-- ones. It rests on two steps of time being one.
+use Prim.Native.Nat.{ℕ, _≤_}
+use native.Mathlib.Omega.{arith}
+use borrow.Author.Tests.{leb-true, le-leb}
+use mathlib.Core.Path.{_≡_, refl, sym, ap, _∙_}
+use mathlib.Core.Bool.{Bool, true, false, not}
+use mathlib.Core.List.{List, [], _∷_, _++_, append-assoc}
+use lib.Dec.{eqb}
+use lib.ListN.{length}
+use Rattle.terms.specs.declared.Band.{Band}
+use Rattle.terms.specs.declared.Order.{Order}
+use Rattle.terms.specs.declared.Entry.{Entry}
+use Rattle.terms.specs.declared.Event.{Event}
+use Rattle.terms.specs.declared.Act.{Act}
+use Rattle.terms.specs.declared.Act.the-variants.{Enter, Withdraw, Under, Clock, Finish}
+use Rattle.terms.specs.declared.Side.{Side}
+use Rattle.terms.specs.declared.Side.the-variants.{Buy, Sell}
+use Rattle.terms.specs.declared.Report.{Report}
+use Rattle.terms.specs.declared.Said.the-variants.{Slab, Ref}
+use Rattle.terms.specs.declared.Refusal.the-variants.{Unsound, Closed, NumberRange, TimeBack, OutOfHours, OffTick, OutsideBand, NotResting, SideFull, DayFull}
+use Rattle.terms.specs.declared.Verdict.{Verdict}
+use Rattle.terms.specs.declared.Verdict.the-variants.{Fine, Refused}
+use Rattle.terms.specs.Truth.{_⊓_}
+use Rattle.terms.specs.Numbers.{isTime}
+use Rattle.terms.specs.Refusals.{unless, firstFailed}
+use Rattle.book.specs.Matching.{reportAt}
+use Rattle.state.specs.declared.Session.{Session}
+use Rattle.state.specs.Set.{setBuys, setSells, setUnder}
+use Rattle.state.specs.Now.{percentNow, bandNow}
+use Rattle.state.specs.Clock.{clockStep}
+use Rattle.state.specs.Day.{Day, own, across, opened}
+use Rattle.state.proofs.Steps.{clock-twice}
+use Rattle.soundness.specs.Sound.{sound}
+use Rattle.soundness.proofs.Days.{SoundDay, sound-day}
+use Rattle.refusal.specs.Refusals.{numbersRight, inHours, ticksRight, bandRight, finds, lifeHasPlace, hasPlace, hasNumbers, refusalOf}
+use Rattle.refusal.proofs.Accepted.{Accepted, accepted, closed-refused}
+use Rattle.acts.specs.Acts.{Acted, only, clockReports, sweepIn, entered, withdrawn, silent, finished, afterClock, acted, act}
+use Rattle.acts.proofs.Stays.{act-stays}
+use Rattle.engine.specs.Outcome.{Outcome, decided, outcome, after}
+use Rattle.engine.proofs.Kept.{outcome-verdict, accepted-sound}
+use Rattle.promises.specs.ClockLine.{clockAt, plainOne, plain, Reply, replies, From, ClockLine}
+
+-- ---- the day after an accepted clock event
+
+abbrev ticked : Day → ℕ → Day
+ticked d t = record { session = clockStep (d .session) t; buys = d .buys; sells = d .sells }
+
+-- the live counts of a sound day are those of its orders already
+counted-same : (d : Day) (t a b : ℕ) → d .session .buys ≡ a → d .session .sells ≡ b →
+    setSells (setBuys (clockStep (d .session) t) a) b ≡ clockStep (d .session) t
+unfolding clockStep
+counted-same d t a b e f = λ i. setSells (setBuys (clockStep (d .session) t) (sym e i)) (sym f i)
+
+decided-fine : (v : Verdict) (d : Day) (a : Acted) → v ≡ Fine → decided v d a ≡ decided Fine d a
+decided-fine v d a e = rw e
+
+clock-day : (d : Day) (t : ℕ) → refusalOf d (clockAt t) ≡ Fine → outcome d (clockAt t) .day ≡ ticked d t
+unfolding outcome act
+clock-day d t h =
+    let w : SoundDay d = sound-day d (accepted d (clockAt t) h .whole) in
+    ap (λ (o : Outcome). o .day) (decided-fine (refusalOf d (clockAt t)) d (act d (clockAt t)) h)
+    ∙ (λ i. record {
+      session = counted-same d t (length (d .buys)) (length (d .sells)) (w .buys-counted) (w .sells-counted) i;
+      buys = d .buys;
+      sells = d .sells;
+    })
+
+-- ---- reports, slab and ref left out
+
+plain-append : (xs ys : List Report) → plain (xs ++ ys) ≡ plain xs ++ plain ys
+unfolding plain
+plain-append [] ys = refl
+plain-append (x ∷ xs) ys =
+    ap (λ (l : List Report). plainOne x (x .said) ++ l) (plain-append xs ys)
+    ∙ sym (append-assoc (plainOne x (x .said)) (plain xs) (plain ys))
+
+slab-plain : (b : Bool) (t : ℕ) (band : Band) → plain (only b (reportAt t (Slab band))) ≡ []
+unfolding plain
+slab-plain true t band = refl
+slab-plain false t band = refl
+
+ref-plain : (b : Bool) (t price : ℕ) → plain (only b (reportAt t (Ref price))) ≡ []
+unfolding plain
+ref-plain true t price = refl
+ref-plain false t price = refl
+
+clock-plain : (s s′ : Session) → plain (clockReports s s′) ≡ []
+unfolding clockReports
+clock-plain s s′ =
+    let a : Bool = not (eqb (percentNow s) (percentNow s′)) in
+    let b : Bool = not (eqb (s .reckoning .reference) (s′ .reckoning .reference)) in
+    plain-append (only a (reportAt (s′ .time) (Slab (bandNow s′)))) (only b (reportAt (s′ .time) (Ref (s′ .reckoning .reference))))
+    ∙ (λ i. slab-plain a (s′ .time) (bandNow s′) i ++ ref-plain b (s′ .time) (s′ .reckoning .reference) i)
+
+after-plain : (s s′ : Session) (a : Acted) → plain (afterClock s s′ a .reports) ≡ plain (a .reports)
+after-plain s s′ a = plain-append (clockReports s s′) (a .reports) ∙ ap (λ (l : List Report). l ++ plain (a .reports)) (clock-plain s s′)
+
+-- ---- one event, on a day and on the same day ticked
+
+own-ticked : (side : Side) (d : Day) (t : ℕ) → own side (ticked d t) ≡ own side d
+own-ticked Buy d t = refl
+own-ticked Sell d t = refl
+
+across-ticked : (side : Side) (d : Day) (t : ℕ) → across side (ticked d t) ≡ across side d
+across-ticked Buy d t = refl
+across-ticked Sell d t = refl
+
+finds-ticked : (d : Day) (t : ℕ) (a : Act) → finds (ticked d t) a ≡ finds d a
+unfolding finds
+finds-ticked d t (Enter n) = refl
+finds-ticked d t (Withdraw number) = refl
+finds-ticked d t (Under price) = refl
+finds-ticked d t Clock = refl
+finds-ticked d t (Finish settle) = refl
+
+place-ticked : (d : Day) (t : ℕ) (a : Act) → hasPlace (ticked d t) a ≡ hasPlace d a
+unfolding hasPlace
+place-ticked d t (Enter n) = ap (λ (l : List Order). lifeHasPlace (n .life) (length l)) (own-ticked (n .side) d t)
+place-ticked d t (Withdraw number) = refl
+place-ticked d t (Under price) = refl
+place-ticked d t Clock = refl
+place-ticked d t (Finish settle) = refl
+
+-- what the accepted clock event gives: both days are sound, and it is not before the last accepted time
+record Ticks (d : Day) (t : ℕ) : Type 0 where
+  whole : sound d ≡ true
+  then-whole : sound (ticked d t) ≡ true
+  forward : d .session .time ≤ t
+
+ticks : (d : Day) (t : ℕ) → refusalOf d (clockAt t) ≡ Fine → Ticks d t
+ticks d t h =
+    let a : Accepted d (clockAt t) = accepted d (clockAt t) h in
+    record {
+      whole = a .whole;
+      then-whole = rw (clock-day d t h) at (accepted-sound d (clockAt t) (outcome-verdict d (clockAt t) ∙ h));
+      forward = leb-true (d .session .time) t (a .forward);
+    }
+
+-- every row of the table is the same for both
+refusal-ticked : (d : Day) (t : ℕ) (e : Event) → Ticks d t → t ≤ e .time → refusalOf (ticked d t) e ≡ refusalOf d e
+unfolding refusalOf clockStep
+refusal-ticked d t e k h =
+    λ i. firstFailed (
+    unless Unsound ((k .then-whole ∙ sym (k .whole)) i)
+    ∷ unless Closed (not (d .session .closed))
+    ∷ unless NumberRange (isTime (e .time) ⊓ numbersRight (e .act))
+    ∷ unless TimeBack ((le-leb t (e .time) h ∙ sym (le-leb (d .session .time) (e .time) (omega (arith, k .forward)))) i)
+    ∷ unless OutOfHours (inHours (e .act) (e .time) (d .session .settings .length))
+    ∷ unless OffTick (ticksRight (d .session .settings .tick) (e .act))
+    ∷ unless OutsideBand (bandRight (bandNow (clock-twice (d .session) t (e .time) (k .forward) h i)) (e .act))
+    ∷ unless NotResting (finds-ticked d t (e .act) i)
+    ∷ unless SideFull (place-ticked d t (e .act) i)
+    ∷ unless DayFull (hasNumbers (d .session .given) (d .session .tape .trades) (e .act))
+    ∷ [])
+
+-- ---- what the act does
+
+abbrev enter : Session → Entry → Day → Acted
+enter s n d = entered s n (own (n .side) d) (sweepIn s n (across (n .side) d))
+
+enter-ticked : (s : Session) (n : Entry) (d : Day) (t : ℕ) → enter s n (ticked d t) ≡ enter s n d
+enter-ticked s n d t = λ i. entered s n (own-ticked (n .side) d t i) (sweepIn s n (across-ticked (n .side) d t i))
+
+finished-ticked : (s : Session) (t u settle : ℕ) (buys sells : List Order) →
+    finished (clockStep s t) u settle buys sells .reports ≡ finished s u settle buys sells .reports
+unfolding finished clockStep
+finished-ticked s t u settle buys sells = refl
+
+plain-acted : (d : Day) (t u : ℕ) (s : Session) (a : Act) → plain (acted (ticked d t) u s a .reports) ≡ plain (acted d u s a .reports)
+plain-acted d t u s (Enter n) =
+    after-plain (clockStep (d .session) t) s (enter s n (ticked d t))
+    ∙ ap (λ (a : Acted). plain (a .reports)) (enter-ticked s n d t)
+    ∙ sym (after-plain (d .session) s (enter s n d))
+plain-acted d t u s (Withdraw number) =
+    let a : Acted = withdrawn s number (d .buys) (d .sells) in
+    after-plain (clockStep (d .session) t) s a ∙ sym (after-plain (d .session) s a)
+plain-acted d t u s (Under price) =
+    let a : Acted = silent (setUnder s price) d in
+    after-plain (clockStep (d .session) t) s a ∙ sym (after-plain (d .session) s a)
+plain-acted d t u s Clock =
+    let a : Acted = silent s d in
+    after-plain (clockStep (d .session) t) s a ∙ sym (after-plain (d .session) s a)
+plain-acted d t u s (Finish settle) = ap plain (finished-ticked (d .session) t u settle (d .buys) (d .sells))
+
+act-plain : (d : Day) (t : ℕ) (e : Event) → Ticks d t → t ≤ e .time → plain (act (ticked d t) e .reports) ≡ plain (act d e .reports)
+unfolding act
+act-plain d t e k h =
+    ap (λ (s : Session). plain (acted (ticked d t) (e .time) s (e .act) .reports)) (clock-twice (d .session) t (e .time) (k .forward) h)
+    ∙ plain-acted d t (e .time) (clockStep (d .session) (e .time)) (e .act)
+
+decided-plain : (v : Verdict) (d d′ : Day) (a a′ : Acted) → plain (a .reports) ≡ plain (a′ .reports) →
+    plain (decided v d a .reports) ≡ plain (decided v d′ a′ .reports)
+decided-plain Fine d d′ a a′ e = e
+decided-plain (Refused r) d d′ a a′ e = refl
+
+outcome-plain : (d : Day) (t : ℕ) (e : Event) → Ticks d t → t ≤ e .time → plain (outcome (ticked d t) e .reports) ≡ plain (outcome d e .reports)
+unfolding outcome
+outcome-plain d t e k h =
+    rw (refusal-ticked d t e k h) (decided-plain (refusalOf d e) (ticked d t) d (act (ticked d t) e) (act d e) (act-plain d t e k h))
+
+-- ---- the events that follow
+
+-- two closed days answer alike: everything is refused 3
+closed-replies : (d d′ : Day) (es : List Event) → sound d ≡ true → sound d′ ≡ true → d .session .closed ≡ true → d′ .session .closed ≡ true →
+    replies d′ es ≡ replies d es
+unfolding replies outcome
+closed-replies d d′ [] h h′ c c′ = refl
+closed-replies d d′ (e ∷ es) h h′ c c′ =
+    rw (closed-refused d e h c, closed-refused d′ e h′ c′)
+    (ap (λ (l : List Reply). record { verdict = Refused Closed; reports = plain [] } ∷ l) (closed-replies d d′ es h h′ c c′))
+
+-- after an accepted event: the same day, or two closed ones
+next-replies : (d : Day) (t u : ℕ) (a : Act) (es : List Event) → Ticks d t → t ≤ u →
+    sound (acted d u (clockStep (d .session) u) a .day) ≡ true → sound (acted (ticked d t) u (clockStep (clockStep (d .session) t) u) a .day) ≡ true →
+    replies (acted (ticked d t) u (clockStep (clockStep (d .session) t) u) a .day) es ≡ replies (acted d u (clockStep (d .session) u) a .day) es
+next-replies d t u (Enter n) es k h x y =
+    ap (λ (s : Session). replies (enter s n (ticked d t) .day) es) (clock-twice (d .session) t u (k .forward) h)
+    ∙ ap (λ (a : Acted). replies (a .day) es) (enter-ticked (clockStep (d .session) u) n d t)
+next-replies d t u (Withdraw number) es k h x y =
+    ap (λ (s : Session). replies (withdrawn s number (d .buys) (d .sells) .day) es) (clock-twice (d .session) t u (k .forward) h)
+next-replies d t u (Under price) es k h x y = ap (λ (s : Session). replies (silent (setUnder s price) d .day) es) (clock-twice (d .session) t u (k .forward) h)
+next-replies d t u Clock es k h x y = ap (λ (s : Session). replies (silent s d .day) es) (clock-twice (d .session) t u (k .forward) h)
+next-replies d t u (Finish settle) es k h x y = closed-replies _ _ es x y (unfold finished in refl) (unfold finished in refl)
+
+act-replies : (d : Day) (t : ℕ) (e : Event) (es : List Event) → Ticks d t → t ≤ e .time → Accepted d e → Accepted (ticked d t) e →
+    replies (act (ticked d t) e .day) es ≡ replies (act d e .day) es
+unfolding act
+act-replies d t e es k h x y = next-replies d t (e .time) (e .act) es k h (act-stays d e x) (act-stays (ticked d t) e y)
+
+decided-replies : (v : Verdict) (d d′ : Day) (a a′ : Acted) (es : List Event) → (v ≡ Fine → replies (a .day) es ≡ replies (a′ .day) es) →
+    replies d es ≡ replies d′ es → replies (decided v d a .day) es ≡ replies (decided v d′ a′ .day) es
+decided-replies Fine d d′ a a′ es f e = f refl
+decided-replies (Refused r) d d′ a a′ es f e = e
+
+rest-replies : (d : Day) (t : ℕ) (e : Event) (es : List Event) → Ticks d t → t ≤ e .time → replies (ticked d t) es ≡ replies d es →
+    replies (outcome (ticked d t) e .day) es ≡ replies (outcome d e .day) es
+unfolding outcome
+rest-replies d t e es k h same =
+    let r : refusalOf (ticked d t) e ≡ refusalOf d e = refusal-ticked d t e k h in
+    rw r
+    (decided-replies (refusalOf d e) (ticked d t) d (act (ticked d t) e) (act d e) es
+    (λ z. act-replies d t e es k h (accepted d e z) (accepted (ticked d t) e (r ∙ z)))
+    same)
+
+run-replies : (d : Day) (t : ℕ) (es : List Event) → Ticks d t → From t es → replies (ticked d t) es ≡ replies d es
+unfolding replies
+run-replies d t [] k f = refl
+run-replies d t (e ∷ es) k f =
+    let verdict : outcome (ticked d t) e .verdict ≡ outcome d e .verdict =
+    outcome-verdict (ticked d t) e ∙ refusal-ticked d t e k (f .0) ∙ sym (outcome-verdict d e) in
+    let said : plain (outcome (ticked d t) e .reports) ≡ plain (outcome d e .reports) = outcome-plain d t e k (f .0) in
+    let next : replies (outcome (ticked d t) e .day) es ≡ replies (outcome d e .day) es =
+    rest-replies d t e es k (f .0) (run-replies d t es k (f .1)) in
+    λ i. record { verdict = verdict i; reports = said i } ∷ next i
+
+-- for any day on which the clock event is accepted
+pub clock-changes-nothing : (d : Day) (t : ℕ) (es : List Event) → outcome d (clockAt t) .verdict ≡ Fine → From t es →
+    replies (outcome d (clockAt t) .day) es ≡ replies d es
+clock-changes-nothing d t es h f =
+    let z : refusalOf d (clockAt t) ≡ Fine = sym (outcome-verdict d (clockAt t)) ∙ h in
+    ap (λ (x : Day). replies x es) (clock-day d t z) ∙ run-replies d t es (ticks d t z) f
+
+pub clock-line : ClockLine
+clock-line g before later t h f = clock-changes-nothing (after (opened g) before) t later h f

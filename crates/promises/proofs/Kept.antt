@@ -1,0 +1,135 @@
+-- The promises, each from the law of a run.
+use Prim.Native.Nat.{ℕ, _+_, _≤_}
+use native.Mathlib.Omega.{arith}
+use mathlib.Core.Path.{_≡_, refl, sym, _∙_}
+use mathlib.Core.Bool.{Bool, true, false, _||_}
+use mathlib.Core.List.{List, [], _∷_, _++_}
+use Rattle.terms.specs.declared.Settings.{Settings}
+use Rattle.terms.specs.declared.Band.{Band}
+use Rattle.terms.specs.declared.Event.{Event}
+use Rattle.terms.specs.declared.Act.the-variants.{Enter}
+use Rattle.terms.specs.declared.Report.{Report}
+use Rattle.terms.specs.declared.Said.the-variants.{Trade, Slab}
+use Rattle.rules.specs.Slabs.{percentOf}
+use Rattle.rules.specs.Reference.{openingReference}
+use Rattle.book.specs.Matching.{reportAt}
+use Rattle.book.specs.Over.{tally}
+use Rattle.state.specs.Opening.{openedSession}
+use Rattle.state.specs.Day.{Day, opened}
+use Rattle.soundness.proofs.Days.{opened-sound}
+use Rattle.refusal.proofs.Accepted.{sound-not-two}
+use Rattle.acts.specs.Asked.{numbersTo}
+use Rattle.acts.specs.Heard.{lastSaid, initialBand, bandAfter, referenceAfter, touchedIn, touchedBy}
+use Rattle.acts.proofs.Hears.{Listener, listen, listenAll, EachFine, fine-at}
+use Rattle.engine.specs.Outcome.{after, told}
+use Rattle.engine.proofs.Kept.{outcome-verdict, outcome-few}
+use Rattle.promises.specs.Lots.{LotsKept, OrderKept}
+use Rattle.promises.specs.Given.{GivenInOrder}
+use Rattle.promises.specs.Within.{TradesWithin}
+use Rattle.promises.specs.Slabs.{NeverNarrows, WidensAfterTouch, WidensToEnhanced}
+use Rattle.promises.specs.Always.{AlwaysSound, NeverTwo, TimeForward, ReportsForward, ReportsFit}
+use Rattle.promises.proofs.Runs.{after-append, run-sound, run-forward, run-kept, run-counts, run-fine, run-asked}
+
+pub lots-kept : LotsKept
+unfolding tally
+lots-kept g es id = omega (arith, run-kept id (opened g) es)
+
+-- of one order: its lots are all that its number ever asks for
+pub order-kept : OrderKept
+order-kept g before later t n h =
+    sym (run-asked (opened g) before later t n h)
+    ∙ lots-kept g (before ++ (record { time = t; act = Enter n } ∷ later)) (after (opened g) before .session .given + 1)
+
+pub given-in-order : GivenInOrder
+unfolding openedSession numbersTo
+given-in-order g es = run-counts (opened g) es
+
+pub always-sound : AlwaysSound
+always-sound g es h = run-sound (opened g) es (opened-sound g h)
+
+pub never-two : NeverTwo
+never-two g es e h c =
+    let d : Day = after (opened g) es in
+    sound-not-two d e (always-sound g es h) (rw (outcome-verdict d e) at c)
+
+pub time-forward : TimeForward
+time-forward g es more = rw (after-append (opened g) es more) (run-forward (after (opened g) es) more)
+
+pub reports-fit : ReportsFit
+reports-fit d e = outcome-few d e
+
+-- ---- what a listener has heard, by the definitions of what was said
+
+-- at the opening: the settings alone
+abbrev first : Settings → Listener
+first g = record { band = initialBand g; reference = openingReference (g .base) (g .under) (g .days); time = 0; past = [] }
+
+band-heard : (l : Listener) (rs : List Report) → listenAll l rs .band ≡ lastSaid bandAfter (l .band) rs
+unfolding listenAll lastSaid
+band-heard l [] = refl
+band-heard l (r ∷ rs) = band-heard (listen l r) rs
+
+reference-heard : (l : Listener) (rs : List Report) → listenAll l rs .reference ≡ lastSaid referenceAfter (l .reference) rs
+unfolding listenAll lastSaid
+reference-heard l [] = refl
+reference-heard l (r ∷ rs) = reference-heard (listen l r) rs
+
+swap : (a b c : Bool) → (a || (b || c)) ≡ (b || (a || c))
+swap true true c = refl
+swap true false c = refl
+swap false true c = refl
+swap false false c = refl
+
+-- the past, newest first, has the same touches
+past-heard : (b : Band) (t : ℕ) (l : Listener) (rs : List Report) →
+    touchedBy b t (listenAll l rs .past) ≡ (touchedBy b t rs || touchedBy b t (l .past))
+unfolding listenAll touchedBy
+past-heard b t l [] = refl
+past-heard b t l (r ∷ rs) =
+    past-heard b t (listen l r) rs
+    ∙ swap (touchedBy b t rs) (touchedIn b t (r .time) (r .said)) (touchedBy b t (l .past))
+    ∙ or-assoc (touchedIn b t (r .time) (r .said)) (touchedBy b t rs) (touchedBy b t (l .past))
+  where
+    or-assoc : (a b c : Bool) → (a || (b || c)) ≡ ((a || b) || c)
+    or-assoc true b c = refl
+    or-assoc false b c = refl
+
+or-false : (a : Bool) → (a || false) ≡ true → a ≡ true
+or-false true e = refl
+or-false false e = e
+
+all-fine : (g : Settings) (es : List Event) → EachFine g (first g) (told (opened g) es)
+unfolding openedSession percentOf
+all-fine g es =
+    run-fine g (first g) (opened g) es refl (record { band-same = refl; reference-same = refl; time-past = omega arith; cooled = refl })
+
+pub trades-within : TradesWithin
+trades-within g es before later t deal e =
+    let f = fine-at g (first g) before later (reportAt t (Trade deal)) (rw e at (all-fine g es)) .1 in
+    (rw (band-heard (first g) before) at (f .0), rw (reference-heard (first g) before) at (f .1))
+
+pub never-narrows : NeverNarrows
+never-narrows g es before later t band e x h =
+    let f = fine-at g (first g) before later (reportAt t (Slab band)) (rw e at (all-fine g es)) .1 in
+    f .wider x (rw (band-heard (first g) before) h)
+
+pub widens-after-touch : WidensAfterTouch
+unfolding touchedBy
+widens-after-touch g es before later t band e =
+    let f = fine-at g (first g) before later (reportAt t (Slab band)) (rw e at (all-fine g es)) .1 in
+    or-false (touchedBy (initialBand g) t before) (sym (past-heard (initialBand g) t (first g) before) ∙ f .touched)
+
+pub widens-to-enhanced : WidensToEnhanced
+widens-to-enhanced g es before later t band e =
+    let f = fine-at g (first g) before later (reportAt t (Slab band)) (rw e at (all-fine g es)) .1 in
+    (rw (band-heard (first g) before) at (f .before), f .told)
+
+-- two reports, one after the other
+two-forward : (g : Settings) (l : Listener) (before later : List Report) (r r′ : Report) → EachFine g l (before ++ (r ∷ (r′ ∷ later))) →
+    r .time ≤ r′ .time
+unfolding EachFine
+two-forward g l [] later r r′ f = f .1 .0 .0
+two-forward g l (x ∷ xs) later r r′ f = two-forward g (listen l x) xs later r r′ (f .1)
+
+pub reports-forward : ReportsForward
+reports-forward g es before later r r′ e = two-forward g (first g) before later r r′ (rw e at (all-fine g es))

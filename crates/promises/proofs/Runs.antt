@@ -1,0 +1,130 @@
+-- The laws of one event, carried over a run by induction.
+use Prim.Native.Nat.{ℕ, _+_, _≤_, _<_}
+use native.Mathlib.Omega.{arith}
+use native.Mathlib.Nat.{le-refl, le-trans}
+use mathlib.Core.Path.{_≡_, refl, sym, ap, _∙_, subst}
+use mathlib.Core.Bool.{true}
+use mathlib.Core.List.{List, [], _∷_, _++_, append-assoc, append-nil}
+use Rattle.terms.specs.declared.Settings.{Settings}
+use Rattle.terms.specs.declared.Entry.{Entry}
+use Rattle.terms.specs.declared.Event.{Event}
+use Rattle.terms.specs.declared.Act.the-variants.{Enter}
+use Rattle.terms.specs.declared.Report.{Report}
+use Rattle.terms.specs.declared.Verdict.the-variants.{Fine}
+use Rattle.book.specs.Told.{total, tradedIn, cancelledIn, traded, cancelled}
+use Rattle.book.proofs.Remainder.{total-append}
+use Rattle.state.specs.Day.{Day}
+use Rattle.soundness.specs.Sound.{sound}
+use Rattle.acts.specs.Asked.{resting, accepts, numbersTo}
+use Rattle.acts.proofs.Numbers.{accepts-append}
+use Rattle.acts.proofs.Hears.{Listener, listenAll, EachFine, KnowsOf, TellsOf, fine-append}
+use Rattle.engine.specs.Outcome.{outcome, after, told}
+use Rattle.engine.proofs.Kept.{outcome-sound, outcome-kept, outcome-counts, outcome-tells, outcome-settings, outcome-forward, outcome-given, accepted-asks, asks-old, asks-new}
+use Rattle.promises.specs.Lots.{asked}
+
+-- ---- two runs, one after the other
+
+pub after-append : (d : Day) (es more : List Event) → after d (es ++ more) ≡ after (after d es) more
+unfolding after
+after-append d [] more = refl
+after-append d (e ∷ es) more = after-append (outcome d e .day) es more
+
+pub told-append : (d : Day) (es more : List Event) → told d (es ++ more) ≡ told d es ++ told (after d es) more
+unfolding after told
+told-append d [] more = refl
+told-append d (e ∷ es) more =
+    ap (λ (l : List Report). outcome d e .reports ++ l) (told-append (outcome d e .day) es more)
+    ∙ sym (append-assoc (outcome d e .reports) (told (outcome d e .day) es) (told (after (outcome d e .day) es) more))
+
+-- ---- the laws
+
+pub run-sound : (d : Day) (es : List Event) → sound d ≡ true → sound (after d es) ≡ true
+unfolding after
+run-sound d [] h = h
+run-sound d (e ∷ es) h = run-sound (outcome d e .day) es (outcome-sound d e h)
+
+pub run-forward : (d : Day) (es : List Event) → d .session .time ≤ after d es .session .time
+unfolding after
+run-forward d [] = le-refl (d .session .time)
+run-forward d (e ∷ es) = le-trans (outcome-forward d e) (run-forward (outcome d e .day) es)
+
+pub run-kept : (id : ℕ) (d : Day) (es : List Event) →
+    asked id d es + resting id d ≡ traded id (told d es) + cancelled id (told d es) + resting id (after d es)
+unfolding asked told after total
+run-kept id d [] = omega arith
+run-kept id d (e ∷ es) =
+    let d′ : Day = outcome d e .day in
+    omega (
+      arith,
+      outcome-kept id d e,
+      run-kept id d′ es,
+      total-append (tradedIn id) (outcome d e .reports) (told d′ es),
+      total-append (cancelledIn id) (outcome d e .reports) (told d′ es),
+    )
+
+pub run-counts : (d : Day) (es : List Event) → numbersTo (d .session .given) ++ accepts (told d es) ≡ numbersTo (after d es .session .given)
+unfolding told after accepts
+run-counts d [] = append-nil (numbersTo (d .session .given))
+run-counts d (e ∷ es) =
+    let d′ : Day = outcome d e .day in
+    ap (λ (l : List ℕ). numbersTo (d .session .given) ++ l) (accepts-append (outcome d e .reports) (told d′ es))
+    ∙ sym (append-assoc (numbersTo (d .session .given)) (accepts (outcome d e .reports)) (accepts (told d′ es)))
+    ∙ ap (λ (l : List ℕ). l ++ accepts (told d′ es)) (outcome-counts d e)
+    ∙ run-counts d′ es
+
+pub run-fine : (g : Settings) (l : Listener) (d : Day) (es : List Event) → d .session .settings ≡ g → KnowsOf g l (d .session) →
+    EachFine g l (told d es)
+unfolding told EachFine
+run-fine g l d [] k m = tt
+run-fine g l d (e ∷ es) k m =
+    let rs : List Report = outcome d e .reports in
+    let d′ : Day = outcome d e .day in
+    let p : TellsOf g l rs (d′ .session) =
+    subst (λ (x : Settings). KnowsOf x l (d .session) → TellsOf x l rs (d′ .session)) k (outcome-tells d e l) m in
+    fine-append g l rs (told d′ es) (p .fine) (run-fine g (listenAll l rs) d′ es (outcome-settings d e ∙ k) (p .known))
+
+-- ---- the number of an order over a run
+
+asked-append : (id : ℕ) (d : Day) (es more : List Event) → asked id d (es ++ more) ≡ asked id d es + asked id (after d es) more
+unfolding asked after
+asked-append id d [] more = omega arith
+asked-append id d (e ∷ es) more = omega (arith, asked-append id (outcome d e .day) es more)
+
+run-given : (d : Day) (es : List Event) → d .session .given ≤ after d es .session .given
+unfolding after
+run-given d [] = le-refl (d .session .given)
+run-given d (e ∷ es) = le-trans (outcome-given d e) (run-given (outcome d e .day) es)
+
+-- a number that was given before is asked for no more
+run-old : (id : ℕ) (d : Day) (es : List Event) → id ≤ d .session .given → asked id d es ≡ 0
+unfolding asked
+run-old id d [] h = refl
+run-old id d (e ∷ es) h = omega (arith, asks-old id d e h, run-old id (outcome d e .day) es (le-trans h (outcome-given d e)))
+
+-- and one that is not given at the end was not asked for
+run-new : (id : ℕ) (d : Day) (es : List Event) → after d es .session .given < id → asked id d es ≡ 0
+unfolding asked after
+run-new id d [] h = refl
+run-new id d (e ∷ es) h =
+    let d′ : Day = outcome d e .day in
+    omega (arith, asks-new id d e (omega (arith, run-given d′ es)), run-new id d′ es h)
+
+-- so the lots that a number asks for in a run are those of the one order that has it
+pub run-asked : (d : Day) (before later : List Event) (t : ℕ) (n : Entry) → outcome (after d before) (record {
+  time = t;
+  act = Enter n;
+}) .verdict ≡ Fine →
+    asked (after d before .session .given + 1) d (before ++ (record { time = t; act = Enter n } ∷ later)) ≡ n .lots
+unfolding asked
+run-asked d before later t n h =
+    let e : Event = record { time = t; act = Enter n } in
+    let d′ : Day = after d before in
+    let id : ℕ = d′ .session .given + 1 in
+    let k = accepted-asks d′ t n h in
+    omega (
+      arith,
+      asked-append id d before (e ∷ later),
+      run-new id d before (omega arith),
+      k .0,
+      run-old id (outcome d′ e .day) later (omega (arith, k .1)),
+    )

@@ -1,0 +1,52 @@
+-- A CLOCK LINE CHANGES NO TRADE. A clock event may move slab and ref reports to itself; every refusal and every other report stays.
+use Prim.Native.Nat.{ℕ, _≤_}
+use mathlib.Core.Path.{_≡_}
+use mathlib.Core.List.{List, [], _∷_, _++_}
+use Rattle.terms.specs.declared.Settings.{Settings}
+use Rattle.terms.specs.declared.Event.{Event}
+use Rattle.terms.specs.declared.Act.the-variants.{Clock}
+use Rattle.terms.specs.declared.Report.{Report}
+use Rattle.terms.specs.declared.Said.{Said}
+use Rattle.terms.specs.declared.Said.the-variants.{Accept, Trade, Convert, Cancel, Slab, Ref, Close}
+use Rattle.terms.specs.declared.Verdict.{Verdict}
+use Rattle.terms.specs.declared.Verdict.the-variants.{Fine}
+use Rattle.state.specs.Day.{Day, opened}
+use Rattle.engine.specs.Outcome.{outcome, after}
+
+abbrev pub clockAt : ℕ → Event
+clockAt t = record { time = t; act = Clock }
+
+-- a report, if it is neither slab nor ref
+abbrev pub plainOne : Report → Said → List Report
+plainOne r (Accept number) = r ∷ []
+plainOne r (Trade deal) = r ∷ []
+plainOne r (Convert order) = r ∷ []
+plainOne r (Cancel ended) = r ∷ []
+plainOne r (Slab band) = []
+plainOne r (Ref price) = []
+plainOne r (Close closing) = r ∷ []
+
+-- acceptances, trades, conversions, cancels and closing prices
+unfoldable pub plain : List Report → List Report
+plain [] = []
+plain (r ∷ rs) = plainOne r (r .said) ++ plain rs
+
+-- what an event is answered, slab and ref left out
+pub record Reply : Type 0 where
+  pub verdict : Verdict
+  pub reports : List Report
+
+unfoldable pub replies : Day → List Event → List Reply
+replies d [] = []
+replies d (e ∷ es) = record { verdict = outcome d e .verdict; reports = plain (outcome d e .reports) } ∷ replies (outcome d e .day) es
+
+-- none of the events is before time t
+abbrev pub From : ℕ → List Event → Type 0
+From t [] = Unit {0}
+From t (e ∷ es) = (t ≤ e .time) × From t es
+
+-- after any events, a clock event that is accepted and not later than those that follow changes no answer to them
+abbrev pub ClockLine : Type 0
+ClockLine =
+    (g : Settings) (before later : List Event) (t : ℕ) → outcome (after (opened g) before) (clockAt t) .verdict ≡ Fine → From t later →
+    replies (outcome (after (opened g) before) (clockAt t) .day) later ≡ replies (after (opened g) before) later

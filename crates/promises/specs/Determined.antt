@@ -1,0 +1,35 @@
+-- DETERMINACY: what a contract allows for one input is one result. Two results of a call coincide, with every lent number.
+use Prim.Native.Nat.{ℕ}
+use mathlib.Core.Path.{_≡_}
+use mathlib.Core.List.{List}
+use Rattle.terms.specs.declared.Settings.{Settings}
+use Rattle.terms.specs.declared.Event.{Event}
+use Rattle.terms.specs.declared.Side.{Side}
+use Rattle.state.specs.declared.Session.{Session}
+use Rattle.state.specs.declared.Opened.{Opened}
+use Rattle.state.specs.Opening.{openingOf}
+use Rattle.engine.specs.declared.Applied.{Applied}
+use Rattle.engine.specs.Calls.{AppliedAs, viewCall}
+
+-- `state::opening::begin`
+abbrev pub OpeningDetermined : Type 0
+OpeningDetermined = (g : Settings) (r r′ : Opened) → r ≡ openingOf g → r′ ≡ openingOf g → r ≡ r′
+
+-- `engine::looking::view`
+abbrev pub ViewDetermined : Type 0
+ViewDetermined =
+    (side : Side) (s : Session) (buys sells r r′ : List ℕ) → r ≡ viewCall side s buys sells → r′ ≡ viewCall side s buys sells → r ≡ r′
+
+-- all that a call of `engine::apply` answers and leaves
+pub record Coincide (buys sells room buys′ sells′ room′ : List ℕ) (r r′ : Applied) : Type 0 where
+  pub answer : r .answer ≡ r′ .answer
+  pub session : r .session ≡ r′ .session
+  pub bought : buys ≡ buys′
+  pub sold : sells ≡ sells′
+  pub told : room ≡ room′
+
+abbrev pub ApplyDetermined : Type 0
+ApplyDetermined =
+    (s : Session) (e : Event) (buys sells room buys₁ sells₁ room₁ buys₂ sells₂ room₂ : List ℕ) (r₁ r₂ : Applied) →
+    AppliedAs s e buys sells room buys₁ sells₁ room₁ r₁ → AppliedAs s e buys sells room buys₂ sells₂ room₂ r₂ →
+    Coincide buys₁ sells₁ room₁ buys₂ sells₂ room₂ r₁ r₂

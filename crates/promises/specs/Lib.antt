@@ -1,0 +1,9 @@
+pub mod Lots
+pub mod Given
+pub mod Within
+pub mod Slabs
+pub mod Always
+pub mod ClockLine
+pub mod Cases
+pub mod Runs
+pub mod Determined

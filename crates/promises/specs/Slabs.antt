@@ -1,0 +1,38 @@
+-- THE BAND NEVER NARROWS, and it widens only after a reported trade at an end of the initial band at least 900,000 ms before, and once,
+-- to the percent "initial plus enhanced".
+use Prim.Native.Nat.{ℕ}
+use mathlib.Core.Path.{_≡_}
+use mathlib.Core.Bool.{true}
+use mathlib.Core.List.{List, _∷_, _++_}
+use Rattle.terms.specs.declared.Settings.{Settings}
+use Rattle.terms.specs.declared.Band.{Band}
+use Rattle.terms.specs.declared.Event.{Event}
+use Rattle.terms.specs.declared.Report.{Report}
+use Rattle.terms.specs.declared.Said.the-variants.{Slab}
+use Rattle.rules.specs.Slabs.{inBand}
+use Rattle.book.specs.Matching.{reportAt}
+use Rattle.state.specs.Day.{opened}
+use Rattle.acts.specs.Heard.{initialBand, enhancedBand, bandSaid, touchedBy}
+use Rattle.engine.specs.Outcome.{told}
+
+-- in any run from an opening, a slab report stands at t
+abbrev pub Widened : Settings → List Event → List Report → ℕ → Band → List Report → Type 0
+Widened g es before t band later = told (opened g) es ≡ before ++ (reportAt t (Slab band) ∷ later)
+
+-- a price in the band that was told before it is in the band that it tells
+abbrev pub NeverNarrows : Type 0
+NeverNarrows =
+    (g : Settings) (es : List Event) (before later : List Report) (t : ℕ) (band : Band) → Widened g es before t band later →
+    (x : ℕ) → inBand (bandSaid g before) x ≡ true → inBand band x ≡ true
+
+-- before it stands a trade at an end of the initial band, 900,000 ms before t or more
+abbrev pub WidensAfterTouch : Type 0
+WidensAfterTouch =
+    (g : Settings) (es : List Event) (before later : List Report) (t : ℕ) (band : Band) → Widened g es before t band later →
+    touchedBy (initialBand g) t before ≡ true
+
+-- the band was the initial one until then, and becomes the enhanced one
+abbrev pub WidensToEnhanced : Type 0
+WidensToEnhanced =
+    (g : Settings) (es : List Event) (before later : List Report) (t : ℕ) (band : Band) → Widened g es before t band later →
+    (bandSaid g before ≡ initialBand g) × (band ≡ enhancedBand g)
