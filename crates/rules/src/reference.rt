@@ -8,6 +8,9 @@ ghost use Prim.Native.Nat.{_≤_};
 ghost use Rattle.terms.specs.Sizes.{priceMost, daysMost, timeMost};
 ghost use Rattle.rules.specs.Reference.{theoreticalOr, minuteAfter, quiet, reckoned, MinuteFits, RangeFits, rangeOf, inRange};
 
+// The greatest reference: what a theoretical price can come to.
+pub const MOST: u64 = 110_600_000;
+
 // The theoretical price, or the other where no underlying is known.
 pub fn theoretical_or(other: u64, under: u64, days: u64) -> u64
     requires { ⌜ (under ≤ priceMost) × (days ≤ daysMost) ⌝ }

@@ -42,7 +42,8 @@ const SLABS: [Row; 8] = [
     },
 ];
 
-const COOLING: u64 = 900_000;
+// How long a cooling-off lasts.
+pub const COOLING: u64 = 900_000;
 
 // The row of a category.
 pub fn slab_of(c: Category) -> Row

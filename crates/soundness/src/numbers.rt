@@ -13,11 +13,6 @@ ghost use Rattle.rules.specs.Close.{kept};
 ghost use Rattle.soundness.specs.Dividing.{Dividing};
 ghost use Rattle.soundness.specs.Sound.{timeSound, countsSound, slabSound, numbersSound, every, priceSound, rememberedSound, halfSound, minuteSound};
 
-// The greatest reference, and how far ahead a cooling-off can end.
-const REFERENCE: u64 = 110_600_000;
-
-const COOLING: u64 = 900_000;
-
 pub fn time_sound(s: Session) -> bool
     ensures { λ r. ⌜ r ≡ timeSound s ⌝ }
 {
@@ -37,7 +32,7 @@ pub fn slab_sound(s: Session) -> bool
     requires { ⌜ s .time ≤ timeMost ⌝ }
     ensures { λ r. ⌜ r ≡ slabSound s ⌝ }
 {
-    let end = s.time + COOLING;
+    let end = s.time + rules::slabs::COOLING;
     let once = s.widened <= 1;
     let initial = (s.widened == 0) | (s.cooling == 0);
     let near = s.cooling <= end;
@@ -47,7 +42,8 @@ pub fn slab_sound(s: Session) -> bool
 pub fn numbers_sound(s: Session) -> bool
     ensures { λ r. ⌜ r ≡ numbersSound s ⌝ }
 {
-    let reference = (1 <= s.reckoning.reference) & (s.reckoning.reference <= REFERENCE);
+    let reference = (1 <= s.reckoning.reference)
+        & (s.reckoning.reference <= rules::reference::MOST);
     let under = s.under <= sizes::PRICE;
     let given = s.given <= sizes::NUMBERS;
     let trades = s.tape.trades <= sizes::TRADES + (sizes::SLOTS as u64);

@@ -1,0 +1,30 @@
+-- The bytes from a place on, as the part of a slice, and what an answer there says of lines. Assumes nothing.
+use Prim.Native.Nat.{ℕ, _-_, _<_}
+use native.Mathlib.Nat.{le-of-eq, le-of-lt}
+use mathlib.Core.Path.{_≡_, sym, ap, _∙_}
+use mathlib.Core.List.{List, []}
+use lib.ListN.{length, take, drop, length-drop, drop-of-length-le}
+use lib.Seq.{take-all}
+use Rattle.reading.specs.declared.ReadEvent.{ReadEvent}
+use Rattle.reading.specs.Answers.{EventRead, eventAnswer, readEvent}
+use Rattle.reading.proofs.EventLines.{event-told, event-right}
+use Rattle.journal.specs.Walk.{eventFrom}
+
+-- the part of the slice from a place to its end is the bytes from the place on
+part-is : (bytes : List ℕ) (place : ℕ) → take (length bytes - place) (drop place bytes) ≡ drop place bytes
+part-is bytes place = take-all (length bytes - place) (drop place bytes) (le-of-eq (length-drop place bytes))
+
+-- what is read of that part is the answer at the place
+pub read-there : (bytes : List ℕ) (place : ℕ) (r : ReadEvent) → EventRead (take (length bytes - place) (drop place bytes)) r → eventAnswer r ≡ eventFrom bytes place
+unfolding eventFrom
+read-there bytes place r a = event-told (take (length bytes - place) (drop place bytes)) r a ∙ ap readEvent (part-is bytes place)
+
+-- what is read of no bytes is the answer at a place past the end
+pub read-past : (bytes : List ℕ) (place : ℕ) (r : ReadEvent) → length bytes < place → EventRead [] r → eventAnswer r ≡ eventFrom bytes place
+unfolding eventFrom
+read-past bytes place r past a = event-told [] r a ∙ ap readEvent (sym (drop-of-length-le bytes (le-of-lt past)))
+
+-- the answer at a place is the right one for the bytes from there on, by what a line is
+pub right-there : (bytes : List ℕ) (place : ℕ) (r : ReadEvent) → eventAnswer r ≡ eventFrom bytes place → EventRead (drop place bytes) r
+unfolding eventFrom
+right-there bytes place r q = record { right = rw q (event-right (drop place bytes)) }
