@@ -1,6 +1,15 @@
--- Each result is an equation against the definitions, so two are equal.
-use mathlib.Core.Path.{sym, _∙_}
-use Rattle.promises.specs.Determined.{OpeningDetermined, ViewDetermined, ApplyDetermined}
+-- Each result is an equation against the definitions, or the one right answer to bytes, so two are equal.
+use mathlib.Core.Path.{_≡_, refl, sym, ap, _∙_}
+use Rattle.terms.specs.declared.Event.{Event}
+use Rattle.terms.specs.declared.Settings.{Settings}
+use Rattle.text.specs.Grammar.{Answer, whole, unfinished, wrong}
+use Rattle.reading.specs.declared.ReadEvent.{ReadEvent}
+use Rattle.reading.specs.declared.ReadSettings.{ReadSettings}
+use Rattle.reading.specs.Answers.{eventAnswer, settingsAnswer}
+use Rattle.reading.proofs.EventLines.{event-only}
+use Rattle.reading.proofs.SettingsLines.{settings-only}
+use Rattle.writing.proofs.Back.{writes-one}
+use Rattle.promises.specs.Determined.{OpeningDetermined, ViewDetermined, ApplyDetermined, EventReadDetermined, SettingsReadDetermined, WriteDetermined}
 
 pub opening-determined : OpeningDetermined
 opening-determined g r r′ e f = e ∙ sym f
@@ -17,3 +26,35 @@ apply-determined s e buys sells room buys₁ sells₁ room₁ buys₂ sells₂ r
       sold = a .sold ∙ sym (b .sold);
       told = a .told ∙ sym (b .told);
     }
+
+-- a reader's answer is told by the answer that it stands for
+abbrev eventBack : Answer Event → ReadEvent
+eventBack (whole e n) = ReadEvent.Whole e n
+eventBack unfinished = ReadEvent.Unfinished
+eventBack (wrong n) = ReadEvent.Wrong n
+
+event-same : (r : ReadEvent) → eventBack (eventAnswer r) ≡ r
+event-same (ReadEvent.Whole e n) = refl
+event-same ReadEvent.Unfinished = refl
+event-same (ReadEvent.Wrong n) = refl
+
+pub event-read-determined : EventReadDetermined
+event-read-determined bytes r r′ a b =
+    sym (event-same r) ∙ (ap eventBack (event-only bytes (eventAnswer r) (eventAnswer r′) (a .right) (b .right)) ∙ event-same r′)
+
+abbrev settingsBack : Answer Settings → ReadSettings
+settingsBack (whole g n) = ReadSettings.Whole g n
+settingsBack unfinished = ReadSettings.Unfinished
+settingsBack (wrong n) = ReadSettings.Wrong n
+
+settings-same : (r : ReadSettings) → settingsBack (settingsAnswer r) ≡ r
+settings-same (ReadSettings.Whole g n) = refl
+settings-same ReadSettings.Unfinished = refl
+settings-same (ReadSettings.Wrong n) = refl
+
+pub settings-read-determined : SettingsReadDetermined
+settings-read-determined bytes r r′ a b =
+    sym (settings-same r) ∙ (ap settingsBack (settings-only bytes (settingsAnswer r) (settingsAnswer r′) (a .right) (b .right)) ∙ settings-same r′)
+
+pub write-determined : WriteDetermined
+write-determined room line numbers room₁ room₂ r₁ r₂ a b = writes-one a b

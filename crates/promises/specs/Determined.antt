@@ -10,6 +10,11 @@ use Rattle.state.specs.declared.Opened.{Opened}
 use Rattle.state.specs.Opening.{openingOf}
 use Rattle.engine.specs.declared.Applied.{Applied}
 use Rattle.engine.specs.Calls.{AppliedAs, viewCall}
+use Rattle.reading.specs.declared.ReadEvent.{ReadEvent}
+use Rattle.reading.specs.declared.ReadSettings.{ReadSettings}
+use Rattle.reading.specs.Answers.{EventRead, SettingsRead}
+use Rattle.writing.specs.declared.Wrote.{Wrote}
+use Rattle.writing.specs.Writes.{Writes}
 
 -- `state::opening::begin`
 abbrev pub OpeningDetermined : Type 0
@@ -33,3 +38,14 @@ ApplyDetermined =
     (s : Session) (e : Event) (buys sells room buys₁ sells₁ room₁ buys₂ sells₂ room₂ : List ℕ) (r₁ r₂ : Applied) →
     AppliedAs s e buys sells room buys₁ sells₁ room₁ r₁ → AppliedAs s e buys sells room buys₂ sells₂ room₂ r₂ →
     Coincide buys₁ sells₁ room₁ buys₂ sells₂ room₂ r₁ r₂
+
+-- `reading::read_event` and `reading::read_settings`
+abbrev pub EventReadDetermined : Type 0
+EventReadDetermined = (bytes : List ℕ) (r r′ : ReadEvent) → EventRead bytes r → EventRead bytes r′ → r ≡ r′
+
+abbrev pub SettingsReadDetermined : Type 0
+SettingsReadDetermined = (bytes : List ℕ) (r r′ : ReadSettings) → SettingsRead bytes r → SettingsRead bytes r′ → r ≡ r′
+
+-- every writer of lines: the answer and each byte of the room
+abbrev pub WriteDetermined : Type 0
+WriteDetermined = (room line numbers room₁ room₂ : List ℕ) (r₁ r₂ : Wrote) → Writes room line numbers r₁ room₁ → Writes room line numbers r₂ room₂ → (r₁ ≡ r₂) × (room₁ ≡ room₂)
