@@ -1,0 +1,104 @@
+// What a line of input does.
+use crate::calling;
+use crate::lines;
+use crate::says;
+use crate::setting;
+use state::Session;
+use tables::orders;
+use terms::Order;
+use terms::sizes;
+
+// Tables and a room that are longer than they must be.
+pub const LONG: usize = sizes::TABLE + 32;
+
+pub const ROOM: usize = sizes::ROOM + 30;
+
+fn set(t: &mut [u64], place: u64, value: u64) {
+    if place < (t.len() as u64) {
+        t[place as usize] = value;
+    }
+}
+
+// Orders of one price and as many lots each, numbered from the first on, as many as the table has place for.
+fn put_orders(t: &mut [u64], count: u64, first: u64, price: u64, lots: u64) {
+    let mut at: usize = 0;
+    let mut put: u64 = 0;
+    while at + sizes::WIDTH <= t.len() {
+        if count <= put {
+            return;
+        }
+        let o = Order {
+            number: first % 1_000_000 + put,
+            price: price,
+            lots: lots,
+        };
+        orders::store(t, at, o);
+        at += sizes::WIDTH;
+        put += 1;
+    }
+}
+
+// A line that goes to one table.
+fn edit(t: &mut [u64], w: [u64; 9]) {
+    if w[0] == 2 {
+        set(t, w[2], w[3]);
+        return;
+    }
+    put_orders(t, w[2], w[3], w[4], w[5]);
+}
+
+fn edit_named(buys: &mut [u64], sells: &mut [u64], w: [u64; 9]) {
+    if w[1] == 0 {
+        edit(buys, w);
+        return;
+    }
+    edit(sells, w);
+}
+
+// The session, and a sum of all numbers of the tables and the room.
+fn show(s: Session, buys: &[u64], sells: &[u64], room: &[u64]) {
+    says::session(s);
+    says::sum(buys);
+    says::sum(sells);
+    says::sum(room);
+    says::end();
+}
+
+fn turn(s: Session, w: [u64; 9], buys: &mut [u64], sells: &mut [u64], room: &mut [u64]) -> Session {
+    if w[0] == 0 {
+        let opened = calling::begin(w);
+        let verdict = opened.verdict;
+        let r = opened.session;
+        says::verdict(verdict);
+        show(r, buys, sells, room);
+        return r;
+    }
+    if w[0] == 1 {
+        return setting::session_with(s, w[1], w[2]);
+    }
+    if w[0] == 4 {
+        let r = calling::apply_event(s, w, buys, sells, room);
+        show(r, buys, sells, room);
+        return r;
+    }
+    if w[0] == 5 {
+        calling::look(s, w, buys, sells);
+        says::end();
+        return s;
+    }
+    edit_named(buys, sells, w);
+    s
+}
+
+// Line after line, to the end of the input; it begins with the session of a refused opening.
+pub fn run(text: &[u8], buys: &mut [u64], sells: &mut [u64], room: &mut [u64]) {
+    let first = calling::begin([0; 9]);
+    let mut s = first.session;
+    let mut at: usize = 0;
+    while at < text.len() {
+        let l = lines::nine(text, at);
+        let w = l.words;
+        s = turn(s, w, buys, sells, room);
+        at = l.next;
+    }
+}
