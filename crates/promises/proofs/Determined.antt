@@ -8,8 +8,9 @@ use Rattle.reading.specs.declared.ReadSettings.{ReadSettings}
 use Rattle.reading.specs.Answers.{eventAnswer, settingsAnswer}
 use Rattle.reading.proofs.EventLines.{event-only}
 use Rattle.reading.proofs.SettingsLines.{settings-only}
+use Rattle.records.proofs.Told.{told-only}
 use Rattle.writing.proofs.Back.{writes-one}
-use Rattle.promises.specs.Determined.{OpeningDetermined, ViewDetermined, ApplyDetermined, EventReadDetermined, SettingsReadDetermined, WriteDetermined}
+use Rattle.promises.specs.Determined.{OpeningDetermined, ViewDetermined, ApplyDetermined, EventReadDetermined, SettingsReadDetermined, WriteDetermined, RecordReadDetermined}
 
 pub opening-determined : OpeningDetermined
 opening-determined g r r′ e f = e ∙ sym f
@@ -58,3 +59,6 @@ settings-read-determined bytes r r′ a b =
 
 pub write-determined : WriteDetermined
 write-determined room line numbers room₁ room₂ r₁ r₂ a b = writes-one a b
+
+pub record-read-determined : RecordReadDetermined
+record-read-determined = told-only

@@ -13,6 +13,8 @@ use Rattle.engine.specs.Calls.{AppliedAs, viewCall}
 use Rattle.reading.specs.declared.ReadEvent.{ReadEvent}
 use Rattle.reading.specs.declared.ReadSettings.{ReadSettings}
 use Rattle.reading.specs.Answers.{EventRead, SettingsRead}
+use Rattle.records.specs.declared.ReadRecord.{ReadRecord}
+use Rattle.records.specs.Back.{RecordRead}
 use Rattle.writing.specs.declared.Wrote.{Wrote}
 use Rattle.writing.specs.Writes.{Writes}
 
@@ -49,3 +51,7 @@ SettingsReadDetermined = (bytes : List ℕ) (r r′ : ReadSettings) → Settings
 -- every writer of lines: the answer and each byte of the room
 abbrev pub WriteDetermined : Type 0
 WriteDetermined = (room line numbers room₁ room₂ : List ℕ) (r₁ r₂ : Wrote) → Writes room line numbers r₁ room₁ → Writes room line numbers r₂ room₂ → (r₁ ≡ r₂) × (room₁ ≡ room₂)
+
+-- `records::read_record`
+abbrev pub RecordReadDetermined : Type 0
+RecordReadDetermined = (numbers : List ℕ) (r r′ : ReadRecord) → RecordRead numbers r → RecordRead numbers r′ → r ≡ r′
