@@ -9,4 +9,5 @@ pub mod Numbers
 pub mod Recalled
 pub mod Reports
 pub mod Says
+pub mod Small
 pub mod Stays

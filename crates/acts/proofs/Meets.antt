@@ -1,7 +1,7 @@
 -- An order accepted and matched: what its calls ask, and what they leave. Assumes nothing.
-use Prim.Native.Nat.{ℕ, _+_, _*_, _≤_, _<_}
+use Prim.Native.Nat.{ℕ, _+_, _*_, _≤_}
 use native.Mathlib.Omega.{arith}
-use mathlib.Core.Path.{_≡_, refl, sym, ap, _∙_}
+use mathlib.Core.Path.{_≡_, ap, _∙_}
 use mathlib.Core.List.{List, [], _∷_, _++_}
 use lib.ListN.{length, take, drop, length-take}
 use lib.Seq.{drop-at}
@@ -22,15 +22,14 @@ use Rattle.matching.specs.declared.Incoming.{Incoming}
 use Rattle.matching.specs.declared.Matched.{Matched}
 use Rattle.matching.specs.Sweeps.{sweptOf, SweptInto}
 use Rattle.book.specs.Over.{Each}
-use Rattle.book.specs.Matching.{Taker, taker, Swept, sweep, part, reportAt, tradeReports, ownLastOr}
-use Rattle.book.proofs.Conserve.{sweep-fewer}
-use Rattle.book.proofs.Fills.{each-swept}
+use Rattle.book.specs.Matching.{Swept, part, reportAt, tradeReports, ownLastOr}
+use Rattle.book.proofs.Conserve.{Fewer, sweep-fewer}
+use Rattle.book.proofs.Fills.{EachSwept, each-swept}
 use Rattle.book.proofs.Remainder.{length-trades}
 use Rattle.state.specs.declared.Session.{Session}
 use Rattle.state.specs.Set.{setGiven}
-use Rattle.state.specs.Now.{bandNow, rangeNow}
+use Rattle.state.specs.Now.{bandNow}
 use Rattle.state.specs.Trades.{withTrades, TradesFit}
-use Rattle.acts.specs.declared.Met.{Met}
 use Rattle.acts.specs.Acts.{lastIn, sweepIn}
 use Rattle.acts.specs.Written.{Written, fillsAt, Deals, EachDeals}
 use Rattle.acts.specs.Entering.{incomingIn, Meeting, MetAs}
@@ -63,7 +62,9 @@ module _ (s : Session) (band : Band) (n : Entry) (count : ℕ) (t room : List �
 
     few : length (swept .fills) ≤ count
     unfolding sweepIn
-    few = omega (arith, sweep-fewer (taker (n .side) (n .kind) (rangeNow s)) 0 (n .lots) (decode count t) .fills, length-decode count t)
+    few =
+        let f : Fewer (decode count t) swept = sweep-fewer _ 0 (n .lots) (decode count t) in
+        omega (arith, f .fills, length-decode count t)
 
     last-is : ownLastOr (x .last) (sweptOf x (decode count t) .fills) ≡ ownLastOr (lastIn s) (swept .fills)
     unfolding sweepIn
@@ -91,7 +92,9 @@ module _ (s : Session) (band : Band) (n : Entry) (count : ℕ) (t room : List �
 
     fills-deal : Each Deals (swept .fills)
     unfolding sweepIn
-    fills-deal = each-swept Deals deals-part (taker (n .side) (n .kind) (rangeNow s)) 0 (n .lots) (decode count t) (g .deals) .fills
+    fills-deal =
+        let e : EachSwept Deals swept = each-swept Deals deals-part _ 0 (n .lots) (decode count t) (g .deals) in
+        e .fills
 
     pub remember-asks : TradesFit (setGiven s (s .given + 1)) (m .trades) × (band ≡ bandNow s) × (m .trades ≤ slots) × (first + recordLength * m .trades ≤ length room′) × EachDeals (m .trades) (drop first room′)
     remember-asks =

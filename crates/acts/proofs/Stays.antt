@@ -90,7 +90,7 @@ module _ (s : Session) (d : Day) (h : BookOf s (d .buys) (d .sells)) (life : Lif
   entered-book Buy a = entered-sound (s .given) (s .settings .tick) (bandNow s) (d .buys) (d .sells) h Buy life kind range lots (lastIn s) a
   entered-book Sell a = entered-sound (s .given) (s .settings .tick) (bandNow s) (d .buys) (d .sells) h Sell life kind range lots (lastIn s) a
 
-  fills-fit : (side : Side) → Each (OrderFits (s .given) (s .settings .tick) (bandNow s)) (meets side .fills)
+  pub fills-fit : (side : Side) → Each (OrderFits (s .given) (s .settings .tick) (bandNow s)) (meets side .fills)
   fills-fit Buy = fills-sound (s .given) (s .settings .tick) (bandNow s) (d .buys) (d .sells) h Buy (taker Buy kind range) 0 lots
   fills-fit Sell = fills-sound (s .given) (s .settings .tick) (bandNow s) (d .buys) (d .sells) h Sell (taker Sell kind range) 0 lots
 
@@ -148,7 +148,7 @@ finished-stays d t settle h k m =
 -- ---- an event
 
 -- what every event but the close starts from
-begins : (d : Day) (t : ℕ) (a : Act) → Accepted d (record {
+pub begins : (d : Day) (t : ℕ) (a : Act) → Accepted d (record {
   time = t;
   act = a;
 }) → ltb t (d .session .settings .length) ≡ true → Ready (clockStep (d .session) t) d

@@ -3,3 +3,4 @@ pub mod Written
 pub mod Entering
 pub mod Asked
 pub mod Heard
+pub mod Small

@@ -14,15 +14,43 @@ use Rattle.terms.specs.declared.Verdict.the-variants.{Fine, Refused}
 use Rattle.terms.specs.Sizes.{tableLength, roomLength}
 use Rattle.terms.specs.Records.{recordsOf}
 use Rattle.terms.specs.Refusals.{firstFailed}
-use Rattle.terms.proofs.Logic.{both}
+use Rattle.terms.proofs.Logic.{both, cases}
 use Rattle.tables.proofs.Puts.{put-none}
 use Rattle.state.specs.declared.Session.{Session}
 use Rattle.soundness.specs.Sound.{dayIn}
 use Rattle.refusal.specs.Refusals.{refusalOf}
 use Rattle.acts.specs.Acts.{act}
+use Rattle.acts.specs.Small.{SmallReports}
+use Rattle.engine.specs.Outcome.{decided, outcome}
 use Rattle.engine.specs.declared.Answer.{Answer}
 use Rattle.engine.specs.declared.Applied.{Applied}
 use Rattle.engine.specs.Calls.{roomy, callVerdict, called, AppliedAs, ActedAs, Ready}
+use Rattle.engine.proofs.Kept.{outcome-small}
+
+-- ---- what a call comes to
+
+-- with room enough, to the outcome of its event,
+pub called-outcome : (s : Session) (e : Event) (buys sells room : List ℕ) → roomy buys sells room ≡ true →
+    called s e buys sells room ≡ outcome (dayIn s buys sells) e
+unfolding called callVerdict outcome refusalOf firstFailed
+called-outcome s e buys sells room h = rw h
+
+-- and without, to nothing
+pub called-short : (s : Session) (e : Event) (buys sells room : List ℕ) → roomy buys sells room ≡ false →
+    called s e buys sells room ≡ decided (Refused SmallRoom) (dayIn s buys sells) (act (dayIn s buys sells) e)
+unfolding called callVerdict firstFailed
+called-short s e buys sells room h = rw h
+
+-- so no number in a report of a call is too great to be written
+pub called-small : (s : Session) (e : Event) (buys sells room : List ℕ) → length (s .tape .prices) ≡ 10 →
+    SmallReports (called s e buys sells room .reports)
+unfolding SmallReports
+called-small s e buys sells room l =
+    cases (roomy buys sells room)
+    (λ h. rw (called-outcome s e buys sells room h) (outcome-small (dayIn s buys sells) e l))
+    (λ h. rw (called-short s e buys sells room h) tt)
+
+-- ---- the answer and what is left, by the verdict
 
 -- tables and a room that pass row 1 are long enough
 pub roomy-long : (buys sells room : List ℕ) (found : Bool) → found ≡ roomy buys sells room → not found ≡ false →

@@ -1,5 +1,6 @@
 -- What an event comes to: a refused one changes nothing and tells nothing; an accepted one leaves a sound day, keeps every lot, gives
--- numbers in order, tells nothing that is not fine, and has no more reports than the room has place for. Each law is for any day.
+-- numbers in order, tells nothing that is not fine, has no more reports than the room has place for, and no number in them that cannot be
+-- written. Each law is for any day.
 use Prim.Native.Nat.{ℕ, _+_, _≤_, _<_}
 use native.Mathlib.Omega.{arith}
 use native.Mathlib.Nat.{le-refl}
@@ -24,6 +25,7 @@ use Rattle.soundness.specs.Sound.{sound}
 use Rattle.refusal.specs.Refusals.{refusalOf}
 use Rattle.refusal.proofs.Accepted.{Accepted, accepted}
 use Rattle.acts.specs.Acts.{act}
+use Rattle.acts.specs.Small.{SmallReports}
 use Rattle.acts.specs.Asked.{wanted, askedBy, resting, accepts, numbersTo}
 use Rattle.acts.proofs.Stays.{act-stays}
 use Rattle.acts.proofs.Lots.{act-kept, act-asks}
@@ -31,6 +33,7 @@ use Rattle.acts.proofs.Numbers.{act-counts, givenBy, act-given}
 use Rattle.acts.proofs.Hears.{Listener, KnowsOf, TellsOf, none-tells}
 use Rattle.acts.proofs.Says.{act-tells, act-moved}
 use Rattle.acts.proofs.Few.{act-few}
+use Rattle.acts.proofs.Small.{act-small, act-ten}
 use Rattle.engine.specs.Outcome.{Outcome, decided, outcome}
 
 -- ---- the two cases of an event
@@ -113,6 +116,15 @@ outcome-forward d e =
 -- THE REPORTS FIT THE ROOM
 pub outcome-few : (d : Day) (e : Event) → length (outcome d e .reports) ≤ reportsMost
 outcome-few d e = by-verdict (λ (o : Outcome). length (o .reports) ≤ reportsMost) d e (λ k. act-few d e (k .whole)) (λ r. omega arith)
+
+-- EVERY NUMBER IN A REPORT CAN BE WRITTEN. The session's array holds ten prices,
+pub outcome-small : (d : Day) (e : Event) → length (d .session .tape .prices) ≡ 10 → SmallReports (outcome d e .reports)
+unfolding SmallReports
+outcome-small d e l = by-verdict (λ (o : Outcome). SmallReports (o .reports)) d e (λ k. act-small d e k l) (λ r. tt)
+
+-- and holds ten after the event
+pub outcome-ten : (d : Day) (e : Event) → length (d .session .tape .prices) ≡ 10 → length (outcome d e .day .session .tape .prices) ≡ 10
+outcome-ten d e l = by-verdict (λ (o : Outcome). length (o .day .session .tape .prices) ≡ 10) d e (λ k. act-ten d e l) (λ r. l)
 
 -- ---- the number of an order
 

@@ -4,3 +4,4 @@ pub mod Starts
 pub mod Dones
 pub mod Orders
 pub mod Applies
+pub mod Called

@@ -11,7 +11,7 @@ ghost use mathlib.Core.Path.{_≡_};
 ghost use Rattle.engine.specs.Calls.{AppliedAs, roomy};
 
 // Both tables and the room are long enough.
-fn is_roomy(buys: &[u64], sells: &[u64], room: &[u64]) -> bool
+pub fn is_roomy(buys: &[u64], sells: &[u64], room: &[u64]) -> bool
     ensures { λ r. ⌜ r ≡ roomy (now (buys .entry)) (now (sells .entry)) (now (room .entry)) ⌝ }
 {
     let bought = sizes::TABLE <= buys.len();

@@ -1,7 +1,7 @@
 -- The promises, each from the law of a run.
 use Prim.Native.Nat.{ℕ, _+_, _≤_}
 use native.Mathlib.Omega.{arith}
-use mathlib.Core.Path.{_≡_, refl, sym, _∙_}
+use mathlib.Core.Path.{_≡_, refl, sym, _∙_, subst}
 use mathlib.Core.Bool.{Bool, true, false, _||_}
 use mathlib.Core.List.{List, [], _∷_, _++_}
 use Rattle.terms.specs.declared.Settings.{Settings}
@@ -16,11 +16,12 @@ use Rattle.book.specs.Matching.{reportAt}
 use Rattle.book.specs.Over.{tally}
 use Rattle.state.specs.Opening.{openedSession}
 use Rattle.state.specs.Day.{Day, opened}
+use Rattle.state.proofs.Begins.{opened-begun}
 use Rattle.soundness.proofs.Days.{opened-sound}
 use Rattle.refusal.proofs.Accepted.{sound-not-two}
-use Rattle.acts.specs.Asked.{numbersTo}
+use Rattle.acts.specs.Asked.{accepts, numbersTo}
 use Rattle.acts.specs.Heard.{lastSaid, initialBand, bandAfter, referenceAfter, touchedIn, touchedBy}
-use Rattle.acts.proofs.Hears.{Listener, listen, listenAll, EachFine, fine-at}
+use Rattle.acts.proofs.Hears.{Listener, listen, listenAll, EachFine, Cooled, fine-at}
 use Rattle.engine.specs.Outcome.{after, told}
 use Rattle.engine.proofs.Kept.{outcome-verdict, outcome-few}
 use Rattle.promises.specs.Lots.{LotsKept, OrderKept}
@@ -41,8 +42,10 @@ order-kept g before later t n h =
     ∙ lots-kept g (before ++ (record { time = t; act = Enter n } ∷ later)) (after (opened g) before .session .given + 1)
 
 pub given-in-order : GivenInOrder
-unfolding openedSession numbersTo
-given-in-order g es = run-counts (opened g) es
+unfolding numbersTo
+given-in-order g es =
+    subst (λ (n : ℕ). numbersTo n ++ accepts (told (opened g) es) ≡ numbersTo (after (opened g) es .session .given)) (opened-begun g .none-given)
+    (run-counts (opened g) es)
 
 pub always-sound : AlwaysSound
 always-sound g es h = run-sound (opened g) es (opened-sound g h)
@@ -98,10 +101,15 @@ or-false : (a : Bool) → (a || false) ≡ true → a ≡ true
 or-false true e = refl
 or-false false e = e
 
+-- no cooling-off runs
+first-cooled : (g : Settings) → Cooled g (openedSession g .cooling) []
+first-cooled g = rw (opened-begun g .not-cooling)
+
 all-fine : (g : Settings) (es : List Event) → EachFine g (first g) (told (opened g) es)
 unfolding openedSession percentOf
 all-fine g es =
-    run-fine g (first g) (opened g) es refl (record { band-same = refl; reference-same = refl; time-past = omega arith; cooled = refl })
+    run-fine g (first g) (opened g) es refl
+    (record { band-same = refl; reference-same = refl; time-past = omega arith; cooled = first-cooled g })
 
 pub trades-within : TradesWithin
 trades-within g es before later t deal e =

@@ -1,5 +1,6 @@
 pub mod Runs
 pub mod Kept
+pub mod Writable
 pub mod ClockLine
 pub mod Cases
 pub mod Records

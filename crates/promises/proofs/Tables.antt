@@ -18,7 +18,7 @@ use Rattle.terms.specs.declared.Verdict.the-variants.{Fine, Refused}
 use Rattle.terms.specs.Sizes.{recordLength}
 use Rattle.terms.proofs.Logic.{cases}
 use Rattle.terms.specs.Records.{recordsOf}
-use Rattle.terms.specs.Refusals.{firstFailed, codeOf}
+use Rattle.terms.specs.Refusals.{codeOf}
 use Rattle.tables.specs.Put.{put}
 use Rattle.tables.specs.Tables.{decode, tableOf}
 use Rattle.tables.proofs.Slots.{decode-encode}
@@ -29,7 +29,6 @@ use Rattle.state.specs.Opening.{openedSession}
 use Rattle.state.specs.Day.{Day, opened}
 use Rattle.soundness.specs.Sound.{dayIn}
 use Rattle.soundness.proofs.Days.{SoundDay, sound-day}
-use Rattle.refusal.specs.Refusals.{refusalOf}
 use Rattle.refusal.proofs.Accepted.{sound-not-two}
 use Rattle.acts.specs.Acts.{Acted, act}
 use Rattle.acts.specs.Asked.{resting, accepts, numbersTo}
@@ -37,26 +36,14 @@ use Rattle.engine.specs.declared.Answer.{Answer}
 use Rattle.engine.specs.Outcome.{Outcome, decided, outcome, after, told}
 use Rattle.engine.specs.Calls.{roomy, callVerdict, called, answerBy, tableBy}
 use Rattle.engine.proofs.Kept.{outcome-verdict, accepted-sound, refused-nothing}
-use Rattle.promises.specs.Runs.{Held, dayHeld, openedOn, Call, HandsOut, Called, counting, Run, RunsAsDefined, CallsKeepLots, CallsKeepOrders, CallsTradeWithin, CallsStaySound, CallsNeverTwo, CallsGiveInOrder, CallsGoForward, CallsWiden, SameRuns}
+use Rattle.engine.proofs.Applies.{called-outcome, called-short}
+use Rattle.promises.specs.Runs.{Held, dayHeld, openedOn, Call, HandsOut, Called, counting, Run, RunsAsDefined, CallsKeepLots, CallsKeepOrders, CallsTradeWithin, CallsStaySound, CallsNeverTwo, CallsGiveInOrder, CallsGoForward, CallsWritable, CallsWiden, SameRuns}
 use Rattle.promises.specs.Runs.Run.{ends, calls}
 use Rattle.promises.proofs.Records.{records-tell}
 use Rattle.promises.proofs.Kept.{lots-kept, order-kept, given-in-order, always-sound, trades-within, never-narrows, widens-after-touch, widens-to-enhanced, reports-forward}
+use Rattle.promises.proofs.Writable.{runs-writable}
 
--- ---- what a call comes to
-
--- with room enough, to the outcome of its event,
-called-outcome : (s : Session) (e : Event) (buys sells room : List ℕ) → roomy buys sells room ≡ true →
-    called s e buys sells room ≡ outcome (dayIn s buys sells) e
-unfolding called callVerdict outcome refusalOf firstFailed
-called-outcome s e buys sells room h = rw h
-
--- and without, to nothing
-called-short : (s : Session) (e : Event) (buys sells room : List ℕ) → roomy buys sells room ≡ false →
-    called s e buys sells room ≡ decided (Refused SmallRoom) (dayIn s buys sells) (act (dayIn s buys sells) e)
-unfolding called callVerdict firstFailed
-called-short s e buys sells room h = rw h
-
--- ---- the reports that it hands out
+-- ---- the reports that a call hands out
 
 decided-silent : (v : Verdict) (d : Day) (a : Acted) (r : Refusal) → decided v d a .verdict ≡ Refused r → decided v d a .reports ≡ []
 decided-silent Fine d a r e = absurd (let z : _≡_ {A = ℕ} 0 1 = cc in omega arith)
@@ -235,6 +222,10 @@ calls-give-in-order g buys sells es rs h run =
 pub calls-go-forward : CallsGoForward
 calls-go-forward g buys sells es rs h run before later r r′ e =
     reports-forward g es before later r r′ (sym (runs-as-defined g buys sells es rs h run .0) ∙ e)
+
+pub calls-writable : CallsWritable
+calls-writable g buys sells es rs h run before later r e =
+    runs-writable g es before later r (sym (runs-as-defined g buys sells es rs h run .0) ∙ e)
 
 pub calls-widen : CallsWiden
 calls-widen g buys sells es rs h run before later t band e =

@@ -3,6 +3,7 @@ pub mod Given
 pub mod Within
 pub mod Slabs
 pub mod Always
+pub mod Writable
 pub mod ClockLine
 pub mod Cases
 pub mod Runs

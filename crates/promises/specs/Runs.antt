@@ -38,6 +38,7 @@ use Rattle.engine.specs.declared.Answer.{Answer}
 use Rattle.engine.specs.declared.Applied.{Applied}
 use Rattle.engine.specs.Calls.{roomy, AppliedAs, viewCall}
 use Rattle.promises.specs.Lots.{asked}
+use Rattle.promises.specs.Writable.{AllWritable}
 
 -- ---- what a caller holds between calls, and the day that it is
 
@@ -143,6 +144,10 @@ CallsGiveInOrder = ForRuns (λ g es rs h. accepts rs ≡ numbersTo (h .session .
 -- time never goes back
 abbrev pub CallsGoForward : Type 0
 CallsGoForward = ForRuns (λ g es rs h. (before later : List Report) (r r′ : Report) → rs ≡ before ++ (r ∷ (r′ ∷ later)) → r .time ≤ r′ .time)
+
+-- every report can be written
+abbrev pub CallsWritable : Type 0
+CallsWritable = ForRuns (λ g es rs h. AllWritable rs)
 
 -- the band widens only after a trade at an end of the initial one, and once: it was the initial one, and becomes the enhanced one, which
 -- holds every price of the one before

@@ -93,19 +93,23 @@ low-some base tick p b t h =
     let product : 1 * 1 ≤ base * (100 - p) = mul-le-mul b less in
     omega (arith, low-is base tick p t .reaches)
 
+-- what a session's band is computed from is within its bounds
+pub now-priced : (s : Session) → Valid (s .settings) → Priced (s .settings .base) (s .settings .tick) (percentNow s)
+now-priced s v =
+    record {
+      base-small = v .base-small;
+      tick-some = v .tick-some;
+      tick-small = v .tick-small;
+      percent-small = percent-small (slabOf (s .settings .category)) (s .widened) (rowed (s .settings .category) .small);
+    }
+
 pub each-tradable : (s : Session) (fs : List Order) → Valid (s .settings) → Each (OrderFits (s .given) (s .settings .tick) (bandNow s)) fs →
     Each (Tradable (s .settings .tick)) fs
 each-tradable s fs v e =
     let g : Settings = s .settings in
     let p : ℕ = percentNow s in
-    let small : p ≤ percentMost = percent-small (slabOf (g .category)) (s .widened) (rowed (g .category) .small) in
-    let low : 1 ≤ lowAt (g .base) (g .tick) p = low-some (g .base) (g .tick) p (v .base-some) (v .tick-some) small in
-    let fits : Priced (g .base) (g .tick) p = record {
-      base-small = v .base-small;
-      tick-some = v .tick-some;
-      tick-small = v .tick-small;
-      percent-small = small;
-    } in
+    let fits : Priced (g .base) (g .tick) p = now-priced s v in
+    let low : 1 ≤ lowAt (g .base) (g .tick) p = low-some (g .base) (g .tick) p (v .base-some) (v .tick-some) (fits .percent-small) in
     let high : highAt (g .base) (g .tick) p ≤ priceMost = omega (arith, high-small fits) in
     each-map (OrderFits (s .given) (g .tick) (bandNow s)) (Tradable (g .tick))
     (λ o f. let i = between-facts (lowAt (g .base) (g .tick) p) (o .price) (highAt (g .base) (g .tick) p) (f .banded) in record {

@@ -57,7 +57,7 @@ fn opened(g: Settings) -> Session
 }
 
 // The one session that a refused opening answers with: broad, open, every number zero. It is not sound.
-fn fixed() -> Session
+pub fn fixed() -> Session
     ensures { λ r. ⌜ r ≡ fixedSession ⌝ }
 {
     let settings = Settings {

@@ -10,7 +10,7 @@ last-or-requires : tie.Need-last-or-requires
 last-or-requires c κs = search needs
 
 returns : tie.Need-returns
-returns c = cc
+returns c = simp (c .last-or .ensures, c .before .range-now .ensures)
 
 pub incoming-spec : {M : Type 1} → statement M
 incoming-spec = tie.close (tie.spec range-now-requires last-or-requires returns)

@@ -9,13 +9,13 @@ band-right-requires : tie.Need-band-right-requires
 band-right-requires c κs = search needs
 
 returns : tie.Need-returns
-returns c = search (cascade, place-is) depth 14
+returns c = search cascade depth 14
 
 finds-it-requires : tie.Need-finds-it-requires
 finds-it-requires c κs = search needs
 
 returns-2 : tie.Need-returns-2
-returns-2 c = search (cascade, place-is) depth 14
+returns-2 c = search cascade depth 14
 
 has-place-requires : tie.Need-has-place-requires
 has-place-requires c κs = search needs

@@ -1,0 +1,9 @@
+pub mod Opens
+pub mod Applying
+pub mod Short
+pub mod LineReads
+pub mod LineWrites
+pub mod Ten
+pub mod Again
+pub mod Determined
+pub mod Turned

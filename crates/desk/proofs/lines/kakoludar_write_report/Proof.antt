@@ -1,0 +1,54 @@
+-- A short run, a report, or none.
+use Rattle.desk.proofs.LineWrites.{report-no-run, report-few, report-written, report-none}
+use borrow.Author.Needs.{needs}
+use Rattle.desk.proofs.lines.kakoludar_write_report.Statement.{statement}
+use Rattle.desk.proofs.lines.kakoludar_write_report.Tie as tie
+
+refused-requires : tie.Need-refused-requires
+refused-requires c κs = search needs
+
+returns : tie.Need-returns
+returns c = search report-no-run
+
+read-record-requires : tie.Need-read-record-requires
+read-record-requires c κs = search needs
+
+enum-known-p : tie.Need-enum-known-p
+enum-known-p c = search needs
+
+write-report-requires : tie.Need-write-report-requires
+write-report-requires c κs = search needs
+
+wrote-requires : tie.Need-wrote-requires
+wrote-requires c κs = search report-few
+
+enum-told : tie.Need-enum-told
+enum-told c = search needs
+
+refused-requires-2 : tie.Need-refused-requires-2
+refused-requires-2 c κs = search needs
+
+same-length : tie.Need-same-length
+same-length c = search needs
+
+returns-2 : tie.Need-returns-2
+returns-2 c = search report-written
+
+returns-3 : tie.Need-returns-3
+returns-3 c = search report-none
+
+pub kakoludar-write-report-spec : {M : Type 1} → statement M
+kakoludar-write-report-spec =
+    tie.close
+    (tie.spec
+    refused-requires
+    returns
+    read-record-requires
+    enum-known-p
+    write-report-requires
+    wrote-requires
+    enum-told
+    refused-requires-2
+    same-length
+    returns-2
+    returns-3)

@@ -1,0 +1,4 @@
+pub mod Calls
+pub mod Reads
+pub mod Writes
+pub mod Determined

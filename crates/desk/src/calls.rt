@@ -1,0 +1,149 @@
+// The calls on a session: open, apply, sound, view, on runs of numbers that an app keeps.
+use engine::Answer;
+use engine::apply;
+use engine::looking;
+use packing::answers;
+use packing::events;
+use packing::runs;
+use packing::sessions;
+use packing::settings;
+use state::Opened;
+use state::Session;
+use state::opening;
+use terms::Refusal;
+use terms::Side;
+use terms::Verdict;
+use terms::sizes;
+ghost use mathlib.Core.Path.{_≡_};
+ghost use Prim.Native.Nat.{_≤_};
+ghost use lib.ListN.{length};
+ghost use Rattle.engine.specs.Calls.{viewCall};
+ghost use Rattle.packing.specs.Runs.{settingsLength};
+ghost use Rattle.packing.specs.Answers.{answerOf};
+ghost use Rattle.desk.specs.Calls.{openedFrom, OpenedAs, AppliedOn, soundOn, viewOn};
+
+// The opening that a run of settings asks for.
+fn opened(gs: &[u64]) -> Opened
+    requires { ⌜ settingsLength ≤ length (now gs) ⌝ }
+    ensures { λ r. ⌜ r ≡ openedFrom (now (gs .entry)) ⌝ }
+{
+    if !settings::is_category(gs[0]) {
+        let session = sessions::fixed();
+        return Opened {
+            verdict: Verdict::Refused(Refusal::SettingsRange),
+            session: session,
+        };
+    }
+    opening::begin(settings::unpack(gs))
+}
+
+// What a verdict is answered where nothing is counted.
+fn answer_to(v: Verdict) -> u64
+    ensures { λ r. ⌜ r ≡ answerOf v 0 ⌝ }
+{
+    match v {
+        Verdict::Fine => answers::done(0),
+        Verdict::Refused(r) => answers::refused(r),
+    }
+}
+
+// Opens a session: 0 and the session, or 12 or 13 and the fixed session; 1 for a short run.
+#[no_mangle]
+pub extern "C" fn kakoludar_open(settings: &[u64], session: &mut [u64]) -> u64
+    ensures { λ r. ⌜ OpenedAs (now (settings .entry)) (now (session .entry)) (now (session .exit)) r ⌝ }
+{
+    if settings.len() < runs::SETTINGS {
+        return answers::refused(Refusal::SmallRoom);
+    }
+    if session.len() < runs::SESSION {
+        return answers::refused(Refusal::SmallRoom);
+    }
+    let o = opened(settings);
+    let verdict = o.verdict;
+    let s = o.session;
+    let numbers = sessions::pack(s);
+    runs::lay(session, &numbers);
+    answer_to(verdict)
+}
+
+// Applies an event: the count of its reports, or a refusal, which writes nothing.
+#[no_mangle]
+pub extern "C" fn kakoludar_apply(
+    session: &mut [u64],
+    event: &[u64],
+    buys: &mut [u64],
+    sells: &mut [u64],
+    room: &mut [u64],
+) -> u64
+    ensures { λ r. ⌜ AppliedOn (now (session .entry)) (now (event .entry)) (now (buys .entry)) (now (sells .entry)) (now (room .entry)) (now (session .exit)) (now (buys .exit)) (now (sells .exit)) (now (room .exit)) r ⌝ }
+{
+    if session.len() < runs::SESSION {
+        return answers::refused(Refusal::SmallRoom);
+    }
+    if event.len() < runs::EVENT {
+        return answers::refused(Refusal::SmallRoom);
+    }
+    let s = sessions::unpack(session);
+    let e = events::unpack(event);
+    let applied = apply::apply(s, e, buys, sells, room);
+    let answer = applied.answer;
+    let after = applied.session;
+    match answer {
+        Answer::Reported(count) => {
+            let numbers = sessions::pack(after);
+            runs::lay(session, &numbers);
+            answers::done(count)
+        }
+        Answer::Refused(r) => answers::refused(r),
+    }
+}
+
+// Whether a session is sound, with the orders in its tables.
+#[no_mangle]
+pub extern "C" fn kakoludar_sound(session: &[u64], buys: &[u64], sells: &[u64]) -> u64
+    ensures { λ r. ⌜ r ≡ soundOn (now (session .entry)) (now (buys .entry)) (now (sells .entry)) ⌝ }
+{
+    if session.len() < runs::SESSION {
+        return 0;
+    }
+    if buys.len() < sizes::TABLE {
+        return 0;
+    }
+    if sells.len() < sizes::TABLE {
+        return 0;
+    }
+    let s = sessions::unpack(session);
+    let sound = soundness::is_sound(s, buys, sells);
+    sessions::flag_of(sound)
+}
+
+// The length of a side's view.
+fn view_length<'a>(side: Side, s: Session, buys: &'a [u64], sells: &'a [u64]) -> u64
+    ensures { λ r. ⌜ r ≡ length (viewCall side s (now (buys .entry)) (now (sells .entry))) ⌝ }
+{
+    let view = looking::view(side, s, buys, sells);
+    view.len() as u64
+}
+
+// The length of the view of the named side, 1 buy or 2 sell: it starts at number 0 of that side's table.
+#[no_mangle]
+pub extern "C" fn kakoludar_view<'a>(
+    side: u64,
+    session: &[u64],
+    buys: &'a [u64],
+    sells: &'a [u64],
+) -> u64
+    ensures { λ r. ⌜ r ≡ viewOn side (now (session .entry)) (now (buys .entry)) (now (sells .entry)) ⌝ }
+{
+    if session.len() < runs::SESSION {
+        return 0;
+    }
+    let s = sessions::unpack(session);
+    if side == 1 {
+        return view_length(Side::Buy, s, buys, sells);
+    }
+    if side == 2 {
+        return view_length(Side::Sell, s, buys, sells);
+    }
+    0
+}

@@ -1,0 +1,128 @@
+// The calls on lines: settings and events read and written, reports written.
+use packing::answers;
+use packing::events;
+use packing::events::FoundEvent;
+use packing::runs;
+use packing::settings;
+use reading::ReadEvent;
+use reading::ReadSettings;
+use records::ReadRecord;
+use terms::Refusal;
+use terms::numbers;
+use terms::sizes;
+use writing::Wrote;
+ghost use mathlib.Core.Path.{_≡_};
+ghost use Prim.Native.Nat.{_≤_};
+ghost use Rattle.terms.specs.declared.Refusal.the-variants.{LineWrong};
+ghost use Rattle.terms.specs.Refusals.{numberOf};
+ghost use Rattle.packing.specs.Answers.{countMost, answerNumber};
+ghost use Rattle.desk.specs.Reads.{EventReadInto, SettingsReadInto};
+ghost use Rattle.desk.specs.Writes.{wroteNumber, Few, SettingsWrittenOn, EventWrittenOn, ReportWrittenOn};
+
+// 15, with the place.
+fn wrong_at(place: usize) -> u64
+    requires { ⌜ place ≤ countMost ⌝ }
+    ensures { λ r. ⌜ r ≡ answerNumber (numberOf LineWrong) place ⌝ }
+{
+    let code = numbers::of_refusal(Refusal::LineWrong);
+    answers::number(code, place as u64)
+}
+
+// A writer's answer as a number.
+fn wrote(w: Wrote) -> u64
+    requires { ⌜ Few w ⌝ }
+    ensures { λ r. ⌜ r ≡ wroteNumber w ⌝ }
+{
+    match w {
+        Wrote::Written(n) => answers::done(n as u64),
+        Wrote::Refused(r) => answers::refused(r),
+    }
+}
+
+// Reads the event whose line the bytes start with: the bytes that it took, 14, or 15 with the place.
+#[no_mangle]
+pub extern "C" fn kakoludar_read_event(line: &[u8], event: &mut [u64]) -> u64
+    ensures { λ r. ⌜ EventReadInto (now (line .entry)) (now (event .entry)) (now (event .exit)) r ⌝ }
+{
+    if event.len() < runs::EVENT {
+        return answers::refused(Refusal::SmallRoom);
+    }
+    match reading::read_event(line) {
+        ReadEvent::Whole(e, n) => {
+            let numbers = events::pack(e);
+            runs::lay(event, &numbers);
+            answers::done(n as u64)
+        }
+        ReadEvent::Unfinished => answers::refused(Refusal::LineUnfinished),
+        ReadEvent::Wrong(n) => wrong_at(n),
+    }
+}
+
+// Reads the settings whose line the bytes start with.
+#[no_mangle]
+pub extern "C" fn kakoludar_read_settings(line: &[u8], settings: &mut [u64]) -> u64
+    ensures { λ r. ⌜ SettingsReadInto (now (line .entry)) (now (settings .entry)) (now (settings .exit)) r ⌝ }
+{
+    if settings.len() < runs::SETTINGS {
+        return answers::refused(Refusal::SmallRoom);
+    }
+    match reading::read_settings(line) {
+        ReadSettings::Whole(g, n) => {
+            let numbers = settings::pack(g);
+            runs::lay(settings, &numbers);
+            answers::done(n as u64)
+        }
+        ReadSettings::Unfinished => answers::refused(Refusal::LineUnfinished),
+        ReadSettings::Wrong(n) => wrong_at(n),
+    }
+}
+
+// Writes the line of a report, from its record: the bytes written, or a refusal.
+#[no_mangle]
+pub extern "C" fn kakoludar_write_report(report: &[u64], line: &mut [u8]) -> u64
+    ensures { λ r. ⌜ ReportWrittenOn (now (report .entry)) (now (line .entry)) (now (line .exit)) r ⌝ }
+{
+    if report.len() < sizes::RECORD {
+        return answers::refused(Refusal::SmallRoom);
+    }
+    match records::read_record(report, 0) {
+        ReadRecord::Told(p) => {
+            let w = writing::write_report(p, line);
+            wrote(w)
+        }
+        ReadRecord::Nothing => answers::refused(Refusal::NumberRange),
+    }
+}
+
+// Writes the line of an event.
+#[no_mangle]
+pub extern "C" fn kakoludar_write_event(event: &[u64], line: &mut [u8]) -> u64
+    ensures { λ r. ⌜ EventWrittenOn (now (event .entry)) (now (line .entry)) (now (line .exit)) r ⌝ }
+{
+    if event.len() < runs::EVENT {
+        return answers::refused(Refusal::SmallRoom);
+    }
+    match events::find(event) {
+        FoundEvent::Told(e) => {
+            let w = writing::write_event(e, line);
+            wrote(w)
+        }
+        FoundEvent::Nothing => answers::refused(Refusal::NumberRange),
+    }
+}
+
+// Writes the line of settings.
+#[no_mangle]
+pub extern "C" fn kakoludar_write_settings(settings: &[u64], line: &mut [u8]) -> u64
+    ensures { λ r. ⌜ SettingsWrittenOn (now (settings .entry)) (now (line .entry)) (now (line .exit)) r ⌝ }
+{
+    if settings.len() < runs::SETTINGS {
+        return answers::refused(Refusal::SmallRoom);
+    }
+    if !settings::is_category(settings[0]) {
+        return answers::refused(Refusal::SettingsRange);
+    }
+    let g = settings::unpack(settings);
+    let w = writing::write_settings(g, line);
+    wrote(w)
+}

@@ -1,0 +1,7 @@
+pub mod Prints
+pub mod Taking
+pub mod Going
+pub mod Ending
+pub mod Longer
+pub mod Pieces
+pub mod Starts

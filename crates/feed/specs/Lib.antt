@@ -1,0 +1,5 @@
+pub mod Texts
+pub mod Worlds
+pub mod Turns
+pub mod Feeds
+pub mod Pieces

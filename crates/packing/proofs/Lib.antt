@@ -1,0 +1,6 @@
+pub mod Codes
+pub mod Lays
+pub mod Packs
+pub mod Listed
+pub mod Inverse
+pub mod EventInverse

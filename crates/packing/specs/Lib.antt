@@ -1,0 +1,5 @@
+pub mod Runs
+pub mod Settings
+pub mod Sessions
+pub mod Events
+pub mod Answers

@@ -1,0 +1,81 @@
+/* Plays document 01's listing through the library, prints the report lines and compares them with the paper's. */
+#include "kakoludar.h"
+
+#include <stdio.h>
+#include <string.h>
+
+static const char INPUT[] =
+    "cat=gems base=10000 close=10000 settle=10000 tick=5 len=3600000 days=0 under=0\n"
+    "t=0 do=sell kind=limit life=day qty=4 price=10150\n"
+    "t=1000 do=buy kind=limit life=day qty=1 price=10300\n"
+    "t=60000 do=sell kind=limit life=day qty=2 price=10300\n"
+    "t=61000 do=buy kind=market life=day qty=6\n"
+    "t=961000 do=cancel id=4\n"
+    "t=3600000 do=close settle=10200\n";
+
+static const char EXPECTED[] =
+    "t=0 say=accept id=1\n"
+    "t=1000 say=accept id=2\n"
+    "t=1000 say=trade buy=2 sell=1 qty=1 price=10150\n"
+    "t=60000 say=ref price=10150\n"
+    "t=60000 say=accept id=3\n"
+    "t=61000 say=accept id=4\n"
+    "t=61000 say=trade buy=4 sell=1 qty=3 price=10150\n"
+    "t=61000 say=trade buy=4 sell=3 qty=2 price=10300\n"
+    "t=61000 say=convert id=4 qty=1 price=10300\n"
+    "t=961000 say=slab low=9400 high=10600\n"
+    "t=961000 say=ref price=10225\n"
+    "t=961000 say=cancel id=4 qty=1 why=1\n"
+    "t=3600000 say=close price=10300 base=10200\n";
+
+/* All that a day needs; the library has no memory of its own. */
+static uint64_t session[KAKOLUDAR_SESSION], buys[KAKOLUDAR_TABLE], sells[KAKOLUDAR_TABLE], room[KAKOLUDAR_ROOM];
+
+static int refused(const char *what, uint64_t answer) {
+    fprintf(stderr, "%s: refused by %u, at %zu\n", what, KAKOLUDAR_CODE(answer), KAKOLUDAR_COUNT(answer));
+    return 1;
+}
+
+int main(void) {
+    const uint8_t *bytes = (const uint8_t *)INPUT;
+    size_t left = sizeof INPUT - 1;
+    char output[1024];
+    size_t written = 0;
+    uint64_t settings[KAKOLUDAR_SETTINGS], event[KAKOLUDAR_EVENT], answer;
+
+    answer = kakoludar_read_settings(bytes, left, settings, KAKOLUDAR_SETTINGS);
+    if (KAKOLUDAR_CODE(answer)) return refused("settings line", answer);
+    bytes += KAKOLUDAR_COUNT(answer);
+    left -= KAKOLUDAR_COUNT(answer);
+    answer = kakoludar_open(settings, KAKOLUDAR_SETTINGS, session, KAKOLUDAR_SESSION);
+    if (KAKOLUDAR_CODE(answer)) return refused("opening", answer);
+
+    while (left > 0) {
+        answer = kakoludar_read_event(bytes, left, event, KAKOLUDAR_EVENT);
+        if (KAKOLUDAR_CODE(answer)) return refused("event line", answer);
+        bytes += KAKOLUDAR_COUNT(answer);
+        left -= KAKOLUDAR_COUNT(answer);
+
+        answer = kakoludar_apply(session, KAKOLUDAR_SESSION, event, KAKOLUDAR_EVENT, buys, KAKOLUDAR_TABLE, sells,
+                                 KAKOLUDAR_TABLE, room, KAKOLUDAR_ROOM);
+        if (KAKOLUDAR_CODE(answer)) return refused("event", answer);
+        size_t count = KAKOLUDAR_COUNT(answer);
+        for (size_t i = 0; i < count; i++) {
+            uint8_t line[KAKOLUDAR_LINE];
+            answer = kakoludar_write_report(room + KAKOLUDAR_RECORD * i, KAKOLUDAR_RECORD, line, sizeof line);
+            if (KAKOLUDAR_CODE(answer)) return refused("report", answer);
+            size_t length = KAKOLUDAR_COUNT(answer);
+            fwrite(line, 1, length, stdout);
+            if (written + length > sizeof output) return 1;
+            memcpy(output + written, line, length);
+            written += length;
+        }
+    }
+
+    if (written != sizeof EXPECTED - 1 || memcmp(output, EXPECTED, written) != 0) {
+        fprintf(stderr, "these are not the lines of the paper\n");
+        return 1;
+    }
+    fprintf(stderr, "the paper's 13 lines\n");
+    return 0;
+}

@@ -1,0 +1,218 @@
+//! Kakoludar's practice exchange for Rust programs: one commodity futures contract on one day, proved.
+//!
+//! [`Session`] owns all that a day needs (the session's numbers, both tables, the report room) and calls the proved library;
+//! [`Desk`] takes session lines and gives report lines. [`raw`] has the library's functions over plain slices, for callers that
+//! keep the numbers themselves. [`plain`] is the same exchange in ordinary Rust, to hold the library to.
+
+pub mod plain;
+pub mod raw;
+pub mod terms;
+
+pub use terms::{Act, Category, Event, Kind, Life, Refusal, Report, Settings, Side, Why};
+use terms::{EVENT, LINE, RECORD, ROOM, SESSION, SETTINGS, TABLE};
+
+/// Takes an answer apart: the count, or the refusal and the count beside it.
+fn answered(answer: u64) -> Result<usize, (Refusal, usize)> {
+    let count = raw::count(answer) as usize;
+    match Refusal::from_number(raw::code(answer)) {
+        None => Ok(count),
+        Some(refusal) => Err((refusal, count)),
+    }
+}
+
+/// A resting order.
+#[derive(Clone, Copy, PartialEq, Eq, Debug)]
+pub struct Resting {
+    pub id: u64,
+    pub price: u64,
+    pub lots: u64,
+}
+
+/// One day on the exchange, with the memory that the library is lent.
+#[derive(Clone)]
+pub struct Session {
+    session: [u64; SESSION],
+    buys: [u64; TABLE],
+    sells: [u64; TABLE],
+    room: [u64; ROOM],
+}
+
+impl Session {
+    /// Opens a day. Refused by 12 or 13.
+    pub fn open(settings: &Settings) -> Result<Box<Session>, Refusal> {
+        let mut day = Box::new(Session { session: [0; SESSION], buys: [0; TABLE], sells: [0; TABLE], room: [0; ROOM] });
+        answered(raw::open(&settings.to_run(), &mut day.session)).map_err(|(refusal, _)| refusal)?;
+        Ok(day)
+    }
+
+    /// Takes up a day that was kept as numbers. Whatever they are, the calls stay safe: numbers that are no sound session are
+    /// refused by 2.
+    pub fn resume(session: [u64; SESSION], buys: [u64; TABLE], sells: [u64; TABLE]) -> Box<Session> {
+        Box::new(Session { session, buys, sells, room: [0; ROOM] })
+    }
+
+    /// Applies an event and gives its reports. A refused one changes nothing.
+    pub fn apply(&mut self, event: &Event) -> Result<impl ExactSizeIterator<Item = Report> + '_, Refusal> {
+        let records = self.apply_records(&event.to_run())?;
+        Ok(records.iter().map(|record| Report::from_record(record).expect("the library wrote it")))
+    }
+
+    /// The same on an event's numbers, the reports as records.
+    pub fn apply_records(&mut self, event: &[u64; EVENT]) -> Result<&[[u64; RECORD]], Refusal> {
+        let answer = raw::apply(&mut self.session, event, &mut self.buys, &mut self.sells, &mut self.room);
+        let count = answered(answer).map_err(|(refusal, _)| refusal)?;
+        Ok(&self.room.as_chunks().0[..count])
+    }
+
+    /// The orders that rest on a side, best first.
+    pub fn view(&self, side: Side) -> impl ExactSizeIterator<Item = Resting> + '_ {
+        let (number, table) = match side {
+            Side::Buy => (1, &self.buys),
+            Side::Sell => (2, &self.sells),
+        };
+        let live = raw::view(number, &self.session, &self.buys, &self.sells) as usize;
+        table[..live].as_chunks().0.iter().map(|&[id, price, lots]| Resting { id, price, lots })
+    }
+
+    /// Whether the numbers are a sound session.
+    pub fn is_sound(&self) -> bool {
+        raw::sound(&self.session, &self.buys, &self.sells) == 1
+    }
+
+    /// The session's numbers, to be kept; `kakoludar.h` says what they are.
+    pub fn numbers(&self) -> &[u64; SESSION] {
+        &self.session
+    }
+
+    /// Both tables, to be kept.
+    pub fn tables(&self) -> (&[u64; TABLE], &[u64; TABLE]) {
+        (&self.buys, &self.sells)
+    }
+
+    /// Milliseconds from the open to the last accepted event.
+    pub fn time(&self) -> u64 {
+        self.session[8]
+    }
+
+    pub fn is_closed(&self) -> bool {
+        self.session[9] == 1
+    }
+
+    pub fn reference(&self) -> u64 {
+        self.session[14]
+    }
+}
+
+/// Why bytes are no line.
+#[derive(Clone, Copy, PartialEq, Eq, Debug)]
+pub enum NoLine {
+    /// 14: they begin a line and hold no whole one.
+    Unfinished,
+    /// 15: the longest start that begins a line has this length.
+    Wrong(usize),
+}
+
+impl NoLine {
+    fn of((refusal, place): (Refusal, usize)) -> NoLine {
+        match refusal {
+            Refusal::Unfinished => NoLine::Unfinished,
+            _ => NoLine::Wrong(place),
+        }
+    }
+}
+
+/// Reads a settings line from the start of the bytes, and how many it took.
+pub fn read_settings(bytes: &[u8]) -> Result<(Settings, usize), NoLine> {
+    let mut run = [0; SETTINGS];
+    let taken = answered(raw::read_settings(bytes, &mut run)).map_err(NoLine::of)?;
+    Ok((Settings::from_run(&run).expect("the library wrote it"), taken))
+}
+
+/// Reads an event line from the start of the bytes, and how many it took.
+pub fn read_event(bytes: &[u8]) -> Result<(Event, usize), NoLine> {
+    let mut run = [0; EVENT];
+    let taken = answered(raw::read_event(bytes, &mut run)).map_err(NoLine::of)?;
+    Ok((Event::from_run(&run).expect("the library wrote it"), taken))
+}
+
+/// A line that a writer gave.
+pub struct Line {
+    bytes: [u8; LINE],
+    length: usize,
+}
+
+impl Line {
+    fn by(write: impl Fn(&mut [u8]) -> u64) -> Result<Line, Refusal> {
+        let mut bytes = [0; LINE];
+        let length = answered(write(&mut bytes)).map_err(|(refusal, _)| refusal)?;
+        Ok(Line { bytes, length })
+    }
+}
+
+impl std::ops::Deref for Line {
+    type Target = [u8];
+
+    fn deref(&self) -> &[u8] {
+        &self.bytes[..self.length]
+    }
+}
+
+/// Writes a settings line; 17 where a number is above 999,999,999.
+pub fn write_settings(settings: &Settings) -> Result<Line, Refusal> {
+    let run = settings.to_run();
+    Line::by(|room| raw::write_settings(&run, room))
+}
+
+/// Writes an event line; 17 where a number is above 999,999,999.
+pub fn write_event(event: &Event) -> Result<Line, Refusal> {
+    let run = event.to_run();
+    Line::by(|room| raw::write_event(&run, room))
+}
+
+/// Writes a report's line; 4 where the numbers are no report's, 17 where one is above 999,999,999.
+pub fn write_report(record: &[u64; RECORD]) -> Result<Line, Refusal> {
+    Line::by(|room| raw::write_report(record, room))
+}
+
+/// Text in, text out: takes session lines, adds report lines to `out`. It is the program `session` without its input and output.
+pub struct Desk;
+
+impl Desk {
+    pub fn run(input: &[u8], out: &mut Vec<u8>) {
+        let bad = |out: &mut Vec<u8>, error: NoLine, given: usize| {
+            let (code, at) = match error {
+                NoLine::Unfinished => (14, given),
+                NoLine::Wrong(place) => (15, place),
+            };
+            out.extend_from_slice(format!("say=bad code={code} at={at}\n").as_bytes());
+        };
+        let (settings, taken) = match read_settings(input) {
+            Ok(read) => read,
+            Err(error) => return bad(out, error, input.len()),
+        };
+        let mut day = match Session::open(&settings) {
+            Ok(day) => day,
+            Err(refusal) => {
+                return out.extend_from_slice(format!("say=bad code={} at=0\n", refusal.number()).as_bytes());
+            }
+        };
+        let mut rest = &input[taken..];
+        let mut event = [0; EVENT];
+        while !rest.is_empty() {
+            match answered(raw::read_event(rest, &mut event)) {
+                Ok(taken) => rest = &rest[taken..],
+                Err(error) => return bad(out, NoLine::of(error), rest.len()),
+            }
+            match day.apply_records(&event) {
+                Ok(records) => {
+                    for record in records {
+                        out.extend_from_slice(&write_report(record).expect("the library wrote it"));
+                    }
+                }
+                Err(refusal) => {
+                    out.extend_from_slice(format!("t={} say=refuse code={}\n", event[0], refusal.number()).as_bytes());
+                }
+            }
+        }
+    }
+}

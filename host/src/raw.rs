@@ -1,0 +1,102 @@
+//! The proved library's functions over slices. Every one is total: any numbers, any lengths. An answer is `code + 256 × count`;
+//! `kakoludar.h` says what each run of numbers holds.
+
+extern "C" {
+    fn kakoludar_open(settings: *const u64, settings_len: usize, session: *mut u64, session_len: usize) -> u64;
+    fn kakoludar_apply(
+        session: *mut u64,
+        session_len: usize,
+        event: *const u64,
+        event_len: usize,
+        buys: *mut u64,
+        buys_len: usize,
+        sells: *mut u64,
+        sells_len: usize,
+        room: *mut u64,
+        room_len: usize,
+    ) -> u64;
+    fn kakoludar_sound(
+        session: *const u64,
+        session_len: usize,
+        buys: *const u64,
+        buys_len: usize,
+        sells: *const u64,
+        sells_len: usize,
+    ) -> u64;
+    fn kakoludar_view(
+        side: u64,
+        session: *const u64,
+        session_len: usize,
+        buys: *const u64,
+        buys_len: usize,
+        sells: *const u64,
+        sells_len: usize,
+    ) -> u64;
+    fn kakoludar_read_settings(line: *const u8, line_len: usize, settings: *mut u64, settings_len: usize) -> u64;
+    fn kakoludar_read_event(line: *const u8, line_len: usize, event: *mut u64, event_len: usize) -> u64;
+    fn kakoludar_write_settings(settings: *const u64, settings_len: usize, line: *mut u8, line_len: usize) -> u64;
+    fn kakoludar_write_event(event: *const u64, event_len: usize, line: *mut u8, line_len: usize) -> u64;
+    fn kakoludar_write_report(record: *const u64, record_len: usize, line: *mut u8, line_len: usize) -> u64;
+}
+
+/// An answer's code: 0 for done, or a refusal's number.
+pub fn code(answer: u64) -> u64 {
+    answer % 256
+}
+
+/// An answer's count.
+pub fn count(answer: u64) -> u64 {
+    answer / 256
+}
+
+// Safety of every call below: each pointer and length are of one living slice, `&mut` slices overlap no other, and the library
+// keeps no pointer after it answers.
+
+pub fn open(settings: &[u64], session: &mut [u64]) -> u64 {
+    unsafe { kakoludar_open(settings.as_ptr(), settings.len(), session.as_mut_ptr(), session.len()) }
+}
+
+pub fn apply(session: &mut [u64], event: &[u64], buys: &mut [u64], sells: &mut [u64], room: &mut [u64]) -> u64 {
+    unsafe {
+        kakoludar_apply(
+            session.as_mut_ptr(),
+            session.len(),
+            event.as_ptr(),
+            event.len(),
+            buys.as_mut_ptr(),
+            buys.len(),
+            sells.as_mut_ptr(),
+            sells.len(),
+            room.as_mut_ptr(),
+            room.len(),
+        )
+    }
+}
+
+pub fn sound(session: &[u64], buys: &[u64], sells: &[u64]) -> u64 {
+    unsafe { kakoludar_sound(session.as_ptr(), session.len(), buys.as_ptr(), buys.len(), sells.as_ptr(), sells.len()) }
+}
+
+pub fn view(side: u64, session: &[u64], buys: &[u64], sells: &[u64]) -> u64 {
+    unsafe { kakoludar_view(side, session.as_ptr(), session.len(), buys.as_ptr(), buys.len(), sells.as_ptr(), sells.len()) }
+}
+
+pub fn read_settings(line: &[u8], settings: &mut [u64]) -> u64 {
+    unsafe { kakoludar_read_settings(line.as_ptr(), line.len(), settings.as_mut_ptr(), settings.len()) }
+}
+
+pub fn read_event(line: &[u8], event: &mut [u64]) -> u64 {
+    unsafe { kakoludar_read_event(line.as_ptr(), line.len(), event.as_mut_ptr(), event.len()) }
+}
+
+pub fn write_settings(settings: &[u64], line: &mut [u8]) -> u64 {
+    unsafe { kakoludar_write_settings(settings.as_ptr(), settings.len(), line.as_mut_ptr(), line.len()) }
+}
+
+pub fn write_event(event: &[u64], line: &mut [u8]) -> u64 {
+    unsafe { kakoludar_write_event(event.as_ptr(), event.len(), line.as_mut_ptr(), line.len()) }
+}
+
+pub fn write_report(record: &[u64], line: &mut [u8]) -> u64 {
+    unsafe { kakoludar_write_report(record.as_ptr(), record.len(), line.as_mut_ptr(), line.len()) }
+}
