@@ -5,3 +5,4 @@ pub mod Ending
 pub mod Longer
 pub mod Pieces
 pub mod Starts
+pub mod Said

@@ -10,7 +10,8 @@ use Rattle.reading.proofs.EventLines.{event-only}
 use Rattle.reading.proofs.SettingsLines.{settings-only}
 use Rattle.records.proofs.Told.{told-only}
 use Rattle.writing.proofs.Back.{writes-one}
-use Rattle.promises.specs.Determined.{OpeningDetermined, ViewDetermined, ApplyDetermined, EventReadDetermined, SettingsReadDetermined, WriteDetermined, RecordReadDetermined}
+use Rattle.feed.specs.Worlds.{Lent, lentOf}
+use Rattle.promises.specs.Determined.{OpeningDetermined, ViewDetermined, ApplyDetermined, EventReadDetermined, SettingsReadDetermined, WriteDetermined, RecordReadDetermined, FeedDetermined, EndDetermined}
 
 pub opening-determined : OpeningDetermined
 opening-determined g r r′ e f = e ∙ sym f
@@ -62,3 +63,21 @@ write-determined room line numbers room₁ room₂ r₁ r₂ a b = writes-one a 
 
 pub record-read-determined : RecordReadDetermined
 record-read-determined = told-only
+
+pub feed-determined : FeedDetermined
+feed-determined run buys sells room bytes out buys₁ sells₁ room₁ out₁ buys₂ sells₂ room₂ out₂ r₁ r₂ a b =
+    let w : lentOf (r₁ .run .session) buys₁ sells₁ room₁ ≡ lentOf (r₂ .run .session) buys₂ sells₂ room₂ = a .world ∙ sym (b .world) in
+    record {
+      stage = a .stage ∙ sym (b .stage);
+      session = ap (λ (l : Lent). l .session) w;
+      used = a .used ∙ sym (b .used);
+      wrote = a .printed .count ∙ sym (b .printed .count);
+      stop = a .stop ∙ sym (b .stop);
+      bought = ap (λ (l : Lent). l .buys) w;
+      sold = ap (λ (l : Lent). l .sells) w;
+      told = ap (λ (l : Lent). l .room) w;
+      printed = a .printed .laid ∙ sym (b .printed .laid);
+    }
+
+pub end-determined : EndDetermined
+end-determined stage rest out out₁ out₂ r₁ r₂ a b = (a .answer ∙ sym (b .answer), a .laid ∙ sym (b .laid))

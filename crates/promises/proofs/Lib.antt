@@ -7,3 +7,4 @@ pub mod Records
 pub mod Tables
 pub mod Determined
 pub mod Seen
+pub mod Printing

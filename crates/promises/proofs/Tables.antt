@@ -62,11 +62,11 @@ handed (Refused r) o rs room room′ e f h = h ∙ sym (f r refl)
 
 -- ---- what it leaves, by what it comes to
 
-record Left (o : Outcome) (h : Held) (rs : List Report) (h′ : Held) : Type 0 where
-  session : h′ .session ≡ o .day .session
-  buys : h′ .buys ≡ tableBy (o .verdict) (o .day .buys) (h .buys)
-  sells : h′ .sells ≡ tableBy (o .verdict) (o .day .sells) (h .sells)
-  reports : rs ≡ o .reports
+pub record Left (o : Outcome) (h : Held) (rs : List Report) (h′ : Held) : Type 0 where
+  pub session : h′ .session ≡ o .day .session
+  pub buys : h′ .buys ≡ tableBy (o .verdict) (o .day .buys) (h .buys)
+  pub sells : h′ .sells ≡ tableBy (o .verdict) (o .day .sells) (h .sells)
+  pub reports : rs ≡ o .reports
 
 called-silent : (s : Session) (e : Event) (buys sells room : List ℕ) (r : Refusal) → called s e buys sells room .verdict ≡ Refused r →
     called s e buys sells room .reports ≡ []
@@ -122,7 +122,7 @@ module _ (h h′ : Held) (e : Event) (rs : List Report) (k : Left (outcome (dayH
       (k .sells ∙ ap (λ (x : Verdict). tableBy x (o .day .sells) (h .sells)) v)
       ∙ sym same
 
-  outcome-day : dayHeld h′ ≡ o .day
+  pub outcome-day : dayHeld h′ ≡ o .day
   outcome-day = by-verdict (o .verdict) refl
 
 -- ---- a run

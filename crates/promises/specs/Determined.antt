@@ -17,6 +17,10 @@ use Rattle.records.specs.declared.ReadRecord.{ReadRecord}
 use Rattle.records.specs.Back.{RecordRead}
 use Rattle.writing.specs.declared.Wrote.{Wrote}
 use Rattle.writing.specs.Writes.{Writes}
+use Rattle.feed.specs.declared.Run.{Run}
+use Rattle.feed.specs.declared.Stage.{Stage}
+use Rattle.feed.specs.declared.Taken.{Taken}
+use Rattle.feed.specs.Feeds.{TakenAs, fedOf, EndedAs}
 
 -- `state::opening::begin`
 abbrev pub OpeningDetermined : Type 0
@@ -55,3 +59,27 @@ WriteDetermined = (room line numbers room₁ room₂ : List ℕ) (r₁ r₂ : Wr
 -- `records::read_record`
 abbrev pub RecordReadDetermined : Type 0
 RecordReadDetermined = (numbers : List ℕ) (r r′ : ReadRecord) → RecordRead numbers r → RecordRead numbers r′ → r ≡ r′
+
+-- ---- text in, text out
+
+pub record SameTaken (r₁ r₂ : Taken) (buys₁ sells₁ room₁ out₁ buys₂ sells₂ room₂ out₂ : List ℕ) : Type 0 where
+  pub stage : r₁ .run .stage ≡ r₂ .run .stage
+  pub session : r₁ .run .session ≡ r₂ .run .session
+  pub used : r₁ .used ≡ r₂ .used
+  pub wrote : r₁ .wrote ≡ r₂ .wrote
+  pub stop : r₁ .stop ≡ r₂ .stop
+  pub bought : buys₁ ≡ buys₂
+  pub sold : sells₁ ≡ sells₂
+  pub told : room₁ ≡ room₂
+  pub printed : out₁ ≡ out₂
+
+abbrev pub FeedDetermined : Type 0
+FeedDetermined =
+    (run : Run) (buys sells room bytes out buys₁ sells₁ room₁ out₁ buys₂ sells₂ room₂ out₂ : List ℕ) (r₁ r₂ : Taken) →
+    TakenAs (fedOf run buys sells room bytes out) out buys₁ sells₁ room₁ out₁ r₁ → TakenAs (fedOf run buys sells room bytes out) out buys₂ sells₂ room₂ out₂ r₂ →
+    SameTaken r₁ r₂ buys₁ sells₁ room₁ out₁ buys₂ sells₂ room₂ out₂
+
+abbrev pub EndDetermined : Type 0
+EndDetermined =
+    (stage : Stage) (rest out out₁ out₂ : List ℕ) (r₁ r₂ : Wrote) → EndedAs stage rest out r₁ out₁ → EndedAs stage rest out r₂ out₂ →
+    (r₁ ≡ r₂) × (out₁ ≡ out₂)

@@ -8,3 +8,4 @@ pub mod ClockLine
 pub mod Cases
 pub mod Runs
 pub mod Determined
+pub mod Printed

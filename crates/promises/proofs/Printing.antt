@@ -1,0 +1,288 @@
+-- The program's output by the calls is that by the days. Assumes nothing.
+use Prim.Native.Nat.{ℕ, zero, suc, _+_, _-_, _*_, _≤_}
+use native.Mathlib.Omega.{arith}
+use mathlib.Core.Path.{_≡_, refl, sym, ap, _∙_, subst}
+use mathlib.Core.Bool.{Bool, true, false, cond}
+use mathlib.Core.List.{List, [], _∷_, _++_, append-assoc, append-nil}
+use lib.ListN.{length, take, drop}
+use lib.Dec.{ltb, leb, eqb}
+use lib.Seq.{take-append-seam, drop-append-le}
+use borrow.Author.Tests.{leb-true, ltb-true, ltb-false, eqb-true, eqb-false}
+use Rattle.terms.specs.declared.Event.{Event}
+use Rattle.terms.specs.declared.Settings.{Settings}
+use Rattle.terms.specs.declared.Order.{Order}
+use Rattle.terms.specs.declared.Refusal.{Refusal}
+use Rattle.terms.specs.declared.Refusal.the-variants.{SmallRoom, SmallLineRoom}
+use Rattle.terms.specs.declared.Verdict.{Verdict}
+use Rattle.terms.specs.declared.Verdict.the-variants.{Fine, Refused}
+use Rattle.terms.specs.Sizes.{slots, tableLength, roomLength, reportsMost}
+use Rattle.terms.specs.Settings.{settingsVerdict}
+use Rattle.terms.specs.Records.{recordsOf}
+use Rattle.terms.proofs.Logic.{both, cases}
+use Rattle.terms.proofs.Cascade.{fine-first}
+use Rattle.tables.specs.Put.{put}
+use Rattle.tables.specs.Tables.{decode, tableOf}
+use Rattle.tables.proofs.Puts.{length-put}
+use Rattle.tables.proofs.Whole.{length-tableOf}
+use Rattle.tables.proofs.Written.{length-records}
+use Rattle.text.specs.Grammar.{Answer, whole, unfinished, wrong}
+use Rattle.reading.specs.Answers.{readEvent, readSettings}
+use Rattle.state.specs.declared.Session.{Session}
+use Rattle.state.specs.Opening.{openedBy, openingOf, openedSession, fixedSession}
+use Rattle.state.specs.Day.{Day}
+use Rattle.soundness.specs.Sound.{sound, dayIn}
+use Rattle.soundness.proofs.Clocked.{session-clocked}
+use Rattle.soundness.proofs.Days.{SoundDay, sound-day}
+use Rattle.engine.specs.Outcome.{Outcome, outcome}
+use Rattle.engine.specs.Calls.{roomy, called, tableBy}
+use Rattle.engine.proofs.Kept.{accepted-sound, refused-nothing, outcome-few}
+use Rattle.engine.proofs.Applies.{called-outcome}
+use Rattle.feed.specs.declared.Run.{Run}
+use Rattle.feed.specs.declared.Stage.{Stage}
+use Rattle.feed.specs.declared.Stop.{Stop}
+use Rattle.feed.specs.Texts.{textMost, eventText, endText}
+use Rattle.feed.specs.Worlds.{World, Lent, lentOf, days, calls}
+use Rattle.feed.specs.Turns.{Turn, Fed, fedIn, settingsTurn, eventTurn, turnOf, printedIn, printedFrom, printed}
+use Rattle.feed.specs.Feeds.{TakenAs, feedVerdict, fedBy, fedOf}
+use Rattle.feed.proofs.Going.{fed-none, fed-full, fed-last, fed-ahead}
+use Rattle.feed.proofs.Pieces.{pieces, end-prints-rest}
+use Rattle.promises.specs.Runs.{Held, dayHeld}
+use Rattle.promises.specs.Printed.{Holding, atStart, dayOn, Piece, Handed, Feeding, FeedingPrints, EndPrints}
+use Rattle.promises.specs.Printed.Feeding.{ends, feeds}
+use Rattle.promises.proofs.Tables.{Left, outcome-day}
+
+-- ---- lent numbers as a day
+
+abbrev dayLent : Lent → Day
+dayLent l = dayIn (l .session) (l .buys) (l .sells)
+
+-- all that is lent is long enough
+abbrev Long : Lent → Type 0
+Long l = roomy (l .buys) (l .sells) (l .room) ≡ true
+
+-- ---- an opening: a session with no orders
+
+none-live : (v : Verdict) (g : Settings) → (openedBy g v .session .buys ≡ 0) × (openedBy g v .session .sells ≡ 0)
+unfolding openedSession fixedSession
+none-live Fine g = (refl, refl)
+none-live (Refused r) g = (refl, refl)
+
+opened-day : (g : Settings) (l : Lent) → dayLent (calls .opened l (openingOf g .session)) ≡ days .opened (dayLent l) (openingOf g .session)
+unfolding openingOf calls days decode
+opened-day g l =
+    let n = none-live (settingsVerdict g) g in
+    rw (n .0, n .1)
+
+-- ---- an event
+
+module _ (l : Lent) (e : Event) (long : Long l) where
+  abbrev o : Outcome
+  o = outcome (dayLent l) e
+
+  abbrev l′ : Lent
+  l′ = calls .next l e
+
+  comes-to : called (l .session) e (l .buys) (l .sells) (l .room) ≡ o
+  comes-to = called-outcome (l .session) e (l .buys) (l .sells) (l .room) long
+
+  abbrev before : Held
+  before = record { session = l .session; buys = l .buys; sells = l .sells }
+
+  abbrev afterwards : Held
+  afterwards = record { session = l′ .session; buys = l′ .buys; sells = l′ .sells }
+
+  left : Left o before (o .reports) afterwards
+  unfolding calls
+  left =
+      record {
+        session = ap (λ (x : Outcome). x .day .session) comes-to;
+        buys = ap (λ (x : Outcome). tableBy (x .verdict) (x .day .buys) (l .buys)) comes-to;
+        sells = ap (λ (x : Outcome). tableBy (x .verdict) (x .day .sells) (l .sells)) comes-to;
+        reports = refl;
+      }
+
+  next-day : dayLent l′ ≡ days .next (dayLent l) e
+  unfolding days
+  next-day = outcome-day before afterwards e (o .reports) left
+
+  -- it keeps the lengths
+  few : (side : List Order) (n : ℕ) → n ≡ length side → n ≤ slots → length side ≤ slots
+  few side n q h = rw q at h
+
+  table-kept : (v : Verdict) (os : List Order) (t : List ℕ) → (v ≡ Fine → length os ≤ slots) → tableLength ≤ length t → length (tableBy v os t) ≡ length t
+  table-kept Fine os t f h = length-tableOf os t (f refl) h
+  table-kept (Refused r) os t f h = refl
+
+  sides-few : o .verdict ≡ Fine → (length (o .day .buys) ≤ slots) × (length (o .day .sells) ≤ slots)
+  unfolding sound
+  sides-few v =
+      let s = accepted-sound (dayLent l) e v in
+      let d = sound-day (o .day) s in
+      let c = session-clocked (o .day .session) (both (both s .0) .0) in
+      (few (o .day .buys) (o .day .session .buys) (d .buys-counted) (c .buys-few), few (o .day .sells) (o .day .session .sells) (d .sells-counted) (c .sells-few))
+
+  all-long : (tableLength ≤ length (l .buys)) × (tableLength ≤ length (l .sells)) × (roomLength ≤ length (l .room))
+  unfolding roomy
+  all-long = let r = both long in let t = both (r .0) in (leb-true tableLength (length (l .buys)) (t .0), leb-true tableLength (length (l .sells)) (t .1), leb-true roomLength (length (l .room)) (r .1))
+
+  next-long : Long l′
+  unfolding calls roomy
+  next-long =
+      let b = table-kept (o .verdict) (o .day .buys) (l .buys) (λ v. sides-few v .0) (all-long .0) in
+      let s = table-kept (o .verdict) (o .day .sells) (l .sells) (λ v. sides-few v .1) (all-long .1) in
+      let n = length-records (o .reports) in
+      let m = outcome-few (dayLent l) e in
+      let fit : 0 + length (recordsOf (o .reports)) ≤ length (l .room) = omega (arith, all-long .2) in
+      let r = length-put (l .room) 0 (recordsOf (o .reports)) fit in
+      rw (comes-to, b, s, r) long
+
+-- ---- a line
+
+record Same (t : Turn Lent) (u : Turn Day) : Type 0 where
+  stage : t .stage ≡ u .stage
+  day : dayLent (t .world) ≡ u .world
+  used : t .used ≡ u .used
+  text : t .text ≡ u .text
+  long : Long (t .world)
+
+settings-same : (l : Lent) → Long l → (o : Answer Settings) → Same (settingsTurn calls l o) (settingsTurn days (dayLent l) o)
+unfolding calls
+settings-same l h (whole g n) = record { stage = refl; day = opened-day g l; used = refl; text = refl; long = h }
+settings-same l h unfinished = record { stage = refl; day = refl; used = refl; text = refl; long = h }
+settings-same l h (wrong n) = record { stage = refl; day = refl; used = refl; text = refl; long = h }
+
+event-same : (l : Lent) → Long l → (o : Answer Event) → Same (eventTurn calls l o) (eventTurn days (dayLent l) o)
+unfolding calls days
+event-same l h (whole e n) =
+    record {
+      stage = refl;
+      day = next-day l e h;
+      used = refl;
+      text = ap (λ (x : Outcome). eventText e (x .verdict) (x .reports)) (comes-to l e h);
+      long = next-long l e h;
+    }
+event-same l h unfinished = record { stage = refl; day = refl; used = refl; text = refl; long = h }
+event-same l h (wrong n) = record { stage = refl; day = refl; used = refl; text = refl; long = h }
+
+turn-same : (stage : Stage) (l : Lent) → Long l → (bytes : List ℕ) → Same (turnOf calls stage l bytes) (turnOf days stage (dayLent l) bytes)
+turn-same Stage.Awaiting l h bytes = settings-same l h (readSettings bytes)
+turn-same Stage.Trading l h bytes = event-same l h (readEvent bytes)
+turn-same Stage.Over l h bytes = record { stage = refl; day = refl; used = refl; text = refl; long = h }
+
+-- ---- all lines
+
+same-printed : (n : ℕ) (stage : Stage) (l : Lent) (bytes : List ℕ) → Long l → printedIn calls n stage l bytes ≡ printedIn days n stage (dayLent l) bytes
+unfolding printedIn
+same-printed zero stage l bytes h = refl
+same-printed (suc n) stage l bytes h =
+    let t : Turn Lent = turnOf calls stage l bytes in
+    let s : Same t (turnOf days stage (dayLent l) bytes) = turn-same stage l h bytes in
+    ap (λ (x : List ℕ). t .text ++ cond (eqb (t .used) 0) (endText (t .stage) (length bytes)) x)
+    (same-printed n (t .stage) (t .world) (drop (t .used) bytes) (s .long))
+    ∙ (λ i.
+    s .text i
+    ++ cond (eqb (s .used i) 0) (endText (s .stage i) (length bytes)) (printedIn days n (s .stage i) (s .day i) (drop (s .used i) bytes)))
+
+fed-long : (n left : ℕ) (stage : Stage) (l : Lent) (bytes : List ℕ) → Long l → Long (fedIn calls n left stage l bytes .world)
+unfolding fedIn
+fed-long zero left stage l bytes h = h
+fed-long (suc n) left stage l bytes h =
+    let t : Turn Lent = turnOf calls stage l bytes in
+    let P : Fed Lent → Type 0 = λ f. Long (f .world) in
+    cases (ltb 0 (length bytes))
+    (λ e.
+    let some = ltb-true 0 (length bytes) e in
+    cases (ltb left textMost)
+    (λ f. subst P (sym (fed-full calls n left stage l bytes some (ltb-true left textMost f))) h)
+    (λ f.
+    let wide = ltb-false left textMost f in
+    let k = turn-same stage l h bytes .long in
+    cases (eqb (t .used) 0)
+    (λ u. subst P (sym (fed-last calls n left stage l bytes some wide (eqb-true (t .used) 0 u))) k)
+    (λ u.
+    subst P (sym (fed-ahead calls n left stage l bytes some wide (eqb-false (t .used) 0 u)))
+    (fed-long n (left - length (t .text)) (t .stage) (t .world) (drop (t .used) bytes) k))))
+    (λ e. subst P (sym (fed-none calls (suc n) left stage l bytes (ltb-false 0 (length bytes) e))) h)
+
+-- ---- a call
+
+fine-fed : (run : Run) (buys sells room bytes out : List ℕ) → feedVerdict buys sells room out ≡ Fine →
+    fedOf run buys sells room bytes out ≡ fedIn calls (length bytes) (length out) (run .stage) (lentOf (run .session) buys sells room) bytes
+unfolding fedOf
+fine-fed run buys sells room bytes out v = ap (λ (x : Verdict). fedBy x run (lentOf (run .session) buys sells room) bytes (length out)) v
+
+fine-long : (buys sells room out : List ℕ) → feedVerdict buys sells room out ≡ Fine → roomy buys sells room ≡ true
+unfolding feedVerdict
+fine-long buys sells room out v = fine-first SmallRoom (roomy buys sells room) _ v .0
+
+module _ (h h′ : Holding) (p : Piece) (text : List ℕ) (k : Handed h p text h′) where
+  abbrev all-bytes : List ℕ
+  all-bytes = h .kept ++ p .bytes
+
+  abbrev lent : Lent
+  lent = lentOf (h .run .session) (h .buys) (h .sells) (p .room)
+
+  abbrev f : Fed Lent
+  f = fedIn calls (length all-bytes) (length (p .out)) (h .run .stage) lent all-bytes
+
+  kept-long : Long lent
+  kept-long = fine-long (h .buys) (h .sells) (p .room) (p .out) (k .enough)
+
+  as-fed : TakenAs f (p .out) (h′ .buys) (h′ .sells) (k .room) (k .out) (k .answered)
+  as-fed =
+      subst (λ (x : Fed Lent). TakenAs x (p .out) (h′ .buys) (h′ .sells) (k .room) (k .out) (k .answered))
+      (fine-fed (h .run) (h .buys) (h .sells) (p .room) all-bytes (p .out) (k .enough)) (k .contract)
+
+  text-is : f .text ≡ text
+  text-is =
+      let c = as-fed .printed in
+      sym (k .told ∙ (λ i. take (c .count i) (c .laid i)) ∙ take-append-seam (f .text) (drop (length (f .text)) (p .out)))
+
+  stage-is : f .stage ≡ h′ .run .stage
+  stage-is = sym (ap (λ (x : Run). x .stage) (k .run) ∙ as-fed .stage)
+
+  world-is : dayLent (f .world) ≡ dayOn h′
+  world-is =
+      ap dayLent (sym (as-fed .world)) ∙ ap (λ (x : Run). dayIn (x .session) (h′ .buys) (h′ .sells)) (sym (k .run))
+
+  kept-is : drop (f .used) all-bytes ≡ h′ .kept
+  kept-is = sym (k .kept ∙ ap (λ (n : ℕ). drop n all-bytes) (as-fed .used))
+
+  by-days : (bytes : List ℕ) → printedFrom calls (f .stage) (f .world) bytes ≡ printedFrom days (h′ .run .stage) (dayOn h′) bytes
+  by-days bytes =
+      same-printed (length bytes) (f .stage) (f .world) bytes (fed-long (length all-bytes) (length (p .out)) (h .run .stage) lent all-bytes kept-long)
+      ∙ (λ i. printedFrom days (stage-is i) (world-is i) bytes)
+
+  handed-prints : (more : List ℕ) →
+      printedFrom days (h .run .stage) (dayOn h) (all-bytes ++ more) ≡ text ++ printedFrom days (h′ .run .stage) (dayOn h′) (h′ .kept ++ more)
+  handed-prints more =
+      sym (same-printed (length (all-bytes ++ more)) (h .run .stage) lent (all-bytes ++ more) kept-long)
+      ∙ pieces calls (length all-bytes) (length (p .out)) (h .run .stage) lent all-bytes more
+      ∙ ap (λ (x : List ℕ). f .text ++ x) (by-days (drop (f .used) all-bytes ++ more))
+      ∙ (λ i. text-is i ++ printedFrom days (h′ .run .stage) (dayOn h′) (kept-is i ++ more))
+
+  handed-ends : (k .answered .stop ≡ Stop.Full → ⊥) →
+      printedFrom days (h′ .run .stage) (dayOn h′) (h′ .kept) ≡ endText (h′ .run .stage) (length (h′ .kept))
+  handed-ends went =
+      ap (printedFrom days (h′ .run .stage) (dayOn h′)) (sym kept-is)
+      ∙ sym (by-days (drop (f .used) all-bytes))
+      ∙ end-prints-rest calls (length (p .out)) (h .run .stage) lent all-bytes (λ e. went (as-fed .stop ∙ e))
+      ∙ (λ i. endText (stage-is i) (length (kept-is i)))
+
+-- ---- so
+
+feeding : (h h′ : Holding) (input text : List ℕ) → Feeding h input text h′ →
+    printedFrom days (h .run .stage) (dayOn h) (h .kept ++ input) ≡ text ++ printedFrom days (h′ .run .stage) (dayOn h′) (h′ .kept)
+feeding h h′ input text (ends _) = ap (printedFrom days (h .run .stage) (dayOn h)) (append-nil (h .kept))
+feeding h h″ input text (feeds _ h′ _ p rest told more k r) =
+    ap (printedFrom days (h .run .stage) (dayOn h)) (sym (append-assoc (h .kept) (p .bytes) rest))
+    ∙ handed-prints h h′ p told k rest
+    ∙ ap (λ (x : List ℕ). told ++ x) (feeding h′ h″ rest more r)
+    ∙ sym (append-assoc told more (printedFrom days (h″ .run .stage) (dayOn h″) (h″ .kept)))
+
+pub feeding-prints : FeedingPrints
+unfolding printed fixedSession decode
+feeding-prints buys sells input text h r = feeding (atStart buys sells) h input text r
+
+pub end-prints : EndPrints
+end-prints h h′ p text k went = handed-ends h h′ p text k went

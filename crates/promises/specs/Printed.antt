@@ -1,0 +1,68 @@
+-- WHAT THE PROGRAM PRINTS: a run of calls of `feed::lines::take_lines`, each handed what the last one left and a further piece of the
+-- input, prints what `printed` says of the whole input, which speaks of days and knows of no call, table or piece.
+use Prim.Native.Nat.{ℕ}
+use mathlib.Core.Path.{_≡_}
+use mathlib.Core.List.{List, [], _++_}
+use lib.ListN.{length, take, drop}
+use Rattle.terms.specs.declared.Verdict.the-variants.{Fine}
+use Rattle.state.specs.Day.{Day}
+use Rattle.soundness.specs.Sound.{dayIn}
+use Rattle.feed.specs.declared.Run.{Run}
+use Rattle.feed.specs.declared.Stop.{Stop}
+use Rattle.feed.specs.declared.Taken.{Taken}
+use Rattle.feed.specs.Texts.{endText}
+use Rattle.feed.specs.Worlds.{days}
+use Rattle.feed.specs.Turns.{printedFrom, printed}
+use Rattle.feed.specs.Feeds.{begun, feedVerdict, fedOf, TakenAs}
+
+-- ---- what a caller holds between calls: the run, both tables, and the bytes that were not taken
+
+pub record Holding : Type 0 where
+  pub run : Run
+  pub buys : List ℕ
+  pub sells : List ℕ
+  pub kept : List ℕ
+
+-- before the first call: the tables hold anything
+abbrev pub atStart : List ℕ → List ℕ → Holding
+atStart buys sells = record { run = begun; buys = buys; sells = sells; kept = [] }
+
+abbrev pub dayOn : Holding → Day
+dayOn h = dayIn (h .run .session) (h .buys) (h .sells)
+
+-- ---- a call: the next piece of the input, a report room and an output room that hold anything and are long enough
+
+pub record Piece : Type 0 where
+  pub bytes : List ℕ
+  pub room : List ℕ
+  pub out : List ℕ
+
+-- the call is handed h and a piece, prints text and leaves h′; nothing is known of it but the contract
+pub record Handed (h : Holding) (p : Piece) (text : List ℕ) (h′ : Holding) : Type 0 where
+  pub answered : Taken
+  pub room : List ℕ
+  pub out : List ℕ
+  pub enough : feedVerdict (h .buys) (h .sells) (p .room) (p .out) ≡ Fine
+  pub contract : TakenAs (fedOf (h .run) (h .buys) (h .sells) (p .room) (h .kept ++ p .bytes) (p .out)) (p .out) (h′ .buys) (h′ .sells) room out answered
+  pub run : h′ .run ≡ answered .run
+  pub kept : h′ .kept ≡ drop (answered .used) (h .kept ++ p .bytes)
+  pub told : text ≡ take (answered .wrote) out
+
+-- ---- a run of them: the whole input, all that is printed, and what is held at the end
+
+pub data Feeding : Holding → List ℕ → List ℕ → Holding → Type 0 where
+  ends : (h : Holding) → Feeding h [] [] h
+  feeds : (h h′ h″ : Holding) (p : Piece) (input text more : List ℕ) → Handed h p text h′ → Feeding h′ input more h″ →
+      Feeding h (p .bytes ++ input) (text ++ more) h″
+
+-- HOWEVER THE INPUT IS CUT: what was printed, and what is still to be printed of the bytes that are held, is `printed` of the whole
+abbrev pub FeedingPrints : Type 0
+FeedingPrints =
+    (buys sells input text : List ℕ) (h : Holding) → Feeding (atStart buys sells) input text h →
+    printed input ≡ text ++ printedFrom days (h .run .stage) (dayOn h) (h .kept)
+
+-- and after a call that did not stop for want of room, what is still to be printed is what `feed::lines::take_end` prints
+abbrev pub EndPrints : Type 0
+EndPrints =
+    (h h′ : Holding) (p : Piece) (text : List ℕ) (k : Handed h p text h′) → (k .answered .stop ≡ Stop.Full → ⊥) →
+    printedFrom days (h′ .run .stage) (dayOn h′) (h′ .kept) ≡ endText (h′ .run .stage) (length (h′ .kept))
