@@ -1,6 +1,5 @@
 pub mod Opens
 pub mod Applying
-pub mod Short
 pub mod LineReads
 pub mod LineWrites
 pub mod Ten

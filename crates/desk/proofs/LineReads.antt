@@ -26,7 +26,7 @@ use Rattle.packing.specs.Settings.{settingsNumbers}
 use Rattle.packing.specs.Events.{eventNumbers}
 use Rattle.packing.specs.Answers.{countMost, answerNumber, answerOf}
 use Rattle.desk.specs.Reads.{ReadInto, EventReadInto, SettingsReadInto}
-use Rattle.desk.proofs.Short.{event-short, settings-short}
+use Rattle.writing.proofs.Short.{event-short, settings-short}
 
 -- ---- of any lines that are no longer than a line room
 

@@ -27,7 +27,7 @@ use Rattle.packing.specs.Settings.{isCategory, settingsFrom}
 use Rattle.packing.specs.Events.{foundIn, eventFrom}
 use Rattle.packing.specs.Answers.{countMost, answerOf}
 use Rattle.desk.specs.Writes.{wroteNumber, Few, WrittenOn, settingsVerdictOn, SettingsWrittenOn, eventVerdictOn, EventWrittenOn, reportIn, reportVerdictOn, ReportWrittenOn}
-use Rattle.desk.proofs.Short.{event-short, settings-short, report-short}
+use Rattle.writing.proofs.Short.{event-short, settings-short, report-short}
 
 -- ---- of any line
 

@@ -23,10 +23,9 @@ use Rattle.terms.specs.Refusals.{firstFailed}
 use Rattle.terms.proofs.Logic.{by}
 use Rattle.tables.specs.Put.{put}
 use Rattle.text.specs.Numerals.{allWritable}
-use Rattle.text.specs.Forms.{fill, longest}
-use Rattle.text.proofs.Fills.{fill-length}
 use Rattle.writing.specs.declared.Wrote.{Wrote}
-use Rattle.writing.specs.Lines.{reportForm, reportNumbers, renderReport}
+use Rattle.writing.specs.Lines.{reportNumbers, renderReport}
+use Rattle.writing.proofs.Short.{report-short}
 use Rattle.writing.specs.Writes.{lineVerdict, wroteOf, roomOf, Writes}
 use Rattle.records.specs.declared.ReadRecord.{ReadRecord}
 use Rattle.records.specs.Back.{RecordRead, reportFrom}
@@ -72,25 +71,14 @@ record-found room at r h k =
     ap toldText (told-only _ r (firstRecord s) (rw (six-at s 0 l) at k) (told-right (getD s 0 0) (getD s 1 0) (getD s 2 0) (getD s 3 0) (getD s 4 0) (getD s 5 0)))
 
 -- no line is longer than the room that a writer asks for
-short-form : (s : Said) → longest (reportForm s) ≤ lineRoom
-unfolding longest
-short-form (Accept number) = omega arith
-short-form (Trade deal) = omega arith
-short-form (Convert order) = omega arith
-short-form (Cancel ended) = omega arith
-short-form (Slab band) = omega arith
-short-form (Ref price) = omega arith
-short-form (Close closing) = omega arith
-
-report-short : (r : Report) → length (reportText r) ≤ lineRoom
-unfolding reportText renderReport
-report-short r =
-    let l = fill-length (reportForm (r .said)) (reportNumbers r) in
-    let m = short-form (r .said) in
-    by (λ (t : List ℕ). length t ≤ lineRoom) (allWritable (reportNumbers r)) _ [] (λ e. omega arith) (λ e. omega arith)
+text-short : (r : Report) → length (reportText r) ≤ lineRoom
+unfolding reportText
+text-short r =
+    let l = report-short r in
+    by (λ (t : List ℕ). length t ≤ lineRoom) (allWritable (reportNumbers r)) _ [] (λ e. l) (λ e. omega arith)
 
 told-short : (r : ReadRecord) → length (toldText r) ≤ lineRoom
-told-short (ReadRecord.Told r) = report-short r
+told-short (ReadRecord.Told r) = text-short r
 told-short ReadRecord.Nothing = omega arith
 
 pub record-short : (ns : List ℕ) → length (recordText ns) ≤ lineRoom

@@ -8,31 +8,19 @@ use lib.ListN.{length, drop, length-append, length-drop}
 use lib.Seq.{drop-drop}
 use lib.Dec.{ltb, eqb}
 use borrow.Author.Tests.{ltb-true, ltb-false, eqb-true, eqb-false}
-use Rattle.terms.specs.declared.Category.{Category}
-use Rattle.terms.specs.declared.Category.the-variants.{Broad, Narrow, Sensitive, Energy, Metals, Precious, Gems, Other}
 use Rattle.terms.specs.declared.Settings.{Settings}
-use Rattle.terms.specs.declared.Side.{Side}
-use Rattle.terms.specs.declared.Side.the-variants.{Buy, Sell}
-use Rattle.terms.specs.declared.Kind.{Kind}
-use Rattle.terms.specs.declared.Kind.the-variants.{Limit, Market}
-use Rattle.terms.specs.declared.Life.{Life}
-use Rattle.terms.specs.declared.Life.the-variants.{AllDay, Ioc}
-use Rattle.terms.specs.declared.Act.{Act}
-use Rattle.terms.specs.declared.Act.the-variants.{Enter, Withdraw, Under, Clock, Finish}
 use Rattle.terms.specs.declared.Event.{Event}
 use Rattle.terms.specs.declared.Verdict.{Verdict}
 use Rattle.terms.specs.declared.Verdict.the-variants.{Fine, Refused}
 use Rattle.terms.specs.Sizes.{lineRoom}
 use Rattle.terms.proofs.Logic.{cases}
-use Rattle.text.specs.Text.{bytes}
-use Rattle.text.specs.Forms.{fill, longest}
 use Rattle.text.specs.Grammar.{Answer, whole, unfinished, wrong}
 use Rattle.text.specs.Reading.{Begins, Right}
-use Rattle.text.proofs.Fills.{fill-length}
-use Rattle.reading.specs.Lines.{EventLine, SettingsLine, renderEvent, renderSettings, eventForm, eventNumbers, settingsForm, settingsNumbers, numbersForm, sideWord, orderForm}
+use Rattle.reading.specs.Lines.{EventLine, SettingsLine, renderEvent, renderSettings}
 use Rattle.reading.specs.Answers.{readEvent, readSettings}
 use Rattle.reading.proofs.EventLines.{event-right}
 use Rattle.reading.proofs.SettingsLines.{settings-right}
+use Rattle.writing.proofs.Short.{event-short, settings-short}
 use Rattle.feed.specs.declared.Run.{Run}
 use Rattle.feed.specs.declared.Taken.{Taken}
 use Rattle.feed.specs.declared.Stage.{Stage}
@@ -46,57 +34,18 @@ use Rattle.feed.proofs.Prints.{prints-within}
 use Rattle.feed.proofs.Going.{turn-within, fed-none, fed-full, fed-last, fed-ahead}
 use Rattle.feed.proofs.Pieces.{settings-some, event-some}
 
--- ---- lines are short
+-- ---- lines are short, and so are their starts
 
-order-short : (side : Side) (kind : Kind) (life : Life) → longest (bytes "t=# do=" ++ (sideWord side ++ orderForm kind life)) ≤ lineRoom
-unfolding longest
-order-short Buy (Limit p) AllDay = omega arith
-order-short Buy (Limit p) Ioc = omega arith
-order-short Buy Market AllDay = omega arith
-order-short Buy Market Ioc = omega arith
-order-short Sell (Limit p) AllDay = omega arith
-order-short Sell (Limit p) Ioc = omega arith
-order-short Sell Market AllDay = omega arith
-order-short Sell Market Ioc = omega arith
-
-act-short : (a : Act) → longest (eventForm a) ≤ lineRoom
-unfolding longest
-act-short (Enter o) = order-short (o .side) (o .kind) (o .life)
-act-short (Withdraw n) = omega arith
-act-short (Under p) = omega arith
-act-short Clock = omega arith
-act-short (Finish p) = omega arith
-
-category-short : (c : Category) → longest (settingsForm c) ≤ lineRoom
-unfolding longest numbersForm
-category-short Broad = omega arith
-category-short Narrow = omega arith
-category-short Sensitive = omega arith
-category-short Energy = omega arith
-category-short Metals = omega arith
-category-short Precious = omega arith
-category-short Gems = omega arith
-category-short Other = omega arith
-
--- and so are their starts
 start-short : (s rest line : List ℕ) → s ++ rest ≡ line → length line ≤ lineRoom → length s ≤ lineRoom
 start-short s rest line e h =
     let l = sym (length-append s rest) ∙ ap length e in
     omega arith
 
 event-start : (s : List ℕ) → Begins EventLine s → length s ≤ lineRoom
-unfolding renderEvent
-event-start s (e, rest, l) =
-    let f = fill-length (eventForm (e .act)) (eventNumbers e) in
-    let a = act-short (e .act) in
-    start-short s rest (renderEvent e) (l .0) (omega arith)
+event-start s (e, rest, l) = start-short s rest (renderEvent e) (l .0) (event-short e)
 
 settings-start : (s : List ℕ) → Begins SettingsLine s → length s ≤ lineRoom
-unfolding renderSettings
-settings-start s (g, rest, l) =
-    let f = fill-length (settingsForm (g .category)) (settingsNumbers g) in
-    let a = category-short (g .category) in
-    start-short s rest (renderSettings g) (l .0) (omega arith)
+settings-start s (g, rest, l) = start-short s rest (renderSettings g) (l .0) (settings-short g)
 
 not-waits : Stop.Over ≡ Stop.Waits → ⊥
 not-waits p = let z : _≡_ {A = ℕ} 0 1 = cc in omega arith
