@@ -9,7 +9,7 @@ pub mod raw;
 pub mod terms;
 
 pub use terms::{Act, Category, Event, Kind, Life, Refusal, Report, Settings, Side, Why};
-use terms::{EVENT, LINE, RECORD, ROOM, SESSION, SETTINGS, TABLE};
+use terms::{COUNTS, EVENT, LINE, RECORD, ROOM, RUN, SESSION, SETTINGS, TABLE, TEXT};
 
 /// Takes an answer apart: the count, or the refusal and the count beside it.
 fn answered(answer: u64) -> Result<usize, (Refusal, usize)> {
@@ -174,45 +174,86 @@ pub fn write_report(record: &[u64; RECORD]) -> Result<Line, Refusal> {
     Line::by(|room| raw::write_report(record, room))
 }
 
-/// Text in, text out: takes session lines, adds report lines to `out`. It is the program `session` without its input and output.
-pub struct Desk;
+/// Text in, text out: takes session lines in pieces, however they are cut, and adds report lines to `out`. It is the program
+/// `session` without its input and output, with the memory that the library is lent.
+pub struct Desk {
+    run: [u64; RUN],
+    buys: [u64; TABLE],
+    sells: [u64; TABLE],
+    room: [u64; ROOM],
+    /// What a feed prints, before it goes on to `out`; longer than a feed asks for, so that few calls are made.
+    printed: [u8; TEXT + 16_384],
+    /// The start of an unfinished line.
+    kept: Vec<u8>,
+}
 
 impl Desk {
-    pub fn run(input: &[u8], out: &mut Vec<u8>) {
-        let bad = |out: &mut Vec<u8>, error: NoLine, given: usize| {
-            let (code, at) = match error {
-                NoLine::Unfinished => (14, given),
-                NoLine::Wrong(place) => (15, place),
-            };
-            out.extend_from_slice(format!("say=bad code={code} at={at}\n").as_bytes());
+    /// A desk before its first line.
+    pub fn new() -> Box<Desk> {
+        let mut desk = Box::new(Desk {
+            run: [0; RUN],
+            buys: [0; TABLE],
+            sells: [0; TABLE],
+            room: [0; ROOM],
+            printed: [0; TEXT + 16_384],
+            kept: Vec::new(),
+        });
+        desk.restart();
+        desk
+    }
+
+    /// As before the first line.
+    pub fn restart(&mut self) {
+        answered(raw::start(&mut self.run)).expect("the run has its length");
+        self.kept.clear();
+    }
+
+    /// The next piece of the input. False where the run is over, by a bad line or refused settings: nothing more is printed.
+    pub fn feed(&mut self, piece: &[u8], out: &mut Vec<u8>) -> bool {
+        let mut kept = std::mem::take(&mut self.kept);
+        let (used, on) = if kept.is_empty() {
+            let (used, on) = self.take(piece, out);
+            kept.extend_from_slice(&piece[used..]);
+            (0, on)
+        } else {
+            kept.extend_from_slice(piece);
+            self.take(&kept, out)
         };
-        let (settings, taken) = match read_settings(input) {
-            Ok(read) => read,
-            Err(error) => return bad(out, error, input.len()),
-        };
-        let mut day = match Session::open(&settings) {
-            Ok(day) => day,
-            Err(refusal) => {
-                return out.extend_from_slice(format!("say=bad code={} at=0\n", refusal.number()).as_bytes());
-            }
-        };
-        let mut rest = &input[taken..];
-        let mut event = [0; EVENT];
-        while !rest.is_empty() {
-            match answered(raw::read_event(rest, &mut event)) {
-                Ok(taken) => rest = &rest[taken..],
-                Err(error) => return bad(out, NoLine::of(error), rest.len()),
-            }
-            match day.apply_records(&event) {
-                Ok(records) => {
-                    for record in records {
-                        out.extend_from_slice(&write_report(record).expect("the library wrote it"));
-                    }
-                }
-                Err(refusal) => {
-                    out.extend_from_slice(format!("t={} say=refuse code={}\n", event[0], refusal.number()).as_bytes());
-                }
+        kept.drain(..used);
+        if !on {
+            kept.clear();
+        }
+        self.kept = kept;
+        on
+    }
+
+    /// The end of the input.
+    pub fn end(&mut self, out: &mut Vec<u8>) {
+        let length = answered(raw::end(&self.run, &self.kept, &mut self.printed)).expect("there is room");
+        out.extend_from_slice(&self.printed[..length]);
+    }
+
+    /// Takes the whole lines of some bytes: how many bytes these are, and whether the run goes on.
+    fn take(&mut self, bytes: &[u8], out: &mut Vec<u8>) -> (usize, bool) {
+        let Desk { run, buys, sells, room, printed, .. } = self;
+        let mut counts = [0; COUNTS];
+        let mut at = 0;
+        loop {
+            let answer = raw::feed(run, &bytes[at..], buys, sells, room, printed, &mut counts);
+            let stop = answered(answer).expect("there is room");
+            at += counts[0] as usize;
+            out.extend_from_slice(&printed[..counts[1] as usize]);
+            match stop {
+                1 => {}
+                stop => return (at, stop == 0),
             }
         }
+    }
+
+    /// A whole day.
+    pub fn run(input: &[u8], out: &mut Vec<u8>) {
+        let mut desk = Desk::new();
+        desk.feed(input, out);
+        desk.end(out);
     }
 }

@@ -14,6 +14,12 @@ pub const TABLE: usize = 768;
 pub const ROOM: usize = 3_120;
 /// How many bytes a writer asks for.
 pub const LINE: usize = 128;
+/// How many numbers a run of text has: its stage, and the session's.
+pub const RUN: usize = 44;
+/// How many counts a feed gives: bytes taken, bytes printed.
+pub const COUNTS: usize = 2;
+/// How many bytes of output room a feed asks for: what one line can print at most.
+pub const TEXT: usize = 66_560;
 
 #[derive(Clone, Copy, PartialEq, Eq, Debug)]
 pub enum Category {

@@ -5,7 +5,7 @@ mod common;
 use common::*;
 use kakoludar::plain::{self, lines};
 use kakoludar::terms::*;
-use kakoludar::Desk;
+use kakoludar::{raw, Desk};
 use std::{fs, path::PathBuf};
 
 fn folder() -> Option<PathBuf> {
@@ -55,6 +55,149 @@ fn plain_prints_what_the_vectors_expect() {
 fn the_library_prints_what_the_vectors_expect() {
     for (path, input, expected) in vectors() {
         assert!(printed_by_desk(&input) == expected, "{}", path.display());
+    }
+}
+
+/// What the library prints for pieces of an input, with an output room of some length. Every call is held to its promises:
+/// counts within what was handed in, the room untouched past what was printed, a line's start kept at most.
+fn fed_in_pieces(pieces: &mut dyn Iterator<Item = &[u8]>, room_length: usize, rng: &mut Rng) -> Vec<u8> {
+    const BLANK: u8 = 0xa5;
+    let mut run = rng.garbage(RUN + rng.0 as usize % 2);
+    let [mut buys, mut sells, mut room] = [TABLE, TABLE, ROOM].map(|length| rng.garbage(length));
+    let mut out = vec![BLANK; room_length];
+    let mut counts = [0; COUNTS];
+    let (mut kept, mut printed) = (Vec::new(), Vec::new());
+    let mut over = false;
+    assert_eq!(raw::start(&mut run), 0);
+    assert!(run[..RUN].iter().all(|&number| number == 0));
+    for piece in pieces {
+        kept.extend_from_slice(piece);
+        loop {
+            let answer = raw::feed(&mut run, &kept, &mut buys, &mut sells, &mut room, &mut out, &mut counts);
+            let [used, wrote] = counts.map(|count| count as usize);
+            assert!(raw::code(answer) == 0 && used <= kept.len() && wrote <= out.len());
+            assert!(out[wrote..].iter().take(200).all(|&byte| byte == BLANK));
+            assert!(!over || (used, wrote) == (0, 0));
+            printed.extend_from_slice(&out[..wrote]);
+            out[..wrote].fill(BLANK);
+            kept.drain(..used);
+            match raw::count(answer) {
+                0 => assert!(run[0] < 2 && kept.len() <= LINE),
+                1 => {
+                    assert!(wrote > 0 && !kept.is_empty());
+                    continue;
+                }
+                2 => {
+                    assert_eq!(run[0], 2);
+                    over = true;
+                }
+                stop => panic!("stop {stop}"),
+            }
+            break;
+        }
+    }
+    let answer = raw::end(&run, &kept, &mut out);
+    assert_eq!(raw::code(answer), 0);
+    printed.extend_from_slice(&out[..raw::count(answer) as usize]);
+    printed
+}
+
+/// Pieces of random lengths, short and long.
+fn random_pieces<'a>(input: &'a [u8], rng: &mut Rng) -> Vec<&'a [u8]> {
+    let most = rng.pick(&[3, 40, 200, 5_000]);
+    let mut rest = input;
+    let mut pieces = Vec::new();
+    while !rest.is_empty() {
+        let (piece, after) = rest.split_at((rng.below(most + 1) as usize).min(rest.len()));
+        pieces.push(piece);
+        rest = after;
+    }
+    pieces
+}
+
+const ROOMS: [usize; 4] = [TEXT, TEXT + 1, TEXT + 500, 3 * TEXT];
+
+#[test]
+fn vectors_in_pieces() {
+    let mut rng = Rng(77);
+    for (path, input, expected) in vectors() {
+        assert!(printed_by_plain(&input) == expected, "{}", path.display());
+        for room in ROOMS {
+            let mut feed = |pieces: &mut dyn Iterator<Item = &[u8]>, how: &str| {
+                assert!(fed_in_pieces(pieces, room, &mut rng) == expected, "{} {how}, a room of {room}", path.display());
+            };
+            feed(&mut std::iter::once(&input[..]), "whole");
+            feed(&mut input.chunks(1), "byte by byte");
+            for seed in 0..3 {
+                let pieces = random_pieces(&input, &mut Rng(seed + room as u64));
+                feed(&mut pieces.iter().copied(), "in pieces");
+            }
+        }
+    }
+}
+
+#[test]
+fn a_desk_is_fed_in_pieces() {
+    let mut rng = Rng(78);
+    let mut desk = Desk::new();
+    for (path, input, expected) in vectors() {
+        let mut out = Vec::new();
+        desk.restart();
+        for piece in random_pieces(&input, &mut rng) {
+            desk.feed(piece, &mut out);
+        }
+        desk.end(&mut out);
+        assert!(out == expected, "{}", path.display());
+    }
+}
+
+#[test]
+fn a_refused_feed_writes_nothing() {
+    let mut rng = Rng(79);
+    let least = [RUN, TABLE, TABLE, ROOM, TEXT, COUNTS];
+    let input = day(3, Style::Busy);
+    for which in 0..=least.len() {
+        for short in [1, 2] {
+            let lengths: Vec<usize> = (0..least.len()).map(|i| least[i] - if i == which { short } else { 0 }).collect();
+            let mut numbers: Vec<Vec<u64>> = [0, 1, 2, 3, 5].iter().map(|&i| rng.garbage(lengths[i])).collect();
+            if lengths[0] == RUN {
+                raw::start(&mut numbers[0]);
+            }
+            let mut out = vec![7; lengths[4]];
+            let before = numbers.clone();
+            let [run, buys, sells, room, counts] = &mut numbers[..] else { unreachable!() };
+            let answer = raw::feed(run, &input, buys, sells, room, &mut out, counts);
+            if which == least.len() {
+                assert!(raw::code(answer) == 0 && before != numbers);
+            } else {
+                assert_eq!(answer, if which == 4 { 16 } else { 1 });
+                assert!(before == numbers && out.iter().all(|&byte| byte == 7));
+            }
+        }
+    }
+    let mut out = [7; LINE];
+    assert_eq!(raw::start(&mut [5; RUN - 1]), 1);
+    assert_eq!(raw::end(&[0; RUN - 1], b"t=", &mut out), 1);
+    assert_eq!(raw::end(&[0; RUN], b"t=", &mut out[..LINE - 1]), 16);
+    assert_eq!(out, [7; LINE]);
+}
+
+/// Numbers that are no run's take no byte and print none.
+#[test]
+fn no_run_is_over() {
+    let mut rng = Rng(80);
+    let input = day(4, Style::Busy);
+    for (at, number) in [(0, 3), (0, u64::MAX), (1, 8), (10, 2)] {
+        let mut run = vec![0; RUN];
+        run[0] = 1;
+        run[at] = number;
+        let [mut buys, mut sells, mut room] = [TABLE, TABLE, ROOM].map(|length| rng.garbage(length));
+        let mut counts = [9; COUNTS];
+        let mut out = vec![7; TEXT];
+        let end = raw::end(&run, &input, &mut out);
+        let answer = raw::feed(&mut run, &input, &mut buys, &mut sells, &mut room, &mut out, &mut counts);
+        assert_eq!((end, answer, counts), (0, 512, [0, 0]));
+        assert!(run[0] == 2 && run[1..].iter().all(|&number| number == 0) && out.iter().all(|&byte| byte == 7));
     }
 }
 
@@ -109,6 +252,9 @@ fn the_two_print_the_same() {
             String::from_utf8_lossy(&printed),
             String::from_utf8_lossy(&expected),
         );
+        let pieces = random_pieces(&input, &mut rng);
+        let in_pieces = fed_in_pieces(&mut pieces.iter().copied(), ROOMS[seed as usize % ROOMS.len()], &mut Rng(seed));
+        assert!(in_pieces == expected, "seed {seed} in pieces");
         lines += expected.iter().filter(|&&byte| byte == b'\n').count();
         bad += usize::from(expected.windows(7).any(|word| word == b"say=bad"));
     }

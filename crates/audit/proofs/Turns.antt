@@ -1,7 +1,7 @@
 -- What the functions of a pass answer, at each of their returns, and what a turn of its loop keeps. Assumes nothing.
 use Prim.Native.Nat.{ℕ, _+_, _-_, _*_, _≤_, _<_}
 use native.Mathlib.Omega.{arith}
-use mathlib.Core.Bool.{Bool, true, false, not}
+use mathlib.Core.Bool.{Bool, true, false, _&&_, not}
 use mathlib.Core.Path.{_≡_, refl, sym, _∙_}
 use mathlib.Core.List.{List, _∷_}
 use lib.Bits.{bitAnd, and-le-r}
@@ -13,13 +13,13 @@ use Rattle.terms.specs.declared.Order.{Order}
 use Rattle.terms.specs.Sizes.{lotsMost}
 use Rattle.terms.specs.Truth.{between}
 use Rattle.terms.specs.Numbers.{isLots, onTick}
-use Rattle.terms.proofs.Logic.{same, no-both, between-facts, between-make}
+use Rattle.terms.proofs.Logic.{same, split, join, no-both, between-facts, between-make}
 use Rattle.tables.specs.Tables.{orderAt, decode}
 use Rattle.tables.proofs.Slots.{decode-read, decode-end}
 use Rattle.audit.specs.declared.Limits.{Limits}
 use Rattle.audit.specs.Sound.{OrderFits}
 use Rattle.audit.specs.Marks.{hasMark, withMark, marked}
-use Rattle.audit.specs.Pass.{bandOf, fine, Keyed, keyStep, keyOf, lowBits, passOf}
+use Rattle.audit.specs.Pass.{scale, bandOf, fine, Keyed, keyStep, keyOf, lowBits, passOf}
 use Rattle.audit.proofs.Facts.{order-fits, order-made}
 use Rattle.audit.proofs.Keys.{keyed}
 
@@ -34,39 +34,48 @@ module _ (l : Limits) (o : Order) where
   fits : fine l o ≡ true → OrderFits (l .given) (l .tick) (bandOf l) o
   fits e = order-fits (l .given) (l .tick) (bandOf l) o e
 
-  pub fine-lots : not (isLots (o .lots)) ≡ true → false ≡ fine l o
-  fine-lots f =
-      refuted (fine l o)
-      (λ h. no-both (isLots (o .lots)) (between-make 1 (o .lots) lotsMost (fits h .lots-some) (fits h .lots-small)) (not-true _ f))
+  -- the bounds, as the code tests them
+  abbrev bounded : Bool
+  bounded = (isLots (o .lots) && between 1 (o .number) (l .given)) && between (l .low) (o .price) (l .high)
 
-  pub fine-number : not (between 1 (o .number) (l .given)) ≡ true → false ≡ fine l o
-  fine-number f =
-      refuted (fine l o)
-      (λ h. no-both (between 1 (o .number) (l .given)) (between-make 1 (o .number) (l .given) (fits h .number-some) (fits h .number-given)) (not-true _ f))
+  bounds-made : fine l o ≡ true → bounded ≡ true
+  bounds-made h =
+      let w = fits h in
+      let k = keyed l o h in
+      join (isLots (o .lots) && between 1 (o .number) (l .given)) (between (l .low) (o .price) (l .high))
+      (join (isLots (o .lots)) (between 1 (o .number) (l .given))
+      (between-make 1 (o .lots) lotsMost (w .lots-some) (w .lots-small))
+      (between-make 1 (o .number) (l .given) (w .number-some) (w .number-given)))
+      (between-make (l .low) (o .price) (l .high) (k .above) (k .below))
 
-  pub fine-low : o .price < l .low → false ≡ fine l o
-  fine-low p = refuted (fine l o) (λ h. omega (arith, keyed l o h .above))
+  pub fine-bounds : not bounded ≡ true → false ≡ fine l o
+  fine-bounds f = refuted (fine l o) (λ h. no-both bounded (bounds-made h) (not-true _ f))
 
-  pub fine-high : l .high < o .price → false ≡ fine l o
-  fine-high p = refuted (fine l o) (λ h. omega (arith, keyed l o h .below))
+  module _ (f : not bounded ≡ false) where
+    outer : ((isLots (o .lots) && between 1 (o .number) (l .given)) ≡ true) × (between (l .low) (o .price) (l .high) ≡ true)
+    outer = split _ _ (not-false bounded f)
 
-  -- past the other tests, the tick decides
-  pub fine-tick : not (isLots (o .lots)) ≡ false → not (between 1 (o .number) (l .given)) ≡ false → l .low ≤ o .price → o .price ≤ l .high →
-      (r : Bool) → r ≡ onTick (l .tick) (o .price) → r ≡ fine l o
-  fine-tick f g p q r t =
-      let size = between-facts 1 (o .lots) lotsMost (not-false (isLots (o .lots)) f) in
-      let n = between-facts 1 (o .number) (l .given) (not-false (between 1 (o .number) (l .given)) g) in
-      same r (fine l o)
-      (λ h. order-made (l .given) (l .tick) (bandOf l) o
-      (record {
-        number-some = n .0;
-        number-given = n .1;
-        lots-some = size .0;
-        lots-small = size .1;
-        ticked = sym t ∙ h;
-        banded = between-make (l .low) (o .price) (l .high) p q;
-      }))
-      (λ h. t ∙ fits h .ticked)
+    -- a price in the band is small
+    pub bounded-small : l .high < scale → o .price < scale
+    bounded-small h = omega (arith, between-facts (l .low) (o .price) (l .high) (outer .1) .1)
+
+    -- past the other tests, the tick decides
+    pub fine-tick : (r : Bool) → r ≡ onTick (l .tick) (o .price) → r ≡ fine l o
+    fine-tick r t =
+        let inner = split (isLots (o .lots)) (between 1 (o .number) (l .given)) (outer .0) in
+        let size = between-facts 1 (o .lots) lotsMost (inner .0) in
+        let n = between-facts 1 (o .number) (l .given) (inner .1) in
+        same r (fine l o)
+        (λ h. order-made (l .given) (l .tick) (bandOf l) o
+        (record {
+          number-some = n .0;
+          number-given = n .1;
+          lots-some = size .0;
+          lots-small = size .1;
+          ticked = sym t ∙ h;
+          banded = outer .1;
+        }))
+        (λ h. t ∙ fits h .ticked)
 
   pub fine-keyed : (k : Bool) → k ≡ fine l o → not k ≡ false → Keyed l o
   fine-keyed k e f = keyed l o (sym e ∙ not-false k f)

@@ -17,23 +17,15 @@ ghost use Rattle.audit.specs.Pass.{Room, LimitsFit, Keyed, fine, keyOf, 
 // Order numbers are below it.
 const KEY_STEP: u64 = 65_536;
 
-// Bounds first, so that the tick is tried of a small price only.
+// Bounds first and in one test, so that the tick is tried of a small price only.
 fn order_fine(l: Limits, o: Order) -> bool
     requires { ⌜ LimitsFit l ⌝ }
     ensures { λ r. ⌜ r ≡ fine l o ⌝ }
 {
     let lots = (1 <= o.lots) & (o.lots <= sizes::LOTS);
-    if !lots {
-        return false;
-    }
     let number = (1 <= o.number) & (o.number <= l.given);
-    if !number {
-        return false;
-    }
-    if o.price < l.low {
-        return false;
-    }
-    if o.price > l.high {
+    let price = (l.low <= o.price) & (o.price <= l.high);
+    if !(lots & number & price) {
         return false;
     }
     ticks::on_tick(o.price, l.tick, l.factor)

@@ -2,16 +2,19 @@
 use Prim.Native.Nat.{ℕ, _≤_, _<_}
 use native.Mathlib.Omega.{arith}
 use mathlib.Core.Path.{_≡_, refl, sym, _∙_}
+use mathlib.Core.Bool.{Bool, true, false, not}
 use mathlib.Core.List.{List}
-use borrow.Author.Tests.{lt-ltb, le-ltb}
+use borrow.Author.Tests.{lt-ltb, le-ltb, not-true, not-false}
 use lib.ListN.{length}
 use Rattle.terms.specs.declared.Event.{Event}
 use Rattle.terms.specs.declared.Refusal.{Refusal}
-use Rattle.terms.specs.declared.Refusal.the-variants.{SmallRoom}
+use Rattle.terms.specs.declared.Refusal.the-variants.{SmallRoom, Unsound}
 use Rattle.terms.specs.declared.Verdict.{Verdict}
 use Rattle.terms.specs.declared.Verdict.the-variants.{Fine, Refused}
 use Rattle.terms.specs.Sizes.{reportsMost}
 use Rattle.terms.specs.Records.{recordsOf}
+use Rattle.terms.specs.Refusals.{firstFailed}
+use Rattle.terms.proofs.Logic.{cases}
 use Rattle.terms.proofs.Cascade.{fine-first}
 use Rattle.tables.specs.Put.{put}
 use Rattle.tables.proofs.Puts.{put-none}
@@ -26,10 +29,11 @@ use Rattle.engine.specs.declared.Applied.{Applied}
 use Rattle.engine.specs.Outcome.{Outcome, decided}
 use Rattle.engine.specs.Calls.{roomy, callVerdict, called, answerBy, AppliedAs}
 use Rattle.packing.specs.Runs.{sessionLength, eventLength}
-use Rattle.packing.specs.Sessions.{sessionNumbers, sessionFrom}
+use Rattle.packing.specs.Sessions.{sessionNumbers, isSession, sessionOf, sessionFrom}
 use Rattle.packing.specs.Events.{eventFrom}
 use Rattle.packing.specs.Answers.{countMost, answerOf}
-use Rattle.desk.specs.Calls.{calledOn, AppliedOn}
+use Rattle.desk.specs.Calls.{strangeVerdict, calledOn, AppliedOn}
+use Rattle.desk.proofs.Turned.{no-session-unsound}
 
 -- ---- the engine's answer and the verdict
 
@@ -59,6 +63,24 @@ apply-few s e buys sells room buys′ sells′ room′ a count h k =
     let w = answered-fine (o .verdict) (length (o .reports)) count (sym k ∙ h .answer) in
     omega (arith, w .1, called-few s e buys sells room)
 
+-- ---- numbers that are no session's
+
+pub told-session : (ns : List ℕ) (found : Bool) → found ≡ isSession ns → not found ≡ false → isSession ns ≡ true
+told-session ns found h t = sym h ∙ not-false found t
+
+pub that-session : (ns : List ℕ) (s : Session) → isSession ns ≡ true → s ≡ sessionOf ns → s ≡ sessionFrom ns
+unfolding sessionFrom
+that-session ns s h e = rw h e
+
+module _ (buys sells room : List ℕ) (found : Bool) (h : found ≡ roomy buys sells room) (r : ℕ) where
+  pub strange-small : not found ≡ true → r ≡ answerOf (Refused SmallRoom) 0 → r ≡ answerOf (strangeVerdict buys sells room) 0
+  unfolding strangeVerdict
+  strange-small t e = rw (← h, not-true found t) e
+
+  pub strange-unsound : not found ≡ false → r ≡ answerOf (Refused Unsound) 0 → r ≡ answerOf (strangeVerdict buys sells room) 0
+  unfolding strangeVerdict
+  strange-unsound t e = rw (← h, not-false found t) e
+
 module _ (run event buys sells room : List ℕ) (r : ℕ) where
   -- ---- a run that is short
 
@@ -76,7 +98,33 @@ module _ (run event buys sells room : List ℕ) (r : ℕ) where
         let t = lt-ltb (length event) eventLength k in
         record { answer = rw (s, t) e; kept = rw (s, t); bought = rw (s, t); sold = rw (s, t); told = rw (s, t) (sym (put-none room 0)) }
 
-    -- ---- runs that are long enough: what the engine's call came to
+    -- ---- runs that are long enough: numbers that are no session's are turned away
+
+    module _ (k : eventLength ≤ length event) where
+      turned : (n : Refusal) → callVerdict (sessionFrom run) (eventFrom event) buys sells room ≡ Refused n → r ≡ answerOf (Refused n) 0 →
+          AppliedOn run event buys sells room run buys sells room r
+      unfolding calledOn called recordsOf
+      turned n v e =
+          let s = le-ltb (length run) sessionLength h in
+          let t = le-ltb (length event) eventLength k in
+          record {
+            answer = rw (s, t, v) e;
+            kept = rw (s, t, v);
+            bought = rw (s, t, v);
+            sold = rw (s, t, v);
+            told = rw (s, t, v) (sym (put-none room 0));
+          }
+
+      pub apply-strange : (found : Bool) → found ≡ isSession run → not found ≡ true → r ≡ answerOf (strangeVerdict buys sells room) 0 →
+          AppliedOn run event buys sells room run buys sells room r
+      unfolding strangeVerdict callVerdict firstFailed
+      apply-strange found f t e =
+          let unsound = no-session-unsound run buys sells (sym f ∙ not-true found t) in
+          cases (roomy buys sells room)
+          (λ w. turned Unsound (rw (w, unsound)) (rw w at e))
+          (λ w. turned SmallRoom (rw w) (rw w at e))
+
+    -- ---- what the engine's call came to
 
     module _ (k : eventLength ≤ length event) (s : Session) (e : Event) (i : s ≡ sessionFrom run) (j : e ≡ eventFrom event) where
       abbrev out : Outcome

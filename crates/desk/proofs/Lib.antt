@@ -1,8 +1,10 @@
+pub mod TextFeeds
 pub mod Opens
 pub mod Applying
 pub mod LineReads
 pub mod LineWrites
 pub mod Ten
 pub mod Again
+pub mod TextAgain
 pub mod Determined
 pub mod Turned

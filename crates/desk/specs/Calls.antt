@@ -5,7 +5,7 @@ use mathlib.Core.Bool.{cond}
 use mathlib.Core.List.{List, []}
 use lib.Dec.{ltb, eqb}
 use lib.ListN.{length, getD}
-use Rattle.terms.specs.declared.Refusal.the-variants.{SmallRoom, SettingsRange}
+use Rattle.terms.specs.declared.Refusal.the-variants.{SmallRoom, Unsound, SettingsRange}
 use Rattle.terms.specs.declared.Side.the-variants.{Buy, Sell}
 use Rattle.terms.specs.declared.Verdict.{Verdict}
 use Rattle.terms.specs.declared.Verdict.the-variants.{Fine, Refused}
@@ -17,7 +17,7 @@ use Rattle.state.specs.declared.Opened.{Opened}
 use Rattle.state.specs.Opening.{openingOf, fixedSession}
 use Rattle.soundness.specs.Sound.{sound, dayIn}
 use Rattle.engine.specs.Outcome.{Outcome}
-use Rattle.engine.specs.Calls.{called, tableBy, viewCall}
+use Rattle.engine.specs.Calls.{roomy, called, tableBy, viewCall}
 use Rattle.packing.specs.Runs.{settingsLength, sessionLength, eventLength}
 use Rattle.packing.specs.Settings.{isCategory, settingsFrom}
 use Rattle.packing.specs.Sessions.{flag, sessionNumbers, sessionFrom}
@@ -47,6 +47,10 @@ calledOn run event buys sells room =
     whereLong run sessionLength event eventLength
     (called (sessionFrom run) (eventFrom event) buys sells room)
     (record { verdict = Refused SmallRoom; day = dayIn (sessionFrom run) buys sells; reports = [] })
+
+-- what it comes to on numbers that are no session's: "1: a table under 768 numbers ..", "2: session not sound"
+unfoldable pub strangeVerdict : List ℕ → List ℕ → List ℕ → Verdict
+strangeVerdict buys sells room = cond (roomy buys sells room) (Refused Unsound) (Refused SmallRoom)
 
 -- the session's run: laid anew by an accepted event; "All refusals return the number and the session given, and write nothing."
 abbrev pub runBy : Verdict → Session → List ℕ → List ℕ

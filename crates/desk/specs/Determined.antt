@@ -7,6 +7,7 @@ use Rattle.text.specs.Grammar.{Answer}
 use Rattle.desk.specs.Calls.{OpenedAs, AppliedOn}
 use Rattle.desk.specs.Reads.{ReadInto}
 use Rattle.desk.specs.Writes.{WrittenOn}
+use Rattle.desk.specs.Feeding.{StartedAs, FedAs}
 
 -- `kakoludar_open`
 abbrev pub OpenDetermined : Type 0
@@ -32,7 +33,19 @@ ReadDetermined =
     (E : Type 0) (numbers : E → List ℕ) (n : ℕ) (a : Answer E) (run run₁ run₂ : List ℕ) (r₁ r₂ : ℕ) →
     ReadInto numbers n a run run₁ r₁ → ReadInto numbers n a run run₂ r₂ → (r₁ ≡ r₂) × (run₁ ≡ run₂)
 
--- `kakoludar_write_settings`, `kakoludar_write_event` and `kakoludar_write_report`
+-- `kakoludar_write_settings`, `kakoludar_write_event`, `kakoludar_write_report` and `kakoludar_end`
 abbrev pub WriteDetermined : Type 0
 WriteDetermined =
     (v : Verdict) (line room room₁ room₂ : List ℕ) (r₁ r₂ : ℕ) → WrittenOn v line room room₁ r₁ → WrittenOn v line room room₂ r₂ → (r₁ ≡ r₂) × (room₁ ≡ room₂)
+
+-- `kakoludar_start`
+abbrev pub StartDetermined : Type 0
+StartDetermined = (run run₁ run₂ : List ℕ) (r₁ r₂ : ℕ) → StartedAs run run₁ r₁ → StartedAs run run₂ r₂ → (r₁ ≡ r₂) × (run₁ ≡ run₂)
+
+-- `kakoludar_feed`: the answer, and all six slices that it may write
+abbrev pub FeedDetermined : Type 0
+FeedDetermined =
+    (run bytes buys sells room out counts run₁ buys₁ sells₁ room₁ out₁ counts₁ run₂ buys₂ sells₂ room₂ out₂ counts₂ : List ℕ) (r₁ r₂ : ℕ) →
+    FedAs run bytes buys sells room out counts run₁ buys₁ sells₁ room₁ out₁ counts₁ r₁ →
+    FedAs run bytes buys sells room out counts run₂ buys₂ sells₂ room₂ out₂ counts₂ r₂ →
+    Coincide run₁ buys₁ sells₁ room₁ run₂ buys₂ sells₂ room₂ r₁ r₂ × (out₁ ≡ out₂) × (counts₁ ≡ counts₂)

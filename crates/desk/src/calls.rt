@@ -15,12 +15,14 @@ use terms::Side;
 use terms::Verdict;
 use terms::sizes;
 ghost use mathlib.Core.Path.{_≡_};
+ghost use mathlib.Core.Bool.{true};
 ghost use Prim.Native.Nat.{_≤_};
 ghost use lib.ListN.{length};
 ghost use Rattle.engine.specs.Calls.{viewCall};
-ghost use Rattle.packing.specs.Runs.{settingsLength};
+ghost use Rattle.packing.specs.Runs.{settingsLength, sessionLength, eventLength};
+ghost use Rattle.packing.specs.Sessions.{isSession};
 ghost use Rattle.packing.specs.Answers.{answerOf};
-ghost use Rattle.desk.specs.Calls.{openedFrom, OpenedAs, AppliedOn, soundOn, viewOn};
+ghost use Rattle.desk.specs.Calls.{openedFrom, OpenedAs, strangeVerdict, AppliedOn, soundOn, viewOn};
 
 // The opening that a run of settings asks for.
 fn opened(gs: &[u64]) -> Opened
@@ -66,6 +68,42 @@ pub extern "C" fn kakoludar_open(settings: &[u64], session: &mut [u64]) -> u64
     answer_to(verdict)
 }
 
+// What an event is answered on numbers that are no session's: the fixed session that stands for them is not sound.
+fn turned_away(buys: &[u64], sells: &[u64], room: &[u64]) -> u64
+    ensures { λ r. ⌜ r ≡ answerOf (strangeVerdict (now (buys .entry)) (now (sells .entry)) (now (room .entry))) 0 ⌝ }
+{
+    if !apply::is_roomy(buys, sells, room) {
+        return answers::refused(Refusal::SmallRoom);
+    }
+    answers::refused(Refusal::Unsound)
+}
+
+// An event on runs that are long enough, of which the first is a session's.
+fn carried(
+    session: &mut [u64],
+    event: &[u64],
+    buys: &mut [u64],
+    sells: &mut [u64],
+    room: &mut [u64],
+) -> u64
+    requires { ⌜ (sessionLength ≤ length (now session)) × (eventLength ≤ length (now event)) × (isSession (now session) ≡ true) ⌝ }
+    ensures { λ r. ⌜ AppliedOn (now (session .entry)) (now (event .entry)) (now (buys .entry)) (now (sells .entry)) (now (room .entry)) (now (session .exit)) (now (buys .exit)) (now (sells .exit)) (now (room .exit)) r ⌝ }
+{
+    let s = sessions::session_of(session);
+    let e = events::unpack(event);
+    let applied = apply::apply(s, e, buys, sells, room);
+    let answer = applied.answer;
+    let after = applied.session;
+    match answer {
+        Answer::Reported(count) => {
+            let numbers = sessions::pack(after);
+            runs::lay(session, &numbers);
+            answers::done(count)
+        }
+        Answer::Refused(r) => answers::refused(r),
+    }
+}
+
 // Applies an event: the count of its reports, or a refusal, which writes nothing.
 #[no_mangle]
 pub extern "C" fn kakoludar_apply(
@@ -83,19 +121,10 @@ pub extern "C" fn kakoludar_apply(
     if event.len() < runs::EVENT {
         return answers::refused(Refusal::SmallRoom);
     }
-    let s = sessions::unpack(session);
-    let e = events::unpack(event);
-    let applied = apply::apply(s, e, buys, sells, room);
-    let answer = applied.answer;
-    let after = applied.session;
-    match answer {
-        Answer::Reported(count) => {
-            let numbers = sessions::pack(after);
-            runs::lay(session, &numbers);
-            answers::done(count)
-        }
-        Answer::Refused(r) => answers::refused(r),
+    if !sessions::is_session(session) {
+        return turned_away(buys, sells, room);
     }
+    carried(session, event, buys, sells, room)
 }
 
 // Whether a session is sound, with the orders in its tables.

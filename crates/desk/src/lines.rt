@@ -29,7 +29,7 @@ fn wrong_at(place: usize) -> u64
 }
 
 // A writer's answer as a number.
-fn wrote(w: Wrote) -> u64
+pub fn wrote(w: Wrote) -> u64
     requires { ⌜ Few w ⌝ }
     ensures { λ r. ⌜ r ≡ wroteNumber w ⌝ }
 {

@@ -25,7 +25,7 @@ pub fn flag_of(b: bool) -> u64
 }
 
 // Whether numbers are a session's.
-fn is_session(ns: &[u64]) -> bool
+pub fn is_session(ns: &[u64]) -> bool
     requires { ⌜ sessionLength ≤ length (now ns) ⌝ }
     ensures { λ r. ⌜ r ≡ isSession (now (ns .entry)) ⌝ }
 {
@@ -35,7 +35,7 @@ fn is_session(ns: &[u64]) -> bool
 }
 
 // The session of a run that is one's.
-fn session_of(ns: &[u64]) -> Session
+pub fn session_of(ns: &[u64]) -> Session
     requires { ⌜ sessionLength ≤ length (now ns) ⌝ }
     ensures { λ r. ⌜ r ≡ sessionOf (now (ns .entry)) ⌝ }
 {

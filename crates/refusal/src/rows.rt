@@ -143,9 +143,10 @@ fn finds_it(s: Session, act: Act, buys: &[u64], sells: &[u64]) -> bool
         Act::Withdraw(number) => {
             let nbuys = s.buys as usize;
             let nsells = s.sells as usize;
-            let bought = book::side::is_resting(buys, nbuys, number);
-            let sold = book::side::is_resting(sells, nsells, number);
-            bought | sold
+            if book::side::is_resting(buys, nbuys, number) {
+                return true;
+            }
+            book::side::is_resting(sells, nsells, number)
         }
         Act::Enter(_) => true,
         Act::Under(_) => true,

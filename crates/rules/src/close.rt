@@ -109,7 +109,8 @@ pub fn last_or(other: u64, t: Tape) -> u64
         return t.prices[9];
     }
     let at = (n - 1) as usize;
-    t.prices[at]
+    let prices = t.prices;
+    prices[at]
 }
 
 // The last ten trades added up.

@@ -281,15 +281,18 @@ fn event_writing_race() -> Race {
     Race { name: "write an event line", per, desk, plain }
 }
 
-/// Text in and text out, by the line; the library's part is its readers, `apply` and its writers, called for each line.
+/// Text in and text out, a day at once, by `kakoludar_feed`.
 fn text_race() -> Race {
     let input = text();
     let per = input.iter().filter(|&&byte| byte == b'\n').count();
     let again = input.clone();
     let mut out = Vec::with_capacity(1 << 20);
+    let mut day = Desk::new();
     let desk = Box::new(move || {
         out.clear();
-        Desk::run(black_box(&input), &mut out);
+        day.restart();
+        day.feed(black_box(&input), &mut out);
+        day.end(&mut out);
         black_box(&out);
     });
     let mut out = Vec::with_capacity(1 << 20);

@@ -1,5 +1,5 @@
--- Two short runs, then what the call of the engine came to.
-use Rattle.desk.proofs.Applying.{apply-no-session, apply-no-event, apply-few, apply-done, apply-refused}
+-- Two short runs, numbers that are no session's, and a session.
+use Rattle.desk.proofs.Applying.{apply-no-session, apply-no-event, told-session, apply-strange}
 use borrow.Author.Needs.{needs}
 use Rattle.desk.proofs.calls.kakoludar_apply.Statement.{statement}
 use Rattle.desk.proofs.calls.kakoludar_apply.Tie as tie
@@ -16,35 +16,11 @@ refused-requires-2 c κs = search needs
 returns-2 : tie.Need-returns-2
 returns-2 c = search apply-no-event
 
-unpack-requires : tie.Need-unpack-requires
-unpack-requires c κs = search needs
+is-session-requires : tie.Need-is-session-requires
+is-session-requires c κs = search needs
 
-unpack-requires-2 : tie.Need-unpack-requires-2
-unpack-requires-2 c κs = search needs
-
-apply-requires : tie.Need-apply-requires
-apply-requires c κs = search needs
-
-enum-known-answer : tie.Need-enum-known-answer
-enum-known-answer c = search needs
-
-pack-requires : tie.Need-pack-requires
-pack-requires c κs = search needs
-
-slice-aggregate-lay : tie.Need-slice-aggregate-lay
-slice-aggregate-lay c = search needs
-
-lay-requires : tie.Need-lay-requires
-lay-requires c κs = search needs
-
-done-requires : tie.Need-done-requires
-done-requires c κs = search apply-few
-
-enum-known-answer-2 : tie.Need-enum-known-answer-2
-enum-known-answer-2 c = search needs
-
-refused-requires-3 : tie.Need-refused-requires-3
-refused-requires-3 c κs = search needs
+turned-away-requires : tie.Need-turned-away-requires
+turned-away-requires c κs = search needs
 
 same-length : tie.Need-same-length
 same-length c = search needs
@@ -59,7 +35,10 @@ same-length-4 : tie.Need-same-length-4
 same-length-4 c = search needs
 
 returns-3 : tie.Need-returns-3
-returns-3 c = search apply-done
+returns-3 c = search apply-strange
+
+carried-requires : tie.Need-carried-requires
+carried-requires c κs = search (needs, told-session)
 
 same-length-5 : tie.Need-same-length-5
 same-length-5 c = search needs
@@ -74,7 +53,7 @@ same-length-8 : tie.Need-same-length-8
 same-length-8 c = search needs
 
 returns-4 : tie.Need-returns-4
-returns-4 c = search apply-refused
+returns-4 c = search needs
 
 pub kakoludar-apply-spec : {M : Type 1} → statement M
 kakoludar-apply-spec =
@@ -84,21 +63,14 @@ kakoludar-apply-spec =
     returns
     refused-requires-2
     returns-2
-    unpack-requires
-    unpack-requires-2
-    apply-requires
-    enum-known-answer
-    pack-requires
-    slice-aggregate-lay
-    lay-requires
-    done-requires
-    enum-known-answer-2
-    refused-requires-3
+    is-session-requires
+    turned-away-requires
     same-length
     same-length-2
     same-length-3
     same-length-4
     returns-3
+    carried-requires
     same-length-5
     same-length-6
     same-length-7

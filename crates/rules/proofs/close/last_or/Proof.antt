@@ -22,8 +22,8 @@ sub-at c = search needs
 mul-result : tie.Need-mul-result
 mul-result c = search needs
 
-element-copy-out-result-2 : tie.Need-element-copy-out-result-2
-element-copy-out-result-2 c = search needs
+array-read-result : tie.Need-array-read-result
+array-read-result c = search needs
 
 returns-3 : tie.Need-returns-3
 returns-3 c = last-of-few (c .before .before .before .args .other) (c .before .before .before .args .t2) (c .before .before .if1 .left) (c .before .if2 .left)
@@ -37,5 +37,5 @@ last-or-spec =
     returns-2
     sub-at
     mul-result
-    element-copy-out-result-2
+    array-read-result
     returns-3)

@@ -1,0 +1,107 @@
+// The calls on text: session lines in, report lines out, between them a run of numbers that an app keeps.
+use crate::lines::wrote;
+use feed::Run;
+use feed::Stop;
+use feed::lines;
+use packing::answers;
+use terms::Refusal;
+ghost use mathlib.Core.Path.{_≡_};
+ghost use Prim.Native.Nat.{_≤_};
+ghost use lib.ListN.{length};
+ghost use Rattle.standing.specs.Runs.{runLength};
+ghost use Rattle.desk.specs.Feeding.{StartedAs, countsLength, stopNumber, isRefusal, LaidAfter, FedAs, EndedOn};
+
+pub const COUNTS: usize = 2;
+
+// Lays a run before its first line; 1 for a short one.
+#[no_mangle]
+pub extern "C" fn kakoludar_start(run: &mut [u64]) -> u64
+    ensures { λ r. ⌜ StartedAs (now (run .entry)) (now (run .exit)) r ⌝ }
+{
+    if run.len() < standing::RUN {
+        return answers::refused(Refusal::SmallRoom);
+    }
+    standing::lay(run, feed::start());
+    answers::done(0)
+}
+
+// What a stop is answered.
+fn answer_to(stop: Stop) -> u64
+    ensures { λ r. ⌜ r ≡ stopNumber stop ⌝ }
+{
+    match stop {
+        Stop::Waits => answers::done(0),
+        Stop::Full => answers::done(1),
+        Stop::Over => answers::done(2),
+        Stop::Refused(r) => answers::refused(r),
+    }
+}
+
+fn is_refusal(stop: Stop) -> bool
+    ensures { λ r. ⌜ r ≡ isRefusal stop ⌝ }
+{
+    match stop {
+        Stop::Waits => false,
+        Stop::Full => false,
+        Stop::Over => false,
+        Stop::Refused(_) => true,
+    }
+}
+
+// Lays where the run stands, and both counts.
+fn lay_after(run: &mut [u64], counts: &mut [u64], after: Run, used: usize, wrote: usize)
+    requires { ⌜ (runLength ≤ length (now run)) × (countsLength ≤ length (now counts)) ⌝ }
+    ensures { λ _. ⌜ LaidAfter (now (run .entry)) (now (counts .entry)) after used wrote (now (run .exit)) (now (counts .exit)) ⌝ }
+{
+    standing::lay(run, after);
+    counts[0] = used as u64;
+    counts[1] = wrote as u64;
+}
+
+// Takes the whole lines of some bytes and prints what they say. Answers why it took no more; the counts are the bytes taken and the
+// bytes printed. A refusal writes nothing.
+#[no_mangle]
+pub extern "C" fn kakoludar_feed(
+    run: &mut [u64],
+    bytes: &[u8],
+    buys: &mut [u64],
+    sells: &mut [u64],
+    room: &mut [u64],
+    out: &mut [u8],
+    counts: &mut [u64],
+) -> u64
+    ensures { λ r. ⌜ FedAs (now (run .entry)) (now (bytes .entry)) (now (buys .entry)) (now (sells .entry)) (now (room .entry)) (now (out .entry)) (now (counts .entry)) (now (run .exit)) (now (buys .exit)) (now (sells .exit)) (now (room .exit)) (now (out .exit)) (now (counts .exit)) r ⌝ }
+{
+    if run.len() < standing::RUN {
+        return answers::refused(Refusal::SmallRoom);
+    }
+    if counts.len() < COUNTS {
+        return answers::refused(Refusal::SmallRoom);
+    }
+    let before = standing::unpack(run);
+    let taken = lines::take_lines(before, bytes, buys, sells, room, out);
+    let after = taken.run;
+    let used = taken.used;
+    let told = taken.wrote;
+    let stop = taken.stop;
+    let answer = answer_to(stop);
+    if is_refusal(stop) {
+        return answer;
+    }
+    lay_after(run, counts, after, used, told);
+    answer
+}
+
+// The end of the input, with the bytes that are left of it: the bytes printed.
+#[no_mangle]
+pub extern "C" fn kakoludar_end(run: &[u64], rest: &[u8], out: &mut [u8]) -> u64
+    ensures { λ r. ⌜ EndedOn (now (run .entry)) (now (rest .entry)) (now (out .entry)) (now (out .exit)) r ⌝ }
+{
+    if run.len() < standing::RUN {
+        return answers::refused(Refusal::SmallRoom);
+    }
+    let before = standing::unpack(run);
+    let stage = before.stage;
+    let w = lines::take_end(stage, rest, out);
+    wrote(w)
+}
