@@ -1,7 +1,7 @@
 // stream: a descriptor's bytes, of any number, go through a fixed buffer to feed; what is printed goes to standard output, or is held
 // against an expected output.
-// It may use feed, io and libc. It promises that it is safe and ends, and that at most a line's start is kept between two reads. What is
-// printed is feed's to say.
+// It may use feed and what feed uses, io and libc. It promises that it is safe and ends. What is printed is feed's to say, and so is that
+// what is kept between two reads is the short start of a line.
 
 pub mod sink;
 
@@ -10,6 +10,7 @@ use feed::Stage;
 use feed::Stop;
 use feed::lines;
 use sink::Sink;
+use terms::sizes;
 use writing::Wrote;
 ghost use Prim.Native.Nat.{_≤_};
 ghost use lib.ListN.{length};
@@ -190,10 +191,10 @@ fn ending(to: Sink, stage: Stage, rest: &[u8], out: &mut [u8]) -> bool {
 // A whole run. Answers whether all that was printed went out.
 pub fn through(fd: i32, to: Sink) -> bool {
     let mut buf = io::large_buffer();
-    let mut out = [0u8; 131072];
-    let mut buys = [0u64; 768];
-    let mut sells = [0u64; 768];
-    let mut room = [0u64; 3120];
+    let mut out = [0u8; sink::OUT];
+    let mut buys = [0u64; sizes::TABLE];
+    let mut sells = [0u64; sizes::TABLE];
+    let mut room = [0u64; sizes::ROOM];
     let h = all(fd, to, &mut buf, &mut buys, &mut sells, &mut room, &mut out);
     let have = h.have;
     let run = h.run;

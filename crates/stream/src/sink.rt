@@ -1,4 +1,8 @@
 // Where printed bytes go.
+use feed::lines;
+
+// The output room: what two lines of input can print at most, so that many go out in one write.
+pub const OUT: usize = lines::TEXT * 2;
 // Standard output; or a descriptor whose next bytes they must be.
 pub enum Sink {
     Print,
@@ -34,7 +38,7 @@ fn are_read(fd: i32, bytes: &[u8], room: &mut [u8]) -> bool {
 }
 
 fn are_next(fd: i32, bytes: &[u8]) -> bool {
-    let mut room = [0u8; 131072];
+    let mut room = [0u8; OUT];
     are_read(fd, bytes, &mut room)
 }
 
