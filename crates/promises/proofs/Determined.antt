@@ -11,7 +11,7 @@ use Rattle.reading.proofs.SettingsLines.{settings-only}
 use Rattle.records.proofs.Told.{told-only}
 use Rattle.writing.proofs.Back.{writes-one}
 use Rattle.feed.specs.Worlds.{Lent, lentOf}
-use Rattle.promises.specs.Determined.{OpeningDetermined, ViewDetermined, ApplyDetermined, EventReadDetermined, SettingsReadDetermined, WriteDetermined, RecordReadDetermined, FeedDetermined, EndDetermined}
+use Rattle.promises.specs.Determined.{OpeningDetermined, ViewDetermined, ApplyDetermined, EventReadDetermined, SettingsReadDetermined, WriteDetermined, RecordReadDetermined, WalkDetermined, FeedDetermined, EndDetermined}
 
 pub opening-determined : OpeningDetermined
 opening-determined g r r′ e f = e ∙ sym f
@@ -43,6 +43,9 @@ event-same (ReadEvent.Wrong n) = refl
 pub event-read-determined : EventReadDetermined
 event-read-determined bytes r r′ a b =
     sym (event-same r) ∙ (ap eventBack (event-only bytes (eventAnswer r) (eventAnswer r′) (a .right) (b .right)) ∙ event-same r′)
+
+pub walk-determined : WalkDetermined
+walk-determined bytes place r r′ e f = sym (event-same r) ∙ (ap eventBack (e ∙ sym f) ∙ event-same r′)
 
 abbrev settingsBack : Answer Settings → ReadSettings
 settingsBack (whole g n) = ReadSettings.Whole g n

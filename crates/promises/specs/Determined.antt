@@ -12,7 +12,7 @@ use Rattle.engine.specs.declared.Applied.{Applied}
 use Rattle.engine.specs.Calls.{AppliedAs, viewCall}
 use Rattle.reading.specs.declared.ReadEvent.{ReadEvent}
 use Rattle.reading.specs.declared.ReadSettings.{ReadSettings}
-use Rattle.reading.specs.Answers.{EventRead, SettingsRead}
+use Rattle.reading.specs.Answers.{eventAnswer, EventRead, SettingsRead}
 use Rattle.records.specs.declared.ReadRecord.{ReadRecord}
 use Rattle.records.specs.Back.{RecordRead}
 use Rattle.writing.specs.declared.Wrote.{Wrote}
@@ -21,6 +21,7 @@ use Rattle.feed.specs.declared.Run.{Run}
 use Rattle.feed.specs.declared.Stage.{Stage}
 use Rattle.feed.specs.declared.Taken.{Taken}
 use Rattle.feed.specs.Feeds.{TakenAs, fedOf, EndedAs}
+use Rattle.journal.specs.Walk.{eventFrom}
 
 -- `state::opening::begin`
 abbrev pub OpeningDetermined : Type 0
@@ -51,6 +52,11 @@ EventReadDetermined = (bytes : List ℕ) (r r′ : ReadEvent) → EventRead byte
 
 abbrev pub SettingsReadDetermined : Type 0
 SettingsReadDetermined = (bytes : List ℕ) (r r′ : ReadSettings) → SettingsRead bytes r → SettingsRead bytes r′ → r ≡ r′
+
+-- the walker's calls: `journal::step`, `line_at`, `event_at`
+abbrev pub WalkDetermined : Type 0
+WalkDetermined =
+    (bytes : List ℕ) (place : ℕ) (r r′ : ReadEvent) → eventAnswer r ≡ eventFrom bytes place → eventAnswer r′ ≡ eventFrom bytes place → r ≡ r′
 
 -- every writer of lines: the answer and each byte of the room
 abbrev pub WriteDetermined : Type 0
