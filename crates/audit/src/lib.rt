@@ -1,29 +1,20 @@
 // audit: whether the book that a caller hands in is sound, judged on every call.
-// It may use terms, rules, tables and book. It promises: the answer IS document 01's condition on the orders that the tables hold,
-// whatever their numbers are and whatever lies behind them, by one pass over each table; and the laws of that condition: an
-// order that comes in, a cancelled order and a wider band leave a sound book sound.
+// It may use terms, tables and audit_law. It promises: the answer IS document 01's condition on the orders that the tables hold, whatever
+// their numbers are and whatever lies behind them, by one pass over each table.
 
 pub mod marks;
 pub mod pass;
 pub mod ticks;
 
+use audit_law::Limits;
 use tables::orders;
 use terms::Band;
 ghost use mathlib.Core.Path.{_≡_};
 ghost use Prim.Native.Nat.{_≤_, _<_};
 ghost use Rattle.terms.specs.Sizes.{numbersMost, tickMost};
 ghost use Rattle.tables.specs.Tables.{decode};
-ghost use Rattle.audit.specs.Sound.{uncrossed, bookSound};
-ghost use Rattle.audit.specs.Pass.{Room, scale, limitsOf};
-
-// What live orders are held to: the numbers given, the tick, the factor that divides by it, and the ends of the band.
-pub struct Limits {
-    pub given: u64,
-    pub tick: u64,
-    pub factor: u64,
-    pub low: u64,
-    pub high: u64,
-}
+ghost use Rattle.audit_law.specs.Sound.{uncrossed, bookSound};
+ghost use Rattle.audit_law.specs.Pass.{Room, scale, limitsOf};
 
 fn held_to(given: u64, tick: u64, band: Band) -> Limits
     requires { ⌜ 1 ≤ tick ⌝ }

@@ -2,7 +2,7 @@
 ghost use mathlib.Core.Path.{_≡_};
 ghost use Prim.Native.Nat.{_*_, _<_};
 ghost use lib.ListN.{length};
-ghost use Rattle.audit.specs.Marks.{hasMark, withMark};
+ghost use Rattle.audit_law.specs.Marks.{hasMark, withMark};
 
 // Marks a number; whether it was marked already.
 pub fn mark(map: &mut [u64], x: u64) -> bool

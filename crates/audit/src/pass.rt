@@ -1,7 +1,7 @@
 // One pass over each table: every order sound, each ahead of the next, no number twice.
-use crate::Limits;
 use crate::marks;
 use crate::ticks;
+use audit_law::Limits;
 use tables::orders;
 use terms::Order;
 use terms::Side;
@@ -11,8 +11,8 @@ ghost use mathlib.Core.Bool.{cond};
 ghost use Prim.Native.Nat.{_*_, _<_};
 ghost use lib.ListN.{length, replicate};
 ghost use Rattle.tables.specs.Tables.{decode};
-ghost use Rattle.audit.specs.Marks.{marked};
-ghost use Rattle.audit.specs.Pass.{Room, LimitsFit, Keyed, fine, keyOf, lowBits, passOf, sidesBy, sidesSound};
+ghost use Rattle.audit_law.specs.Marks.{marked};
+ghost use Rattle.audit_law.specs.Pass.{Room, LimitsFit, Keyed, fine, keyOf, lowBits, passOf, sidesBy, sidesSound};
 
 // Order numbers are below it.
 const KEY_STEP: u64 = 65_536;

@@ -3,7 +3,7 @@ ghost use mathlib.Core.Path.{_≡_};
 ghost use Prim.Native.Nat.{_≤_, _<_};
 ghost use Rattle.terms.specs.Sizes.{tickMost};
 ghost use Rattle.terms.specs.Numbers.{onTick};
-ghost use Rattle.audit.specs.Pass.{scale, factorOf};
+ghost use Rattle.audit_law.specs.Pass.{scale, factorOf};
 
 const SCALE: u64 = 4_294_967_296;
 

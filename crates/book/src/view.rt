@@ -5,7 +5,7 @@ ghost use mathlib.Core.Path.{_≡_};
 ghost use Prim.Native.Nat.{_≤_};
 ghost use lib.ListN.{length};
 ghost use Rattle.terms.specs.Sizes.{tableLength};
-ghost use Rattle.book.specs.View.{livePart, viewOf};
+ghost use Rattle.book_law.specs.View.{livePart, viewOf};
 
 // The numbers of n orders.
 fn live<'a>(t: &'a [u64], n: usize) -> &'a [u64]

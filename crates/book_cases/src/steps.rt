@@ -5,7 +5,7 @@ use book::side;
 use book::view;
 use matching::Incoming;
 use matching::crossing;
-use rules::Range;
+use rules_law::Range;
 use tables::orders;
 use terms::Kind;
 use terms::Order;
@@ -14,7 +14,7 @@ use terms::sizes;
 ghost use Prim.Native.Nat.{_≤_};
 ghost use lib.ListN.{length};
 ghost use Rattle.terms.specs.Sizes.{slots, tableLength};
-ghost use Rattle.rules.specs.Reference.{RangeFits};
+ghost use Rattle.rules_law.specs.Reference.{RangeFits};
 ghost use Rattle.book_cases.specs.Lent.{Counted, Lent};
 
 // A table that is longer than it must be, and a room with place for a report of every counter order.

@@ -1,15 +1,14 @@
 // The calls on a session: open, apply, sound, view, on runs of numbers that an app keeps.
-use engine::Answer;
 use engine::apply;
 use engine::looking;
-use packing::answers;
+use engine_law::Answer;
 use packing::events;
 use packing::runs;
 use packing::sessions;
 use packing::settings;
-use state::Opened;
-use state::Session;
 use state::opening;
+use state_law::Opened;
+use state_law::Session;
 use terms::Refusal;
 use terms::Side;
 use terms::Verdict;
@@ -18,11 +17,11 @@ ghost use mathlib.Core.Path.{_≡_};
 ghost use mathlib.Core.Bool.{true};
 ghost use Prim.Native.Nat.{_≤_};
 ghost use lib.ListN.{length};
-ghost use Rattle.engine.specs.Calls.{viewCall};
+ghost use Rattle.engine_law.specs.Calls.{viewCall};
 ghost use Rattle.packing.specs.Runs.{settingsLength, sessionLength, eventLength};
 ghost use Rattle.packing.specs.Sessions.{isSession};
-ghost use Rattle.packing.specs.Answers.{answerOf};
-ghost use Rattle.desk.specs.Calls.{openedFrom, OpenedAs, strangeVerdict, AppliedOn, soundOn, viewOn};
+ghost use Rattle.answers.specs.Answers.{answerOf};
+ghost use Rattle.desk_law.specs.Calls.{openedFrom, OpenedAs, strangeVerdict, AppliedOn, soundOn, viewOn};
 
 // The opening that a run of settings asks for.
 fn opened(gs: &[u64]) -> Opened

@@ -1,5 +1,4 @@
 // The calls on lines: settings and events read and written, reports written.
-use packing::answers;
 use packing::events;
 use packing::events::FoundEvent;
 use packing::runs;
@@ -15,9 +14,9 @@ ghost use mathlib.Core.Path.{_≡_};
 ghost use Prim.Native.Nat.{_≤_};
 ghost use Rattle.terms.specs.declared.Refusal.the-variants.{LineWrong};
 ghost use Rattle.terms.specs.Refusals.{numberOf};
-ghost use Rattle.packing.specs.Answers.{countMost, answerNumber};
-ghost use Rattle.desk.specs.Reads.{EventReadInto, SettingsReadInto};
-ghost use Rattle.desk.specs.Writes.{wroteNumber, Few, SettingsWrittenOn, EventWrittenOn, ReportWrittenOn};
+ghost use Rattle.answers.specs.Answers.{countMost, answerNumber};
+ghost use Rattle.desk_law.specs.Reads.{EventReadInto, SettingsReadInto};
+ghost use Rattle.desk_law.specs.Writes.{wroteNumber, Few, SettingsWrittenOn, EventWrittenOn, ReportWrittenOn};
 
 // 15, with the place.
 fn wrong_at(place: usize) -> u64

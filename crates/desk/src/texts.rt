@@ -1,15 +1,14 @@
 // The calls on text: session lines in, report lines out, between them a run of numbers that an app keeps.
 use crate::lines::wrote;
-use feed::Run;
-use feed::Stop;
 use feed::lines;
-use packing::answers;
+use feed_law::Run;
+use feed_law::Stop;
 use terms::Refusal;
 ghost use mathlib.Core.Path.{_≡_};
 ghost use Prim.Native.Nat.{_≤_};
 ghost use lib.ListN.{length};
 ghost use Rattle.standing.specs.Runs.{runLength};
-ghost use Rattle.desk.specs.Feeding.{StartedAs, countsLength, stopNumber, isRefusal, LaidAfter, FedAs, EndedOn};
+ghost use Rattle.desk_law.specs.Feeding.{StartedAs, countsLength, stopNumber, isRefusal, LaidAfter, FedAs, EndedOn};
 
 pub const COUNTS: usize = 2;
 

@@ -1,14 +1,14 @@
 // An event on a session and lent numbers.
-use crate::Answer;
-use crate::Applied;
-use crate::accepted;
-use state::Session;
+use accepting::accepted;
+use engine_law::Answer;
+use engine_law::Applied;
+use state_law::Session;
 use terms::Event;
 use terms::Refusal;
 use terms::Verdict;
 use terms::sizes;
 ghost use mathlib.Core.Path.{_≡_};
-ghost use Rattle.engine.specs.Calls.{AppliedAs, roomy};
+ghost use Rattle.engine_law.specs.Calls.{AppliedAs, roomy};
 
 // Both tables and the room are long enough.
 pub fn is_roomy(buys: &[u64], sells: &[u64], room: &[u64]) -> bool

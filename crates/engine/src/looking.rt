@@ -1,9 +1,9 @@
 // The view of a side.
-use state::Session;
+use state_law::Session;
 use terms::Side;
 use terms::sizes;
 ghost use mathlib.Core.Path.{_≡_};
-ghost use Rattle.engine.specs.Calls.{viewCall};
+ghost use Rattle.engine_law.specs.Calls.{viewCall};
 
 // The live part of the named table; the empty part for a session that is not sound or a short table.
 pub fn view<'a>(side: Side, s: Session, buys: &'a [u64], sells: &'a [u64]) -> &'a [u64]

@@ -1,6 +1,6 @@
 // What is printed: numbers with a space after each, a session, and the sum of a slice.
-use engine::Answer;
-use state::Session;
+use engine_law::Answer;
+use state_law::Session;
 use terms::Verdict;
 
 pub fn number(x: u64) {

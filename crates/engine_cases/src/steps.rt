@@ -3,7 +3,7 @@ use crate::calling;
 use crate::lines;
 use crate::says;
 use crate::setting;
-use state::Session;
+use state_law::Session;
 use tables::orders;
 use terms::Order;
 use terms::sizes;

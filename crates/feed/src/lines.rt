@@ -1,24 +1,24 @@
 // All lines of some bytes.
-use crate::Run;
-use crate::Stage;
-use crate::Stop;
-use crate::Taken;
-use crate::Turned;
-use crate::telling;
-use crate::turns;
 use engine::apply;
+use feed_law::Run;
+use feed_law::Stage;
+use feed_law::Stop;
+use feed_law::Taken;
+use feed_law::Turned;
+use printing::telling;
 use terms::Refusal;
 use terms::sizes;
+use turning::turns;
 use writing::Wrote;
 ghost use Prim.Native.Nat.{_≤_};
 ghost use mathlib.Core.Path.{_≡_};
 ghost use lib.ListN.{length};
 ghost use Rattle.terms.specs.Sizes.{lineRoom};
-ghost use Rattle.feed.specs.declared.Stage.{Stage};
-ghost use Rattle.feed.specs.Texts.{textMost, endText};
-ghost use Rattle.feed.specs.Worlds.{lentOf, calls};
-ghost use Rattle.feed.specs.Turns.{fedIn, stopAt};
-ghost use Rattle.feed.specs.Feeds.{Prints, TakenAs, takenTo, fedOf, EndedAs};
+ghost use Rattle.feed_law.specs.declared.Stage.{Stage};
+ghost use Rattle.feed_law.specs.Texts.{textMost, endText};
+ghost use Rattle.feed_law.specs.Worlds.{lentOf, calls};
+ghost use Rattle.feed_law.specs.Turns.{fedIn, stopAt};
+ghost use Rattle.feed_law.specs.Feeds.{Prints, TakenAs, takenTo, fedOf, EndedAs};
 
 // The output room that the reports of any event fit in.
 pub const TEXT: usize = sizes::REPORTS * sizes::LINE;

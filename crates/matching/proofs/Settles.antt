@@ -12,8 +12,8 @@ use Rattle.terms.specs.Sizes.{slots, width, recordLength}
 use Rattle.tables.specs.Tables.{orderAt, decode, tableOf, Holds}
 use Rattle.tables.proofs.Slots.{length-decode, decode-read, decode-end}
 use Rattle.tables.proofs.Whole.{After, after}
-use Rattle.book.specs.Matching.{part}
-use Rattle.book.proofs.Conserve.{sweep-fewer}
+use Rattle.book_law.specs.Matching.{part}
+use Rattle.book_law.proofs.Conserve.{sweep-fewer}
 use Rattle.matching.specs.declared.Incoming.{Incoming}
 use Rattle.matching.specs.declared.Passed.{Passed}
 use Rattle.matching.specs.declared.Matched.{Matched}

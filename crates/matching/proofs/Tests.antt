@@ -7,10 +7,10 @@ use mathlib.Core.List.{List, [], _∷_}
 use lib.Dec.{eqb, ltb}
 use Rattle.terms.specs.declared.Order.{Order}
 use Rattle.terms.proofs.Logic.{cases}
-use Rattle.rules.specs.Reference.{inRange, RangeFits}
-use Rattle.rules.specs.Mark.{markMost}
-use Rattle.rules.proofs.Ranges.{in-range-small}
-use Rattle.book.specs.Matching.{Taker, Swept, stopped, cutShort, takenWhole, fits, beyond, firstAfter, sweep}
+use Rattle.rules_law.specs.Reference.{inRange, RangeFits}
+use Rattle.rules_law.specs.Mark.{markMost}
+use Rattle.rules_law.proofs.Ranges.{in-range-small}
+use Rattle.book_law.specs.Matching.{Taker, Swept, stopped, cutShort, takenWhole, fits, beyond, firstAfter, sweep}
 use Rattle.matching.specs.Sweeps.{meetingOf}
 
 -- the three tests of `sweep`, in its order: it fits, it is in range, it is beyond the mark

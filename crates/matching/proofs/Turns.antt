@@ -9,12 +9,12 @@ use lib.ListN.{length, drop}
 use Rattle.terms.specs.declared.Order.{Order}
 use Rattle.terms.specs.Sizes.{recordLength}
 use Rattle.terms.specs.Records.{recordOf}
-use Rattle.rules.specs.Reference.{RangeFits}
-use Rattle.rules.specs.Mark.{markMost}
+use Rattle.rules_law.specs.Reference.{RangeFits}
+use Rattle.rules_law.specs.Mark.{markMost}
 use Rattle.tables.specs.Put.{put}
 use Rattle.tables.specs.Tables.{orderAt, decode}
 use Rattle.tables.proofs.Slots.{decode-read, decode-end}
-use Rattle.book.specs.Matching.{part, stopped, firstAfter, sweep}
+use Rattle.book_law.specs.Matching.{part, stopped, firstAfter, sweep}
 use Rattle.matching.specs.declared.Incoming.{Incoming}
 use Rattle.matching.specs.declared.Meeting.{Meeting}
 use Rattle.matching.specs.declared.Passed.{Passed}

@@ -9,10 +9,10 @@ use Rattle.terms.specs.declared.Report.{Report}
 use Rattle.terms.specs.declared.Said.the-variants.{Trade}
 use Rattle.terms.specs.Sizes.{recordLength}
 use Rattle.terms.specs.Records.{recordsOf}
-use Rattle.rules.specs.Reference.{inRange}
+use Rattle.rules_law.specs.Reference.{inRange}
 use Rattle.tables.specs.Put.{put}
 use Rattle.tables.specs.Tables.{tableOf}
-use Rattle.book.specs.Matching.{Taker, Swept, taker, fits, beyond, part, sweep, reportAt, dealOf, tradeReports, ownLastOr}
+use Rattle.book_law.specs.Matching.{Taker, Swept, taker, fits, beyond, part, sweep, reportAt, dealOf, tradeReports, ownLastOr}
 use Rattle.matching.specs.declared.Incoming.{Incoming}
 use Rattle.matching.specs.declared.Meeting.{Meeting}
 use Rattle.matching.specs.declared.Passed.{Passed}

@@ -11,7 +11,7 @@ ghost use mathlib.Core.Bool.{false};
 ghost use Prim.Native.Nat.{_+_, _*_, _≤_};
 ghost use lib.ListN.{length, drop};
 ghost use Rattle.terms.specs.Sizes.{slots, tableLength, recordLength};
-ghost use Rattle.rules.specs.Reference.{RangeFits};
+ghost use Rattle.rules_law.specs.Reference.{RangeFits};
 ghost use Rattle.tables.specs.Tables.{decode, tableOf, Holds};
 ghost use Rattle.matching.specs.Sweeps.{trim, headLots, passedWhole, finish, Passes, SweptInto};
 

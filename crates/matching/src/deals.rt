@@ -11,7 +11,7 @@ ghost use lib.ListN.{length};
 ghost use Rattle.terms.specs.Sizes.{recordLength};
 ghost use Rattle.terms.specs.Records.{recordOf};
 ghost use Rattle.tables.specs.Put.{put};
-ghost use Rattle.book.specs.Matching.{part, dealOf};
+ghost use Rattle.book_law.specs.Matching.{part, dealOf};
 ghost use Rattle.matching.specs.Sweeps.{fillReport};
 
 // So many lots of an order.

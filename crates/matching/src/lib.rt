@@ -6,7 +6,7 @@ pub mod crossing;
 pub mod deals;
 pub mod prices;
 
-use rules::Range;
+use rules_law::Range;
 use terms::Kind;
 use terms::Side;
 

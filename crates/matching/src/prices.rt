@@ -7,9 +7,9 @@ use terms::Kind;
 use terms::Side;
 ghost use mathlib.Core.Path.{_≡_};
 ghost use Prim.Native.Nat.{_≤_};
-ghost use Rattle.rules.specs.Reference.{RangeFits};
-ghost use Rattle.rules.specs.Mark.{markMost};
-ghost use Rattle.book.specs.Matching.{fitsLimit, fits, beyond, firstAfter};
+ghost use Rattle.rules_law.specs.Reference.{RangeFits};
+ghost use Rattle.rules_law.specs.Mark.{markMost};
+ghost use Rattle.book_law.specs.Matching.{fitsLimit, fits, beyond, firstAfter};
 ghost use Rattle.matching.specs.Sweeps.{takerOf, meetingOf};
 
 fn is_within(side: Side, limit: u64, price: u64) -> bool

@@ -13,8 +13,8 @@ use Rattle.terms.specs.declared.Settings.{Settings}
 use Rattle.terms.specs.Categories.{rowOf}
 use Rattle.terms.proofs.Logic.{by, both, make}
 use Rattle.tables.specs.Put.{put}
-use Rattle.state.specs.declared.Session.{Session}
-use Rattle.state.specs.Opening.{fixedSession}
+use Rattle.state_law.specs.declared.Session.{Session}
+use Rattle.state_law.specs.Opening.{fixedSession}
 use Rattle.packing.specs.Runs.{settingsLength, sessionLength}
 use Rattle.packing.specs.Settings.{settingsNumbers, isCategory, categoryFrom, settingsFrom}
 use Rattle.packing.specs.Sessions.{flag, sessionNumbers, isSession, sessionOf, sessionFrom, Ten}

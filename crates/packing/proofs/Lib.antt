@@ -1,4 +1,3 @@
-pub mod Codes
 pub mod Lays
 pub mod Packs
 pub mod Listed

@@ -10,8 +10,8 @@ use Rattle.terms.specs.declared.Act.the-variants.{Enter, Clock}
 use Rattle.terms.specs.declared.Entry.{Entry}
 use Rattle.terms.specs.declared.Event.{Event}
 use Rattle.terms.specs.Categories.{rowOf}
-use Rattle.state.specs.declared.Session.{Session}
-use Rattle.state.specs.Opening.{fixedSession}
+use Rattle.state_law.specs.declared.Session.{Session}
+use Rattle.state_law.specs.Opening.{fixedSession}
 use Rattle.packing.specs.declared.events.FoundEvent.{FoundEvent}
 use Rattle.packing.specs.Runs.{tenAt}
 use Rattle.packing.specs.Settings.{settingsNumbers, settingsFrom}

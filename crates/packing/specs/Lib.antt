@@ -2,4 +2,3 @@ pub mod Runs
 pub mod Settings
 pub mod Sessions
 pub mod Events
-pub mod Answers

@@ -7,8 +7,8 @@ use mathlib.Core.List.{List, [], _∷_, _++_}
 use lib.Dec.{leb, eqb}
 use lib.ListN.{length, getD}
 use Rattle.terms.specs.Truth.{_⊓_}
-use Rattle.state.specs.declared.Session.{Session}
-use Rattle.state.specs.Opening.{fixedSession}
+use Rattle.state_law.specs.declared.Session.{Session}
+use Rattle.state_law.specs.Opening.{fixedSession}
 use Rattle.packing.specs.Runs.{tenAt}
 use Rattle.packing.specs.Settings.{settingsNumbers, settingsFrom, isCategory}
 

@@ -1,16 +1,16 @@
 // A session to and from a run of 43 numbers.
 use crate::runs;
 use crate::settings;
-use rules::Minute;
-use rules::Reckoning;
-use rules::Tally;
-use rules::Tape;
-use state::Session;
+use rules_law::Minute;
+use rules_law::Reckoning;
+use rules_law::Tally;
+use rules_law::Tape;
+use state_law::Session;
 use terms::numbers;
 ghost use mathlib.Core.Path.{_≡_};
 ghost use Prim.Native.Nat.{_≤_};
 ghost use lib.ListN.{length};
-ghost use Rattle.state.specs.Opening.{fixedSession};
+ghost use Rattle.state_law.specs.Opening.{fixedSession};
 ghost use Rattle.packing.specs.Runs.{sessionLength};
 ghost use Rattle.packing.specs.Sessions.{flag, sessionNumbers, isSession, sessionOf, sessionFrom};
 

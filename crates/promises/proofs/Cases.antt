@@ -3,20 +3,20 @@ use mathlib.Core.Path.{refl}
 use Rattle.terms.specs.Truth.{_⊓_}
 use Rattle.terms.specs.Refusals.{firstFailed}
 use Rattle.terms.specs.Settings.{settingsRanged, settingsTicked, settingsValid}
-use Rattle.rules.specs.Slabs.{percentOf, lowAt, highAt, coolingAfter}
-use Rattle.rules.specs.Growth.{factorial, term, terms, growth, theoretical}
-use Rattle.rules.specs.Reference.{theoreticalOr, minuteAfter, boundaries, reckoned, inRange}
-use Rattle.rules.specs.Close.{tallied, tallyAll, nearest, remembered, tapeAfter, lastOr, closePrice}
-use Rattle.book.specs.Priority.{sorted}
-use Rattle.audit.specs.Sound.{eachSound, distinct, uncrossed, bookSound}
-use Rattle.state.specs.Opening.{openedSession}
-use Rattle.state.specs.Clock.{widenedBy, coolingBy, clockStep}
-use Rattle.state.specs.Trades.{withTrade, withTrades}
-use Rattle.soundness.specs.Sound.{timeSound, countsSound, slabSound, numbersSound, every, rememberedSound, halfSound, minuteSound, clockSound, tapeSound, sessionSound, counted, sound}
-use Rattle.refusal.specs.Refusals.{numbersRight, inHours, ticksRight, bandRight, finds, hasPlace, hasNumbers, refusalOf}
-use Rattle.engine.specs.Outcome.{outcome}
-use Rattle.text.specs.Grammar.{word}
-use Rattle.text.specs.Pieces.{at}
+use Rattle.rules_law.specs.Slabs.{percentOf, lowAt, highAt, coolingAfter}
+use Rattle.rules_law.specs.Growth.{factorial, term, terms, growth, theoretical}
+use Rattle.rules_law.specs.Reference.{theoreticalOr, minuteAfter, boundaries, reckoned, inRange}
+use Rattle.rules_law.specs.Close.{tallied, tallyAll, nearest, remembered, tapeAfter, lastOr, closePrice}
+use Rattle.book_law.specs.Priority.{sorted}
+use Rattle.audit_law.specs.Sound.{eachSound, distinct, uncrossed, bookSound}
+use Rattle.state_law.specs.Opening.{openedSession}
+use Rattle.state_law.specs.Clock.{widenedBy, coolingBy, clockStep}
+use Rattle.state_law.specs.Trades.{withTrade, withTrades}
+use Rattle.soundness_law.specs.Sound.{timeSound, countsSound, slabSound, numbersSound, every, rememberedSound, halfSound, minuteSound, clockSound, tapeSound, sessionSound, counted, sound}
+use Rattle.refusal_law.specs.Refusals.{numbersRight, inHours, ticksRight, bandRight, finds, hasPlace, hasNumbers, refusalOf}
+use Rattle.engine_law.specs.Outcome.{outcome}
+use Rattle.text_law.specs.Grammar.{word}
+use Rattle.text_law.specs.Pieces.{at}
 use Rattle.reading.specs.Grammars.{settingsGrammar, eventGrammar}
 use Rattle.reading.specs.Answers.{readSettings, readEvent}
 use Rattle.promises.specs.Cases.{SmallCases}

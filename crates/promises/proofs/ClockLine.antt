@@ -24,21 +24,21 @@ use Rattle.terms.specs.declared.Verdict.the-variants.{Fine, Refused}
 use Rattle.terms.specs.Truth.{_⊓_}
 use Rattle.terms.specs.Numbers.{isTime}
 use Rattle.terms.specs.Refusals.{unless, firstFailed}
-use Rattle.book.specs.Matching.{reportAt}
-use Rattle.state.specs.declared.Session.{Session}
-use Rattle.state.specs.Set.{setBuys, setSells, setUnder}
-use Rattle.state.specs.Now.{percentNow, bandNow}
-use Rattle.state.specs.Clock.{clockStep}
-use Rattle.state.specs.Day.{Day, own, across, opened}
-use Rattle.state.proofs.Steps.{clock-twice}
-use Rattle.soundness.specs.Sound.{sound}
-use Rattle.soundness.proofs.Days.{SoundDay, sound-day}
-use Rattle.refusal.specs.Refusals.{numbersRight, inHours, ticksRight, bandRight, finds, lifeHasPlace, hasPlace, hasNumbers, refusalOf}
-use Rattle.refusal.proofs.Accepted.{Accepted, accepted, closed-refused}
-use Rattle.acts.specs.Acts.{Acted, only, clockReports, sweepIn, entered, withdrawn, silent, finished, afterClock, acted, act}
-use Rattle.acts.proofs.Stays.{act-stays}
-use Rattle.engine.specs.Outcome.{Outcome, decided, outcome, after}
-use Rattle.engine.proofs.Kept.{outcome-verdict, accepted-sound}
+use Rattle.book_law.specs.Matching.{reportAt}
+use Rattle.state_law.specs.declared.Session.{Session}
+use Rattle.state_law.specs.Set.{setBuys, setSells, setUnder}
+use Rattle.state_law.specs.Now.{percentNow, bandNow}
+use Rattle.state_law.specs.Clock.{clockStep}
+use Rattle.state_law.specs.Day.{Day, own, across, opened}
+use Rattle.state_law.proofs.Steps.{clock-twice}
+use Rattle.soundness_law.specs.Sound.{sound}
+use Rattle.soundness_law.proofs.Days.{SoundDay, sound-day}
+use Rattle.refusal_law.specs.Refusals.{numbersRight, inHours, ticksRight, bandRight, finds, lifeHasPlace, hasPlace, hasNumbers, refusalOf}
+use Rattle.refusal_law.proofs.Accepted.{Accepted, accepted, closed-refused}
+use Rattle.acts_law.specs.Acts.{Acted, only, clockReports, sweepIn, entered, withdrawn, silent, finished, afterClock, acted, act}
+use Rattle.acts_law.proofs.Stays.{act-stays}
+use Rattle.engine_law.specs.Outcome.{Outcome, decided, outcome, after}
+use Rattle.engine_law.proofs.Kept.{outcome-verdict, accepted-sound}
 use Rattle.promises.specs.ClockLine.{clockAt, plainOne, plain, Reply, replies, From, ClockLine}
 
 -- ---- the day after an accepted clock event

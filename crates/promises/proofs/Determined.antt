@@ -2,7 +2,7 @@
 use mathlib.Core.Path.{_≡_, refl, sym, ap, _∙_}
 use Rattle.terms.specs.declared.Event.{Event}
 use Rattle.terms.specs.declared.Settings.{Settings}
-use Rattle.text.specs.Grammar.{Answer, whole, unfinished, wrong}
+use Rattle.text_law.specs.Grammar.{Answer, whole, unfinished, wrong}
 use Rattle.reading.specs.declared.ReadEvent.{ReadEvent}
 use Rattle.reading.specs.declared.ReadSettings.{ReadSettings}
 use Rattle.reading.specs.Answers.{eventAnswer, settingsAnswer}
@@ -10,7 +10,7 @@ use Rattle.reading.proofs.EventLines.{event-only}
 use Rattle.reading.proofs.SettingsLines.{settings-only}
 use Rattle.records.proofs.Told.{told-only}
 use Rattle.writing.proofs.Back.{writes-one}
-use Rattle.feed.specs.Worlds.{Lent, lentOf}
+use Rattle.feed_law.specs.Worlds.{Lent, lentOf}
 use Rattle.promises.specs.Determined.{OpeningDetermined, ViewDetermined, ApplyDetermined, EventReadDetermined, SettingsReadDetermined, WriteDetermined, RecordReadDetermined, WalkDetermined, FeedDetermined, EndDetermined}
 
 pub opening-determined : OpeningDetermined

@@ -10,20 +10,20 @@ use Rattle.terms.specs.declared.Event.{Event}
 use Rattle.terms.specs.declared.Act.the-variants.{Enter}
 use Rattle.terms.specs.declared.Report.{Report}
 use Rattle.terms.specs.declared.Said.the-variants.{Trade, Slab}
-use Rattle.rules.specs.Slabs.{percentOf}
-use Rattle.rules.specs.Reference.{openingReference}
-use Rattle.book.specs.Matching.{reportAt}
-use Rattle.book.specs.Over.{tally}
-use Rattle.state.specs.Opening.{openedSession}
-use Rattle.state.specs.Day.{Day, opened}
-use Rattle.state.proofs.Begins.{opened-begun}
-use Rattle.soundness.proofs.Days.{opened-sound}
-use Rattle.refusal.proofs.Accepted.{sound-not-two}
-use Rattle.acts.specs.Asked.{accepts, numbersTo}
-use Rattle.acts.specs.Heard.{lastSaid, initialBand, bandAfter, referenceAfter, touchedIn, touchedBy}
-use Rattle.acts.proofs.Hears.{Listener, listen, listenAll, EachFine, Cooled, fine-at}
-use Rattle.engine.specs.Outcome.{after, told}
-use Rattle.engine.proofs.Kept.{outcome-verdict, outcome-few}
+use Rattle.rules_law.specs.Slabs.{percentOf}
+use Rattle.rules_law.specs.Reference.{openingReference}
+use Rattle.book_law.specs.Matching.{reportAt}
+use Rattle.book_law.specs.Over.{tally}
+use Rattle.state_law.specs.Opening.{openedSession}
+use Rattle.state_law.specs.Day.{Day, opened}
+use Rattle.state_law.proofs.Begins.{opened-begun}
+use Rattle.soundness_law.proofs.Days.{opened-sound}
+use Rattle.refusal_law.proofs.Accepted.{sound-not-two}
+use Rattle.acts_law.specs.Asked.{accepts, numbersTo}
+use Rattle.acts_law.specs.Heard.{lastSaid, initialBand, bandAfter, referenceAfter, touchedIn, touchedBy}
+use Rattle.acts_law.proofs.Hears.{Listener, listen, listenAll, EachFine, Cooled, fine-at}
+use Rattle.engine_law.specs.Outcome.{after, told}
+use Rattle.engine_law.proofs.Kept.{outcome-verdict, outcome-few}
 use Rattle.promises.specs.Lots.{LotsKept, OrderKept}
 use Rattle.promises.specs.Given.{GivenInOrder}
 use Rattle.promises.specs.Within.{TradesWithin}

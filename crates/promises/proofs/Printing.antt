@@ -25,27 +25,27 @@ use Rattle.tables.specs.Tables.{decode, tableOf}
 use Rattle.tables.proofs.Puts.{length-put}
 use Rattle.tables.proofs.Whole.{length-tableOf}
 use Rattle.tables.proofs.Written.{length-records}
-use Rattle.text.specs.Grammar.{Answer, whole, unfinished, wrong}
+use Rattle.text_law.specs.Grammar.{Answer, whole, unfinished, wrong}
 use Rattle.reading.specs.Answers.{readEvent, readSettings}
-use Rattle.state.specs.declared.Session.{Session}
-use Rattle.state.specs.Opening.{openedBy, openingOf, openedSession, fixedSession}
-use Rattle.state.specs.Day.{Day}
-use Rattle.soundness.specs.Sound.{sound, dayIn}
-use Rattle.soundness.proofs.Clocked.{session-clocked}
-use Rattle.soundness.proofs.Days.{SoundDay, sound-day}
-use Rattle.engine.specs.Outcome.{Outcome, outcome}
-use Rattle.engine.specs.Calls.{roomy, called, tableBy}
-use Rattle.engine.proofs.Kept.{accepted-sound, refused-nothing, outcome-few}
-use Rattle.engine.proofs.Applies.{called-outcome}
-use Rattle.feed.specs.declared.Run.{Run}
-use Rattle.feed.specs.declared.Stage.{Stage}
-use Rattle.feed.specs.declared.Stop.{Stop}
-use Rattle.feed.specs.Texts.{textMost, eventText, endText}
-use Rattle.feed.specs.Worlds.{World, Lent, lentOf, days, calls}
-use Rattle.feed.specs.Turns.{Turn, Fed, fedIn, settingsTurn, eventTurn, turnOf, printedIn, printedFrom, printed}
-use Rattle.feed.specs.Feeds.{TakenAs, feedVerdict, fedBy, fedOf}
-use Rattle.feed.proofs.Going.{fed-none, fed-full, fed-last, fed-ahead}
-use Rattle.feed.proofs.Pieces.{pieces, end-prints-rest}
+use Rattle.state_law.specs.declared.Session.{Session}
+use Rattle.state_law.specs.Opening.{openedBy, openingOf, openedSession, fixedSession}
+use Rattle.state_law.specs.Day.{Day}
+use Rattle.soundness_law.specs.Sound.{sound, dayIn}
+use Rattle.soundness_law.proofs.Clocked.{session-clocked}
+use Rattle.soundness_law.proofs.Days.{SoundDay, sound-day}
+use Rattle.engine_law.specs.Outcome.{Outcome, outcome}
+use Rattle.engine_law.specs.Calls.{roomy, called, tableBy}
+use Rattle.engine_law.proofs.Kept.{accepted-sound, refused-nothing, outcome-few}
+use Rattle.engine_law.proofs.Applies.{called-outcome}
+use Rattle.feed_law.specs.declared.Run.{Run}
+use Rattle.feed_law.specs.declared.Stage.{Stage}
+use Rattle.feed_law.specs.declared.Stop.{Stop}
+use Rattle.feed_law.specs.Texts.{textMost, eventText, endText}
+use Rattle.feed_law.specs.Worlds.{World, Lent, lentOf, days, calls}
+use Rattle.feed_law.specs.Turns.{Turn, Fed, fedIn, settingsTurn, eventTurn, turnOf, printedIn, printedFrom, printed}
+use Rattle.feed_law.specs.Feeds.{TakenAs, feedVerdict, fedBy, fedOf}
+use Rattle.feed_law.proofs.Going.{fed-none, fed-full, fed-last, fed-ahead}
+use Rattle.feed_law.proofs.Pieces.{pieces, end-prints-rest}
 use Rattle.promises.specs.Runs.{Held, dayHeld}
 use Rattle.promises.specs.Printed.{Holding, atStart, dayOn, Piece, Handed, Feeding, FeedingPrints, EndPrints}
 use Rattle.promises.specs.Printed.Feeding.{ends, feeds}

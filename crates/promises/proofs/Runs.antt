@@ -11,15 +11,15 @@ use Rattle.terms.specs.declared.Event.{Event}
 use Rattle.terms.specs.declared.Act.the-variants.{Enter}
 use Rattle.terms.specs.declared.Report.{Report}
 use Rattle.terms.specs.declared.Verdict.the-variants.{Fine}
-use Rattle.book.specs.Told.{total, tradedIn, cancelledIn, traded, cancelled}
-use Rattle.book.proofs.Remainder.{total-append}
-use Rattle.state.specs.Day.{Day}
-use Rattle.soundness.specs.Sound.{sound}
-use Rattle.acts.specs.Asked.{resting, accepts, numbersTo}
-use Rattle.acts.proofs.Numbers.{accepts-append}
-use Rattle.acts.proofs.Hears.{Listener, listenAll, EachFine, KnowsOf, TellsOf, fine-append}
-use Rattle.engine.specs.Outcome.{outcome, after, told}
-use Rattle.engine.proofs.Kept.{outcome-sound, outcome-kept, outcome-counts, outcome-tells, outcome-settings, outcome-forward, outcome-given, accepted-asks, asks-old, asks-new}
+use Rattle.book_law.specs.Told.{total, tradedIn, cancelledIn, traded, cancelled}
+use Rattle.book_law.proofs.Remainder.{total-append}
+use Rattle.state_law.specs.Day.{Day}
+use Rattle.soundness_law.specs.Sound.{sound}
+use Rattle.acts_law.specs.Asked.{resting, accepts, numbersTo}
+use Rattle.acts_law.proofs.Numbers.{accepts-append}
+use Rattle.acts_law.proofs.Hears.{Listener, listenAll, EachFine, KnowsOf, TellsOf, fine-append}
+use Rattle.engine_law.specs.Outcome.{outcome, after, told}
+use Rattle.engine_law.proofs.Kept.{outcome-sound, outcome-kept, outcome-counts, outcome-tells, outcome-settings, outcome-forward, outcome-given, accepted-asks, asks-old, asks-new}
 use Rattle.promises.specs.Lots.{asked}
 
 -- ---- two runs, one after the other

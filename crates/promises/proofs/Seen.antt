@@ -11,15 +11,15 @@ use Rattle.terms.specs.declared.Side.the-variants.{Buy, Sell}
 use Rattle.terms.specs.Sizes.{slots, width, tableLength}
 use Rattle.tables.specs.Tables.{decode, encode}
 use Rattle.tables.proofs.Slots.{length-encode, length-decode, decode-encode, encode-decode}
-use Rattle.book.specs.Over.{lotsOf}
-use Rattle.book.specs.View.{viewOf}
-use Rattle.audit.specs.Sound.{BookFits}
-use Rattle.audit.proofs.Facts.{book-fits}
-use Rattle.state.specs.Now.{bandNow}
-use Rattle.soundness.specs.Sound.{sound}
-use Rattle.soundness.proofs.Days.{sound-day}
-use Rattle.acts.specs.Asked.{resting}
-use Rattle.engine.specs.Calls.{viewCall}
+use Rattle.book_law.specs.Over.{lotsOf}
+use Rattle.book_law.specs.View.{viewOf}
+use Rattle.audit_law.specs.Sound.{BookFits}
+use Rattle.audit_law.proofs.Facts.{book-fits}
+use Rattle.state_law.specs.Now.{bandNow}
+use Rattle.soundness_law.specs.Sound.{sound}
+use Rattle.soundness_law.proofs.Days.{sound-day}
+use Rattle.acts_law.specs.Asked.{resting}
+use Rattle.engine_law.specs.Calls.{viewCall}
 use Rattle.promises.specs.Runs.{Held, dayHeld, ordersSeen, restingSeen, CallsKeepSeen}
 use Rattle.promises.proofs.Tables.{calls-keep-lots, calls-stay-sound}
 

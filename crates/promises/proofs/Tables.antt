@@ -23,20 +23,20 @@ use Rattle.tables.specs.Put.{put}
 use Rattle.tables.specs.Tables.{decode, tableOf}
 use Rattle.tables.proofs.Slots.{decode-encode}
 use Rattle.tables.proofs.Written.{length-records}
-use Rattle.book.specs.Told.{traded, cancelled}
-use Rattle.state.specs.declared.Session.{Session}
-use Rattle.state.specs.Opening.{openedSession}
-use Rattle.state.specs.Day.{Day, opened}
-use Rattle.soundness.specs.Sound.{dayIn}
-use Rattle.soundness.proofs.Days.{SoundDay, sound-day}
-use Rattle.refusal.proofs.Accepted.{sound-not-two}
-use Rattle.acts.specs.Acts.{Acted, act}
-use Rattle.acts.specs.Asked.{resting, accepts, numbersTo}
-use Rattle.engine.specs.declared.Answer.{Answer}
-use Rattle.engine.specs.Outcome.{Outcome, decided, outcome, after, told}
-use Rattle.engine.specs.Calls.{roomy, callVerdict, called, answerBy, tableBy}
-use Rattle.engine.proofs.Kept.{outcome-verdict, accepted-sound, refused-nothing}
-use Rattle.engine.proofs.Applies.{called-outcome, called-short}
+use Rattle.book_law.specs.Told.{traded, cancelled}
+use Rattle.state_law.specs.declared.Session.{Session}
+use Rattle.state_law.specs.Opening.{openedSession}
+use Rattle.state_law.specs.Day.{Day, opened}
+use Rattle.soundness_law.specs.Sound.{dayIn}
+use Rattle.soundness_law.proofs.Days.{SoundDay, sound-day}
+use Rattle.refusal_law.proofs.Accepted.{sound-not-two}
+use Rattle.acts_law.specs.Acts.{Acted, act}
+use Rattle.acts_law.specs.Asked.{resting, accepts, numbersTo}
+use Rattle.engine_law.specs.declared.Answer.{Answer}
+use Rattle.engine_law.specs.Outcome.{Outcome, decided, outcome, after, told}
+use Rattle.engine_law.specs.Calls.{roomy, callVerdict, called, answerBy, tableBy}
+use Rattle.engine_law.proofs.Kept.{outcome-verdict, accepted-sound, refused-nothing}
+use Rattle.engine_law.proofs.Applies.{called-outcome, called-short}
 use Rattle.promises.specs.Runs.{Held, dayHeld, openedOn, Call, HandsOut, Called, counting, Run, RunsAsDefined, CallsKeepLots, CallsKeepOrders, CallsTradeWithin, CallsStaySound, CallsNeverTwo, CallsGiveInOrder, CallsGoForward, CallsWritable, CallsWiden, SameRuns}
 use Rattle.promises.specs.Runs.Run.{ends, calls}
 use Rattle.promises.proofs.Records.{records-tell}

@@ -9,14 +9,14 @@ use Rattle.terms.specs.declared.Report.{Report}
 use Rattle.terms.specs.declared.Said.{Said}
 use Rattle.terms.specs.declared.Said.the-variants.{Accept, Trade, Convert, Cancel, Slab, Ref, Close}
 use Rattle.terms.specs.Records.{recordOf}
-use Rattle.state.specs.Opening.{openedSession}
-use Rattle.state.specs.Day.{Day, opened}
-use Rattle.acts.specs.Small.{SmallReport, SmallReports}
-use Rattle.acts.proofs.Small.{append-small}
-use Rattle.engine.specs.Outcome.{outcome, told}
-use Rattle.engine.proofs.Kept.{outcome-small, outcome-ten}
-use Rattle.text.specs.Numerals.{Writable, allWritable}
-use Rattle.text.proofs.Fills.{writable-tested}
+use Rattle.state_law.specs.Opening.{openedSession}
+use Rattle.state_law.specs.Day.{Day, opened}
+use Rattle.acts_law.specs.Small.{SmallReport, SmallReports}
+use Rattle.acts_law.proofs.Small.{append-small}
+use Rattle.engine_law.specs.Outcome.{outcome, told}
+use Rattle.engine_law.proofs.Kept.{outcome-small, outcome-ten}
+use Rattle.text_law.specs.Numerals.{Writable, allWritable}
+use Rattle.text_law.proofs.Fills.{writable-tested}
 use Rattle.writing.specs.Lines.{reportNumbers}
 use Rattle.promises.specs.Writable.{AllWritable, ReportsWritable, RunsWritable}
 

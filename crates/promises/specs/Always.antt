@@ -12,9 +12,9 @@ use Rattle.terms.specs.declared.Verdict.the-variants.{Fine}
 use Rattle.terms.specs.Sizes.{reportsMost}
 use Rattle.terms.specs.Refusals.{codeOf}
 use Rattle.terms.specs.Settings.{settingsVerdict}
-use Rattle.state.specs.Day.{Day, opened}
-use Rattle.soundness.specs.Sound.{sound}
-use Rattle.engine.specs.Outcome.{outcome, after, told}
+use Rattle.state_law.specs.Day.{Day, opened}
+use Rattle.soundness_law.specs.Sound.{sound}
+use Rattle.engine_law.specs.Outcome.{outcome, after, told}
 
 abbrev pub AlwaysSound : Type 0
 AlwaysSound = (g : Settings) (es : List Event) → settingsVerdict g ≡ Fine → sound (after (opened g) es) ≡ true

@@ -14,15 +14,15 @@ use Rattle.terms.specs.declared.Act.the-variants.{Enter}
 use Rattle.terms.specs.declared.Event.{Event}
 use Rattle.terms.specs.declared.Order.{Order}
 use Rattle.terms.specs.Refusals.{codeOf}
-use Rattle.rules.specs.Slabs.{slabOf}
-use Rattle.rules.specs.Reference.{rangeOf, inRange}
-use Rattle.rules.specs.Mark.{beyondMark}
-use Rattle.rules.specs.Close.{inHalfHour, closePrice}
-use Rattle.state.specs.Now.{bandNow}
-use Rattle.state.specs.Opening.{openedSession}
-use Rattle.state.specs.Trades.{withTrades}
-use Rattle.state.specs.Day.{opened}
-use Rattle.engine.specs.Outcome.{outcome}
+use Rattle.rules_law.specs.Slabs.{slabOf}
+use Rattle.rules_law.specs.Reference.{rangeOf, inRange}
+use Rattle.rules_law.specs.Mark.{beyondMark}
+use Rattle.rules_law.specs.Close.{inHalfHour, closePrice}
+use Rattle.state_law.specs.Now.{bandNow}
+use Rattle.state_law.specs.Opening.{openedSession}
+use Rattle.state_law.specs.Trades.{withTrades}
+use Rattle.state_law.specs.Day.{opened}
+use Rattle.engine_law.specs.Outcome.{outcome}
 use Rattle.reading.specs.Answers.{codeOf as lineCode, readSettings, readEvent}
 
 -- a contract of a category with this base, also its previous close and settlement, and this tick; no underlying is known

@@ -10,8 +10,8 @@ use Rattle.terms.specs.declared.Said.{Said}
 use Rattle.terms.specs.declared.Said.the-variants.{Accept, Trade, Convert, Cancel, Slab, Ref, Close}
 use Rattle.terms.specs.declared.Verdict.{Verdict}
 use Rattle.terms.specs.declared.Verdict.the-variants.{Fine}
-use Rattle.state.specs.Day.{Day, opened}
-use Rattle.engine.specs.Outcome.{outcome, after}
+use Rattle.state_law.specs.Day.{Day, opened}
+use Rattle.engine_law.specs.Outcome.{outcome, after}
 
 abbrev pub clockAt : ℕ → Event
 clockAt t = record { time = t; act = Clock }

@@ -5,11 +5,11 @@ use mathlib.Core.List.{List}
 use Rattle.terms.specs.declared.Settings.{Settings}
 use Rattle.terms.specs.declared.Event.{Event}
 use Rattle.terms.specs.declared.Side.{Side}
-use Rattle.state.specs.declared.Session.{Session}
-use Rattle.state.specs.declared.Opened.{Opened}
-use Rattle.state.specs.Opening.{openingOf}
-use Rattle.engine.specs.declared.Applied.{Applied}
-use Rattle.engine.specs.Calls.{AppliedAs, viewCall}
+use Rattle.state_law.specs.declared.Session.{Session}
+use Rattle.state_law.specs.declared.Opened.{Opened}
+use Rattle.state_law.specs.Opening.{openingOf}
+use Rattle.engine_law.specs.declared.Applied.{Applied}
+use Rattle.engine_law.specs.Calls.{AppliedAs, viewCall}
 use Rattle.reading.specs.declared.ReadEvent.{ReadEvent}
 use Rattle.reading.specs.declared.ReadSettings.{ReadSettings}
 use Rattle.reading.specs.Answers.{eventAnswer, EventRead, SettingsRead}
@@ -17,10 +17,10 @@ use Rattle.records.specs.declared.ReadRecord.{ReadRecord}
 use Rattle.records.specs.Back.{RecordRead}
 use Rattle.writing.specs.declared.Wrote.{Wrote}
 use Rattle.writing.specs.Writes.{Writes}
-use Rattle.feed.specs.declared.Run.{Run}
-use Rattle.feed.specs.declared.Stage.{Stage}
-use Rattle.feed.specs.declared.Taken.{Taken}
-use Rattle.feed.specs.Feeds.{TakenAs, fedOf, EndedAs}
+use Rattle.feed_law.specs.declared.Run.{Run}
+use Rattle.feed_law.specs.declared.Stage.{Stage}
+use Rattle.feed_law.specs.declared.Taken.{Taken}
+use Rattle.feed_law.specs.Feeds.{TakenAs, fedOf, EndedAs}
 use Rattle.journal.specs.Walk.{eventFrom}
 
 -- `state::opening::begin`

@@ -3,9 +3,9 @@ use mathlib.Core.Path.{_≡_}
 use mathlib.Core.List.{List}
 use Rattle.terms.specs.declared.Settings.{Settings}
 use Rattle.terms.specs.declared.Event.{Event}
-use Rattle.state.specs.Day.{opened}
-use Rattle.acts.specs.Asked.{accepts, numbersTo}
-use Rattle.engine.specs.Outcome.{after, told}
+use Rattle.state_law.specs.Day.{opened}
+use Rattle.acts_law.specs.Asked.{accepts, numbersTo}
+use Rattle.engine_law.specs.Outcome.{after, told}
 
 abbrev pub GivenInOrder : Type 0
 GivenInOrder = (g : Settings) (es : List Event) → accepts (told (opened g) es) ≡ numbersTo (after (opened g) es .session .given)

@@ -8,10 +8,10 @@ use Rattle.terms.specs.declared.Entry.{Entry}
 use Rattle.terms.specs.declared.Event.{Event}
 use Rattle.terms.specs.declared.Act.the-variants.{Enter}
 use Rattle.terms.specs.declared.Verdict.the-variants.{Fine}
-use Rattle.book.specs.Told.{traded, cancelled}
-use Rattle.state.specs.Day.{Day, opened}
-use Rattle.acts.specs.Asked.{askedBy, resting}
-use Rattle.engine.specs.Outcome.{outcome, after, told}
+use Rattle.book_law.specs.Told.{traded, cancelled}
+use Rattle.state_law.specs.Day.{Day, opened}
+use Rattle.acts_law.specs.Asked.{askedBy, resting}
+use Rattle.engine_law.specs.Outcome.{outcome, after, told}
 
 -- the lots that the order with number id asked for in a run from day d on
 unfoldable pub asked : ℕ → Day → List Event → ℕ

@@ -5,15 +5,15 @@ use mathlib.Core.Path.{_≡_}
 use mathlib.Core.List.{List, [], _++_}
 use lib.ListN.{length, take, drop}
 use Rattle.terms.specs.declared.Verdict.the-variants.{Fine}
-use Rattle.state.specs.Day.{Day}
-use Rattle.soundness.specs.Sound.{dayIn}
-use Rattle.feed.specs.declared.Run.{Run}
-use Rattle.feed.specs.declared.Stop.{Stop}
-use Rattle.feed.specs.declared.Taken.{Taken}
-use Rattle.feed.specs.Texts.{endText}
-use Rattle.feed.specs.Worlds.{days}
-use Rattle.feed.specs.Turns.{printedFrom, printed}
-use Rattle.feed.specs.Feeds.{begun, feedVerdict, fedOf, TakenAs}
+use Rattle.state_law.specs.Day.{Day}
+use Rattle.soundness_law.specs.Sound.{dayIn}
+use Rattle.feed_law.specs.declared.Run.{Run}
+use Rattle.feed_law.specs.declared.Stop.{Stop}
+use Rattle.feed_law.specs.declared.Taken.{Taken}
+use Rattle.feed_law.specs.Texts.{endText}
+use Rattle.feed_law.specs.Worlds.{days}
+use Rattle.feed_law.specs.Turns.{printedFrom, printed}
+use Rattle.feed_law.specs.Feeds.{begun, feedVerdict, fedOf, TakenAs}
 
 -- ---- what a caller holds between calls: the run, both tables, and the bytes that were not taken
 

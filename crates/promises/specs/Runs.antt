@@ -21,22 +21,22 @@ use Rattle.terms.specs.declared.Verdict.the-variants.{Fine}
 use Rattle.terms.specs.Sizes.{width, tableLength, recordLength}
 use Rattle.terms.specs.Records.{recordsOf}
 use Rattle.terms.specs.Settings.{settingsVerdict}
-use Rattle.rules.specs.Slabs.{inBand}
-use Rattle.rules.specs.Reference.{inRange}
+use Rattle.rules_law.specs.Slabs.{inBand}
+use Rattle.rules_law.specs.Reference.{inRange}
 use Rattle.tables.specs.Tables.{decode}
-use Rattle.book.specs.Matching.{reportAt}
-use Rattle.book.specs.Over.{lotsOf}
-use Rattle.book.specs.Told.{traded, cancelled}
-use Rattle.state.specs.declared.Session.{Session}
-use Rattle.state.specs.Opening.{openedSession}
-use Rattle.state.specs.Day.{Day, opened}
-use Rattle.soundness.specs.Sound.{sound, dayIn}
-use Rattle.acts.specs.Asked.{resting, accepts, numbersTo}
-use Rattle.acts.specs.Heard.{initialBand, enhancedBand, bandSaid, rangeSaid, touchedBy}
-use Rattle.engine.specs.Outcome.{outcome, after, told}
-use Rattle.engine.specs.declared.Answer.{Answer}
-use Rattle.engine.specs.declared.Applied.{Applied}
-use Rattle.engine.specs.Calls.{roomy, AppliedAs, viewCall}
+use Rattle.book_law.specs.Matching.{reportAt}
+use Rattle.book_law.specs.Over.{lotsOf}
+use Rattle.book_law.specs.Told.{traded, cancelled}
+use Rattle.state_law.specs.declared.Session.{Session}
+use Rattle.state_law.specs.Opening.{openedSession}
+use Rattle.state_law.specs.Day.{Day, opened}
+use Rattle.soundness_law.specs.Sound.{sound, dayIn}
+use Rattle.acts_law.specs.Asked.{resting, accepts, numbersTo}
+use Rattle.acts_law.specs.Heard.{initialBand, enhancedBand, bandSaid, rangeSaid, touchedBy}
+use Rattle.engine_law.specs.Outcome.{outcome, after, told}
+use Rattle.engine_law.specs.declared.Answer.{Answer}
+use Rattle.engine_law.specs.declared.Applied.{Applied}
+use Rattle.engine_law.specs.Calls.{roomy, AppliedAs, viewCall}
 use Rattle.promises.specs.Lots.{asked}
 use Rattle.promises.specs.Writable.{AllWritable}
 

@@ -9,11 +9,11 @@ use Rattle.terms.specs.declared.Band.{Band}
 use Rattle.terms.specs.declared.Event.{Event}
 use Rattle.terms.specs.declared.Report.{Report}
 use Rattle.terms.specs.declared.Said.the-variants.{Slab}
-use Rattle.rules.specs.Slabs.{inBand}
-use Rattle.book.specs.Matching.{reportAt}
-use Rattle.state.specs.Day.{opened}
-use Rattle.acts.specs.Heard.{initialBand, enhancedBand, bandSaid, touchedBy}
-use Rattle.engine.specs.Outcome.{told}
+use Rattle.rules_law.specs.Slabs.{inBand}
+use Rattle.book_law.specs.Matching.{reportAt}
+use Rattle.state_law.specs.Day.{opened}
+use Rattle.acts_law.specs.Heard.{initialBand, enhancedBand, bandSaid, touchedBy}
+use Rattle.engine_law.specs.Outcome.{told}
 
 -- in any run from an opening, a slab report stands at t
 abbrev pub Widened : Settings → List Event → List Report → ℕ → Band → List Report → Type 0

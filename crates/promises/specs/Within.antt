@@ -8,12 +8,12 @@ use Rattle.terms.specs.declared.Deal.{Deal}
 use Rattle.terms.specs.declared.Event.{Event}
 use Rattle.terms.specs.declared.Report.{Report}
 use Rattle.terms.specs.declared.Said.the-variants.{Trade}
-use Rattle.rules.specs.Slabs.{inBand}
-use Rattle.rules.specs.Reference.{inRange}
-use Rattle.book.specs.Matching.{reportAt}
-use Rattle.state.specs.Day.{opened}
-use Rattle.acts.specs.Heard.{bandSaid, rangeSaid}
-use Rattle.engine.specs.Outcome.{told}
+use Rattle.rules_law.specs.Slabs.{inBand}
+use Rattle.rules_law.specs.Reference.{inRange}
+use Rattle.book_law.specs.Matching.{reportAt}
+use Rattle.state_law.specs.Day.{opened}
+use Rattle.acts_law.specs.Heard.{bandSaid, rangeSaid}
+use Rattle.engine_law.specs.Outcome.{told}
 
 -- in any run from an opening, whatever was told before a trade and after it
 abbrev pub TradesWithin : Type 0

@@ -6,9 +6,9 @@ use lib.ListN.{length}
 use Rattle.terms.specs.declared.Settings.{Settings}
 use Rattle.terms.specs.declared.Event.{Event}
 use Rattle.terms.specs.declared.Report.{Report}
-use Rattle.state.specs.Day.{Day, opened}
-use Rattle.engine.specs.Outcome.{outcome, told}
-use Rattle.text.specs.Numerals.{allWritable}
+use Rattle.state_law.specs.Day.{Day, opened}
+use Rattle.engine_law.specs.Outcome.{outcome, told}
+use Rattle.text_law.specs.Numerals.{allWritable}
 use Rattle.writing.specs.Lines.{reportNumbers}
 
 -- each report among these

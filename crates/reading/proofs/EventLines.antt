@@ -14,14 +14,14 @@ use Rattle.terms.specs.declared.Act.{Act}
 use Rattle.terms.specs.declared.Act.the-variants.{Enter, Withdraw, Under, Clock, Finish}
 use Rattle.terms.specs.declared.Event.{Event}
 use Rattle.terms.specs.Sizes.{writtenMost}
-use Rattle.text.specs.Text.{bytes}
-use Rattle.text.specs.Numerals.{numeral, Writable}
-use Rattle.text.specs.Forms.{fill}
-use Rattle.text.specs.Grammar.{word, Answer, whole}
-use Rattle.text.specs.Reading.{Right}
-use Rattle.text.specs.Pieces.{at, lastly}
-use Rattle.text.proofs.Grammars.{Spells, s-stop, s-byte, s-this, s-else, s-number, s-word, s-last, Plain, Agrees, agreed}
-use Rattle.text.proofs.Rightness.{right, one, read-back, apart}
+use Rattle.text_law.specs.Text.{bytes}
+use Rattle.text_law.specs.Numerals.{numeral, Writable}
+use Rattle.text_law.specs.Forms.{fill}
+use Rattle.text_law.specs.Grammar.{word, Answer, whole}
+use Rattle.text_law.specs.Reading.{Right}
+use Rattle.text_law.specs.Pieces.{at, lastly}
+use Rattle.text_law.proofs.Grammars.{Spells, s-stop, s-byte, s-this, s-else, s-number, s-word, s-last, Plain, Agrees, agreed}
+use Rattle.text_law.proofs.Rightness.{right, one, read-back, apart}
 use Rattle.reading.specs.declared.events.Single.{Single}
 use Rattle.reading.specs.Lines.{sideWord, eventNumbers, renderEvent, EventLine}
 use Rattle.reading.specs.Grammars.{event, order, priceRest, lifeRest, lives, kindRest, kinds, sideRest, actOf, singleRest, clockRest, cancelRest, acts, eventGrammar}

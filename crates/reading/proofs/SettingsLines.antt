@@ -6,14 +6,14 @@ use lib.ListN.{length, take}
 use Rattle.terms.specs.declared.Category.{Category}
 use Rattle.terms.specs.declared.Category.the-variants.{Broad, Narrow, Sensitive, Energy, Metals, Precious, Gems, Other}
 use Rattle.terms.specs.declared.Settings.{Settings}
-use Rattle.text.specs.Text.{bytes}
-use Rattle.text.specs.Numerals.{numeral, Writable}
-use Rattle.text.specs.Forms.{fill}
-use Rattle.text.specs.Grammar.{word, Answer, whole}
-use Rattle.text.specs.Reading.{Right}
-use Rattle.text.specs.Pieces.{at, lastly}
-use Rattle.text.proofs.Grammars.{Spells, s-stop, s-byte, s-this, s-else, s-number, s-word, Plain, Agrees, agreed}
-use Rattle.text.proofs.Rightness.{right, one, read-back, apart}
+use Rattle.text_law.specs.Text.{bytes}
+use Rattle.text_law.specs.Numerals.{numeral, Writable}
+use Rattle.text_law.specs.Forms.{fill}
+use Rattle.text_law.specs.Grammar.{word, Answer, whole}
+use Rattle.text_law.specs.Reading.{Right}
+use Rattle.text_law.specs.Pieces.{at, lastly}
+use Rattle.text_law.proofs.Grammars.{Spells, s-stop, s-byte, s-this, s-else, s-number, s-word, Plain, Agrees, agreed}
+use Rattle.text_law.proofs.Rightness.{right, one, read-back, apart}
 use Rattle.reading.specs.Lines.{categoryWord, numbersForm, settingsNumbers, renderSettings, SettingsLine}
 use Rattle.reading.specs.Grammars.{laterNumbers, categoryRest, categories, settingsGrammar}
 use Rattle.reading.specs.declared.ReadSettings.{ReadSettings}

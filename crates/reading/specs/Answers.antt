@@ -5,9 +5,9 @@ use Rattle.terms.specs.declared.Event.{Event}
 use Rattle.terms.specs.declared.Settings.{Settings}
 use Rattle.terms.specs.declared.Refusal.the-variants.{LineUnfinished, LineWrong}
 use Rattle.terms.specs.Refusals.{numberOf}
-use Rattle.text.specs.Grammar.{Answer, whole, unfinished, wrong}
-use Rattle.text.specs.Reading.{Right}
-use Rattle.text.specs.Pieces.{at}
+use Rattle.text_law.specs.Grammar.{Answer, whole, unfinished, wrong}
+use Rattle.text_law.specs.Reading.{Right}
+use Rattle.text_law.specs.Pieces.{at}
 use Rattle.reading.specs.declared.ReadEvent.{ReadEvent}
 use Rattle.reading.specs.declared.ReadSettings.{ReadSettings}
 use Rattle.reading.specs.Lines.{SettingsLine, EventLine}

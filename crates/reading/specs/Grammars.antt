@@ -16,9 +16,9 @@ use Rattle.terms.specs.declared.Act.{Act}
 use Rattle.terms.specs.declared.Act.the-variants.{Enter, Withdraw, Under, Clock, Finish}
 use Rattle.terms.specs.declared.Event.{Event}
 use Rattle.reading.specs.declared.events.Single.{Single}
-use Rattle.text.specs.Text.{bytes, letter}
-use Rattle.text.specs.Grammar.{Grammar, stop, byte, either, number, word}
-use Rattle.text.specs.Pieces.{lastly}
+use Rattle.text_law.specs.Text.{bytes, letter}
+use Rattle.text_law.specs.Grammar.{Grammar, stop, byte, either, number, word}
+use Rattle.text_law.specs.Pieces.{lastly}
 
 -- ---- settings
 

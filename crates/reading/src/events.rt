@@ -6,11 +6,11 @@ use terms::Event;
 use terms::Kind;
 use terms::Life;
 use terms::Side;
-use text::Found;
-use text::Passed;
 use text::pieces;
+use text_law::Found;
+use text_law::Passed;
 ghost use mathlib.Core.Path.{_≡_};
-ghost use Rattle.text.specs.Pieces.{at as lookAt};
+ghost use Rattle.text_law.specs.Pieces.{at as lookAt};
 ghost use Rattle.reading.specs.Grammars.{priceRest, lifeRest, lives, kindRest, kinds, sideRest, actOf, singleRest, clockRest, cancelRest, acts};
 ghost use Rattle.reading.specs.Answers.{eventAnswer, readEvent};
 

@@ -2,11 +2,11 @@
 use crate::ReadSettings;
 use terms::Category;
 use terms::Settings;
-use text::Found;
-use text::Passed;
 use text::pieces;
+use text_law::Found;
+use text_law::Passed;
 ghost use mathlib.Core.Path.{_≡_};
-ghost use Rattle.text.specs.Pieces.{at as lookAt};
+ghost use Rattle.text_law.specs.Pieces.{at as lookAt};
 ghost use Rattle.reading.specs.Grammars.{laterNumbers, categoryRest, categories};
 ghost use Rattle.reading.specs.Answers.{settingsAnswer, readSettings};
 

@@ -1,6 +1,6 @@
 // The rows of the table of refusals, 2 to 11, for an event on a day.
-use state::Session;
 use state::clock;
+use state_law::Session;
 use terms::Act;
 use terms::Band;
 use terms::Entry;
@@ -19,12 +19,12 @@ ghost use Rattle.terms.specs.Sizes.{tableLength};
 ghost use Rattle.terms.specs.Truth.{_⊓_};
 ghost use Rattle.terms.specs.Numbers.{isPrice, isTime, onTick};
 ghost use Rattle.terms.specs.Refusals.{firstFailed};
-ghost use Rattle.rules.specs.Slabs.{inBand};
-ghost use Rattle.state.specs.Now.{Clocked, bandNow};
-ghost use Rattle.state.specs.Clock.{clockStep};
-ghost use Rattle.soundness.specs.Sound.{dayIn};
-ghost use Rattle.refusal.specs.Refusals.{ofLimit, numbersRight, inHours, ticksRight, bandRight, finds, lifeHasPlace, hasNumbers, bookRules, laterRules, refusalOf};
-ghost use Rattle.refusal.specs.Tabled.{Tabled, liveOn, placeFor};
+ghost use Rattle.rules_law.specs.Slabs.{inBand};
+ghost use Rattle.state_law.specs.Now.{Clocked, bandNow};
+ghost use Rattle.state_law.specs.Clock.{clockStep};
+ghost use Rattle.soundness_law.specs.Sound.{dayIn};
+ghost use Rattle.refusal_law.specs.Refusals.{ofLimit, numbersRight, inHours, ticksRight, bandRight, finds, lifeHasPlace, hasNumbers, bookRules, laterRules, refusalOf};
+ghost use Rattle.refusal_law.specs.Tabled.{Tabled, liveOn, placeFor};
 
 fn limit_priced(kind: Kind) -> bool
     ensures { λ r. ⌜ r ≡ ofLimit isPrice kind ⌝ }

@@ -1,11 +1,11 @@
 // The tape of trades, and what the close makes of it: the close price and the next day's base (000).
-use crate::Tally;
-use crate::Tape;
+use rules_law::Tally;
+use rules_law::Tape;
 use terms::Closing;
 ghost use mathlib.Core.Path.{_≡_};
 ghost use Prim.Native.Nat.{_*_, _≤_, _<_};
 ghost use Rattle.terms.specs.Sizes.{priceMost, lotsMost, tradesMost, lengthLeast, tickMost};
-ghost use Rattle.rules.specs.Close.{inHalfHour, tallied, tallyAll, noTally, halfAfter, remembered, tapeAfter, lastOr, average, closingOf, TallyFits, TenFits, TapeFits};
+ghost use Rattle.rules_law.specs.Close.{inHalfHour, tallied, tallyAll, noTally, halfAfter, remembered, tapeAfter, lastOr, average, closingOf, TallyFits, TenFits, TapeFits};
 
 // The last half hour of a session of this length.
 const HALF_HOUR: u64 = 1_800_000;

@@ -2,8 +2,8 @@
 ghost use mathlib.Core.Path.{_≡_};
 ghost use Prim.Native.Nat.{_≤_};
 ghost use Rattle.terms.specs.Sizes.{priceMost, daysMost};
-ghost use Rattle.rules.specs.Growth.{growth, theoretical};
-ghost use Rattle.rules.specs.Reference.{referenceMost};
+ghost use Rattle.rules_law.specs.Growth.{growth, theoretical};
+ghost use Rattle.rules_law.specs.Reference.{referenceMost};
 
 // 1,000,000,000 times the growth over so many days.
 const FACTORS: [u64; 367] = [

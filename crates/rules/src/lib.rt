@@ -1,50 +1,10 @@
 // rules: what the circulars compute, on plain numbers: slabs and bands, the growth of a price, the reference and its range, the
 // mark of a market order, the close price and the next base.
-// It may use terms. It promises: each function's result IS the definition of specs/ that stands beside document 01's words, and
-// nothing overflows for any settings that 12 and 13 let pass.
+// It may use terms and rules_law. It promises: each function's result IS the definition of rules_law that stands beside document 01's
+// words, and nothing overflows for any settings that 12 and 13 let pass.
 
 pub mod close;
 pub mod growth;
 pub mod mark;
 pub mod reference;
 pub mod slabs;
-
-// A row of the table of slabs: the two percents of a category.
-pub struct Row {
-    pub initial: u64,
-    pub enhanced: u64,
-}
-
-// The trades of the running minute: how many, and the sum of their prices.
-pub struct Minute {
-    pub count: u64,
-    pub sum: u64,
-}
-
-// The reference price, and the minute that the next boundary will close.
-pub struct Reckoning {
-    pub reference: u64,
-    pub minute: Minute,
-}
-
-// What the execution range is judged by: the initial percent and the reference price.
-pub struct Range {
-    pub percent: u64,
-    pub reference: u64,
-}
-
-// Trades added up: how many, their lots, and the sum of price times lots.
-pub struct Tally {
-    pub count: u64,
-    pub lots: u64,
-    pub value: u64,
-}
-
-// What is remembered of the day's trades: how many, the prices and lots of the last ten, oldest first (with fewer than ten, the
-// first places), and the trades of the closing half hour.
-pub struct Tape {
-    pub trades: u64,
-    pub prices: [u64; 10],
-    pub sizes: [u64; 10],
-    pub half: Tally,
-}

@@ -2,7 +2,7 @@
 use terms::Side;
 ghost use mathlib.Core.Path.{_≡_};
 ghost use Prim.Native.Nat.{_≤_};
-ghost use Rattle.rules.specs.Mark.{beyondMark, markMost};
+ghost use Rattle.rules_law.specs.Mark.{beyondMark, markMost};
 
 // Whether a price lies beyond the mark of an order whose first trade was at `first`. Any price may be asked about.
 pub fn beyond_mark(side: Side, first: u64, x: u64) -> bool

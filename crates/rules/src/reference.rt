@@ -1,12 +1,12 @@
 // The reference price: at the opening, over the boundaries of minutes, and the range around it.
-use crate::Minute;
-use crate::Range;
-use crate::Reckoning;
-use crate::Row;
+use rules_law::Minute;
+use rules_law::Range;
+use rules_law::Reckoning;
+use rules_law::Row;
 ghost use mathlib.Core.Path.{_≡_};
 ghost use Prim.Native.Nat.{_≤_};
 ghost use Rattle.terms.specs.Sizes.{priceMost, daysMost, timeMost};
-ghost use Rattle.rules.specs.Reference.{theoreticalOr, minuteAfter, quiet, reckoned, MinuteFits, RangeFits, rangeOf, inRange};
+ghost use Rattle.rules_law.specs.Reference.{theoreticalOr, minuteAfter, quiet, reckoned, MinuteFits, RangeFits, rangeOf, inRange};
 
 // The greatest reference: what a theoretical price can come to.
 pub const MOST: u64 = 110_600_000;

@@ -1,11 +1,11 @@
 // Slabs: the percents of each category, the band at a percent, and the cooling-off.
-use crate::Row;
+use rules_law::Row;
 use terms::Band;
 use terms::Category;
 ghost use mathlib.Core.Path.{_≡_};
 ghost use Prim.Native.Nat.{_+_, _≤_};
 ghost use Rattle.terms.specs.Sizes.{timeMost};
-ghost use Rattle.rules.specs.Slabs.{slabOf, percentOf, percentMost, Priced, lowAt, highAt, bandAt, bandMost, inBand, coolingAfter, overBy};
+ghost use Rattle.rules_law.specs.Slabs.{slabOf, percentOf, percentMost, Priced, lowAt, highAt, bandAt, bandMost, inBand, coolingAfter, overBy};
 
 const SLABS: [Row; 8] = [
     Row {

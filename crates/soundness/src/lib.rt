@@ -1,18 +1,17 @@
 // soundness: whether a session that is handed in is sound, with the orders that its tables hold.
-// It may use terms, rules, tables, book, audit and state. It promises: the answer IS document 01's paragraph, of any numbers
-// whatever and of any tables that are long enough; nothing is written. From a sound session follow the facts that the engine
-// computes with.
+// It may use audit, state and soundness_law, and what these use. It promises: the answer IS document 01's paragraph, of any numbers whatever and
+// of any tables that are long enough; nothing is written.
 
 pub mod numbers;
 
-use state::Session;
 use state::force;
+use state_law::Session;
 ghost use mathlib.Core.Path.{_≡_};
 ghost use Prim.Native.Nat.{_≤_};
 ghost use lib.ListN.{length};
 ghost use Rattle.terms.specs.Sizes.{tableLength};
-ghost use Rattle.state.specs.Now.{Clocked};
-ghost use Rattle.soundness.specs.Sound.{clockSound, tapeSound, sessionSound, sound, dayIn};
+ghost use Rattle.state_law.specs.Now.{Clocked};
+ghost use Rattle.soundness_law.specs.Sound.{clockSound, tapeSound, sessionSound, sound, dayIn};
 
 // The settings are valid, the time, the counts, the slab and the single numbers within their bounds.
 fn clock_sound(s: Session) -> bool

@@ -1,17 +1,17 @@
 // The numbers of a session, part by part, as the paragraph on soundness lists them.
-use rules::Minute;
-use rules::Tally;
-use rules::Tape;
-use state::Session;
+use rules_law::Minute;
+use rules_law::Tally;
+use rules_law::Tape;
+use state_law::Session;
 use terms::sizes;
 ghost use mathlib.Core.Path.{_≡_};
 ghost use Prim.Native.Nat.{_*_, _≤_};
 ghost use lib.ListN.{take};
 ghost use Rattle.terms.specs.Sizes.{priceMost, lotsMost, tradesMost, timeMost, tickMost};
 ghost use Rattle.terms.specs.Numbers.{isLots};
-ghost use Rattle.rules.specs.Close.{kept};
-ghost use Rattle.soundness.specs.Dividing.{Dividing};
-ghost use Rattle.soundness.specs.Sound.{timeSound, countsSound, slabSound, numbersSound, every, priceSound, rememberedSound, halfSound, minuteSound};
+ghost use Rattle.rules_law.specs.Close.{kept};
+ghost use Rattle.soundness_law.specs.Dividing.{Dividing};
+ghost use Rattle.soundness_law.specs.Sound.{timeSound, countsSound, slabSound, numbersSound, every, priceSound, rememberedSound, halfSound, minuteSound};
 
 pub fn time_sound(s: Session) -> bool
     ensures { λ r. ⌜ r ≡ timeSound s ⌝ }

@@ -9,12 +9,12 @@ use lib.Dec.{leb, ltb}
 use lib.ListN.{length, getD, take, drop}
 use Rattle.terms.proofs.Logic.{by, both, make}
 use Rattle.tables.specs.Put.{put}
-use Rattle.feed.specs.declared.Run.{Run}
-use Rattle.feed.specs.declared.Stage.{Stage}
-use Rattle.feed.specs.declared.Stop.{Stop}
-use Rattle.feed.specs.Texts.{textMost}
-use Rattle.feed.specs.Worlds.{Lent, calls}
-use Rattle.feed.specs.Turns.{Fed, halted, fedIn}
+use Rattle.feed_law.specs.declared.Run.{Run}
+use Rattle.feed_law.specs.declared.Stage.{Stage}
+use Rattle.feed_law.specs.declared.Stop.{Stop}
+use Rattle.feed_law.specs.Texts.{textMost}
+use Rattle.feed_law.specs.Worlds.{Lent, calls}
+use Rattle.feed_law.specs.Turns.{Fed, halted, fedIn}
 use Rattle.packing.specs.Sessions.{sessionNumbers, isSession, sessionFrom, Ten}
 use Rattle.packing.proofs.Inverse.{is-session, session-back, session-numbers}
 use Rattle.standing.specs.Runs.{runLength, stageNumber, runNumbers, isRun, stageFrom, runFrom, overRun}

@@ -12,10 +12,10 @@ use lib.ListN.{length, getD, take, drop, set, length-drop, drop-of-length-le}
 use lib.Seq.{take-all}
 use Rattle.terms.specs.Truth.{_⊓_}
 use Rattle.tables.specs.Put.{put}
-use Rattle.state.specs.declared.Session.{Session}
-use Rattle.state.specs.Opening.{fixedSession}
-use Rattle.feed.specs.declared.Run.{Run}
-use Rattle.feed.specs.declared.Stage.{Stage}
+use Rattle.state_law.specs.declared.Session.{Session}
+use Rattle.state_law.specs.Opening.{fixedSession}
+use Rattle.feed_law.specs.declared.Run.{Run}
+use Rattle.feed_law.specs.declared.Stage.{Stage}
 use Rattle.packing.specs.Sessions.{sessionNumbers, isSession, sessionFrom}
 use Rattle.standing.specs.Runs.{runLength, stageNumber, runNumbers, isRun, stageFrom, runFrom, overRun}
 

@@ -5,9 +5,9 @@ use mathlib.Core.List.{List, _∷_}
 use lib.Dec.{leb, eqb}
 use lib.ListN.{getD, drop}
 use Rattle.terms.specs.Truth.{_⊓_}
-use Rattle.state.specs.Opening.{fixedSession}
-use Rattle.feed.specs.declared.Run.{Run}
-use Rattle.feed.specs.declared.Stage.{Stage}
+use Rattle.state_law.specs.Opening.{fixedSession}
+use Rattle.feed_law.specs.declared.Run.{Run}
+use Rattle.feed_law.specs.declared.Stage.{Stage}
 use Rattle.packing.specs.Sessions.{sessionNumbers, isSession, sessionFrom}
 
 abbrev pub runLength : ℕ

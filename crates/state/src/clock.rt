@@ -1,13 +1,13 @@
 // The clock steps that an event makes before it acts: the slab, then the reference. Time is the event's.
-use crate::Session;
 use rules::reference;
 use rules::slabs;
+use state_law::Session;
 use terms::Band;
 ghost use mathlib.Core.Path.{_≡_};
 ghost use Prim.Native.Nat.{_≤_};
-ghost use Rattle.rules.specs.Slabs.{bandMost};
-ghost use Rattle.state.specs.Now.{Clocked, bandNow};
-ghost use Rattle.state.specs.Clock.{widenedBy, coolingBy, clockStep};
+ghost use Rattle.rules_law.specs.Slabs.{bandMost};
+ghost use Rattle.state_law.specs.Now.{Clocked, bandNow};
+ghost use Rattle.state_law.specs.Clock.{widenedBy, coolingBy, clockStep};
 
 fn widened_by(widened: u64, cooling: u64, t: u64) -> u64
     requires { ⌜ widened ≤ 1 ⌝ }

@@ -1,14 +1,14 @@
 // What is in force in a session: the percent, the band, the range.
-use crate::Session;
-use rules::Range;
-use rules::Row;
 use rules::reference;
 use rules::slabs;
+use rules_law::Range;
+use rules_law::Row;
+use state_law::Session;
 use terms::Band;
 ghost use mathlib.Core.Path.{_≡_};
 ghost use Prim.Native.Nat.{_+_, _≤_};
-ghost use Rattle.rules.specs.Slabs.{slabOf, percentMost, bandMost};
-ghost use Rattle.state.specs.Now.{Clocked, percentNow, bandNow, rangeNow};
+ghost use Rattle.rules_law.specs.Slabs.{slabOf, percentMost, bandMost};
+ghost use Rattle.state_law.specs.Now.{Clocked, percentNow, bandNow, rangeNow};
 
 // The percents of the session's category.
 fn slab_in(s: Session) -> Row

@@ -1,17 +1,17 @@
 // The opening of a session.
-use crate::Opened;
-use crate::Session;
-use rules::Tally;
-use rules::Tape;
 use rules::reference;
+use rules_law::Tally;
+use rules_law::Tape;
+use state_law::Opened;
+use state_law::Session;
 use terms::Category;
 use terms::Settings;
 use terms::Verdict;
 use terms::judge;
 ghost use mathlib.Core.Path.{_≡_};
 ghost use Rattle.terms.specs.Settings.{Valid};
-ghost use Rattle.rules.specs.Close.{blankTape};
-ghost use Rattle.state.specs.Opening.{openedSession, fixedSession, openingOf};
+ghost use Rattle.rules_law.specs.Close.{blankTape};
+ghost use Rattle.state_law.specs.Opening.{openedSession, fixedSession, openingOf};
 
 // A tape before any trade.
 fn blank() -> Tape

@@ -1,15 +1,15 @@
 // A trade in the session: what it adds to the cooling-off, the minute and the tape.
-use crate::Session;
-use rules::Reckoning;
 use rules::close;
 use rules::reference;
 use rules::slabs;
+use rules_law::Reckoning;
+use state_law::Session;
 use terms::Band;
 ghost use mathlib.Core.Path.{_≡_};
 ghost use Prim.Native.Nat.{_≤_, _<_};
 ghost use Rattle.terms.specs.Sizes.{priceMost, lotsMost, tradesMost};
-ghost use Rattle.state.specs.Now.{bandNow};
-ghost use Rattle.state.specs.Trades.{withTrade, TradesFit};
+ghost use Rattle.state_law.specs.Now.{bandNow};
+ghost use Rattle.state_law.specs.Trades.{withTrade, TradesFit};
 
 // The session after a trade of some lots at a price; band is the band in force.
 pub fn with_trade(s: Session, band: Band, price: u64, lots: u64) -> Session

@@ -5,10 +5,10 @@
 
 pub mod sink;
 
-use feed::Run;
-use feed::Stage;
-use feed::Stop;
 use feed::lines;
+use feed_law::Run;
+use feed_law::Stage;
+use feed_law::Stop;
 use sink::Sink;
 use terms::sizes;
 use writing::Wrote;

@@ -1,9 +1,9 @@
 // The pieces of a line, read: a word, a number, and the two together.
-use crate::Found;
-use crate::Passed;
+use text_law::Found;
+use text_law::Passed;
 ghost use mathlib.Core.Path.{_≡_};
 ghost use lib.ListN.{drop};
-ghost use Rattle.text.specs.Pieces.{wordOn, numberOn, fieldOn, lastOn};
+ghost use Rattle.text_law.specs.Pieces.{wordOn, numberOn, fieldOn, lastOn};
 
 pub fn word(s: &[u8], at: usize, w: &[u8]) -> Passed
     ensures { λ r. ⌜ r ≡ wordOn (now (w .entry)) (drop at (now (s .entry))) at ⌝ }

@@ -1,13 +1,13 @@
 // Forms and their numbers put into a lent room: one pass over the form, each digit written at its place at once.
-use crate::Spot;
 use terms::sizes;
+use text_law::Spot;
 ghost use mathlib.Core.Path.{_≡_};
 ghost use Prim.Native.Nat.{_+_, _≤_};
 ghost use lib.ListN.{length, getD, drop};
 ghost use Rattle.terms.specs.Sizes.{writtenMost};
-ghost use Rattle.text.specs.Numerals.{numeral, allWritable};
-ghost use Rattle.text.specs.Forms.{piece, taken, fill, holes};
-ghost use Rattle.text.specs.Room.{Put, Placed, Fits, PieceFits};
+ghost use Rattle.text_law.specs.Numerals.{numeral, allWritable};
+ghost use Rattle.text_law.specs.Forms.{piece, taken, fill, holes};
+ghost use Rattle.text_law.specs.Room.{Put, Placed, Fits, PieceFits};
 
 // No number is too long to be written.
 pub fn all_writable(numbers: &[u64]) -> bool

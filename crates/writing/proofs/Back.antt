@@ -12,9 +12,9 @@ use Rattle.terms.specs.declared.Verdict.{Verdict}
 use Rattle.terms.specs.declared.Verdict.the-variants.{Fine, Refused}
 use Rattle.terms.specs.Sizes.{lineRoom}
 use Rattle.terms.proofs.Cascade.{fine-first}
-use Rattle.text.specs.Numerals.{Writable, allWritable}
-use Rattle.text.specs.Grammar.{whole}
-use Rattle.text.proofs.Fills.{tested-writable}
+use Rattle.text_law.specs.Numerals.{Writable, allWritable}
+use Rattle.text_law.specs.Grammar.{whole}
+use Rattle.text_law.proofs.Fills.{tested-writable}
 use Rattle.reading.specs.Lines.{renderEvent, eventNumbers, renderSettings, settingsNumbers}
 use Rattle.reading.specs.Answers.{readEvent, readSettings}
 use Rattle.reading.proofs.EventLines.{event-back}

@@ -16,7 +16,7 @@ use Rattle.terms.specs.declared.Ended.{Ended}
 use Rattle.terms.specs.declared.Settings.{Settings}
 use Rattle.terms.specs.declared.Side.{Side}
 use Rattle.terms.specs.Reports.{whyOf}
-use Rattle.text.specs.Text.{bytes}
+use Rattle.text_law.specs.Text.{bytes}
 use Rattle.reading.specs.Lines.{sideWord, orderForm, priceNumbers, actNumbers, eventForm, eventNumbers, renderEvent, settingsForm, settingsNumbers, renderSettings}
 use Rattle.writing.specs.declared.Wrote.{Wrote}
 use Rattle.writing.specs.Lines.{orderNumbers, saidNumbers, reportForm, reportNumbers, renderReport}

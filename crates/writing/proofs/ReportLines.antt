@@ -10,13 +10,13 @@ use Rattle.terms.specs.declared.Why.{Why}
 use Rattle.terms.specs.declared.Why.the-variants.{Asked, Immediate, OutOfRange, OutsideBand, DayEnd}
 use Rattle.terms.specs.Sizes.{writtenMost}
 use Rattle.terms.specs.Reports.{whyOf}
-use Rattle.text.specs.Text.{bytes, letter}
-use Rattle.text.specs.Numerals.{numeral, Writable}
-use Rattle.text.specs.Forms.{fill}
-use Rattle.text.specs.Grammar.{Grammar, stop, byte, either, number, word}
-use Rattle.text.specs.Pieces.{lastly}
-use Rattle.text.proofs.Grammars.{Spells, s-stop, s-byte, s-this, s-else, s-number, s-word, s-last, Plain, Agrees, agreed}
-use Rattle.text.proofs.Rightness.{apart}
+use Rattle.text_law.specs.Text.{bytes, letter}
+use Rattle.text_law.specs.Numerals.{numeral, Writable}
+use Rattle.text_law.specs.Forms.{fill}
+use Rattle.text_law.specs.Grammar.{Grammar, stop, byte, either, number, word}
+use Rattle.text_law.specs.Pieces.{lastly}
+use Rattle.text_law.proofs.Grammars.{Spells, s-stop, s-byte, s-this, s-else, s-number, s-word, s-last, Plain, Agrees, agreed}
+use Rattle.text_law.proofs.Rightness.{apart}
 use Rattle.writing.specs.Lines.{reportNumbers, renderReport}
 
 abbrev report : ℕ → Said → Report

@@ -19,9 +19,9 @@ use Rattle.terms.specs.declared.Settings.{Settings}
 use Rattle.terms.specs.declared.Side.{Side}
 use Rattle.terms.specs.declared.Side.the-variants.{Buy, Sell}
 use Rattle.terms.specs.Sizes.{lineRoom}
-use Rattle.text.specs.Text.{bytes}
-use Rattle.text.specs.Forms.{longest}
-use Rattle.text.proofs.Fills.{fill-length}
+use Rattle.text_law.specs.Text.{bytes}
+use Rattle.text_law.specs.Forms.{longest}
+use Rattle.text_law.proofs.Fills.{fill-length}
 use Rattle.reading.specs.Lines.{sideWord, orderForm, eventForm, eventNumbers, renderEvent, numbersForm, settingsForm, settingsNumbers, renderSettings}
 use Rattle.writing.specs.Lines.{reportForm, reportNumbers, renderReport}
 

@@ -11,12 +11,12 @@ use borrow.Author.Tests.{le-leb, lt-leb, not-true, not-false}
 use Rattle.terms.specs.declared.Refusal.the-variants.{SmallLineRoom, NumberLong}
 use Rattle.terms.specs.Sizes.{lineRoom}
 use Rattle.terms.specs.Refusals.{firstFailed}
-use Rattle.text.specs.Numerals.{allWritable}
-use Rattle.text.specs.Forms.{fill, holes}
-use Rattle.text.specs.declared.Spot.{Spot}
-use Rattle.text.specs.Room.{over, Put, Placed, Fits}
-use Rattle.text.proofs.Rooms.{then}
-use Rattle.text.proofs.Fills.{fill-length, fill-append, tested-writable}
+use Rattle.text_law.specs.Numerals.{allWritable}
+use Rattle.text_law.specs.Forms.{fill, holes}
+use Rattle.text_law.specs.declared.Spot.{Spot}
+use Rattle.text_law.specs.Room.{over, Put, Placed, Fits}
+use Rattle.text_law.proofs.Rooms.{then}
+use Rattle.text_law.proofs.Fills.{fill-length, fill-append, tested-writable}
 use Rattle.writing.specs.declared.Wrote.{Wrote}
 use Rattle.writing.specs.Writes.{lineVerdict, Writes, Formed}
 

@@ -8,8 +8,8 @@ use Rattle.terms.specs.declared.Report.{Report}
 use Rattle.terms.specs.declared.Refusal.{Refusal}
 use Rattle.terms.specs.Reports.{whyOf}
 use Rattle.terms.specs.Refusals.{numberOf}
-use Rattle.text.specs.Text.{bytes}
-use Rattle.text.specs.Forms.{fill}
+use Rattle.text_law.specs.Text.{bytes}
+use Rattle.text_law.specs.Forms.{fill}
 use Rattle.reading.specs.Lines.{priceNumbers}
 
 -- ---- orders: the numbers of an order's line

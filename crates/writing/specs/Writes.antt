@@ -9,8 +9,8 @@ use Rattle.terms.specs.declared.Verdict.{Verdict}
 use Rattle.terms.specs.declared.Verdict.the-variants.{Fine, Refused}
 use Rattle.terms.specs.Sizes.{lineRoom}
 use Rattle.terms.specs.Refusals.{unless, firstFailed}
-use Rattle.text.specs.Numerals.{allWritable}
-use Rattle.text.specs.Forms.{fill, holes, longest}
+use Rattle.text_law.specs.Numerals.{allWritable}
+use Rattle.text_law.specs.Forms.{fill, holes, longest}
 use Rattle.writing.specs.declared.Wrote.{Wrote}
 
 -- 16, "line room under 128 bytes", then 17, "a number above 999,999,999 to be written"

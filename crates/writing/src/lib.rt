@@ -19,7 +19,7 @@ use terms::numbers;
 ghost use mathlib.Core.List.{_++_};
 ghost use mathlib.Core.Path.{_≡_};
 ghost use Prim.Native.Nat.{_≤_};
-ghost use Rattle.text.specs.Forms.{holes, longest};
+ghost use Rattle.text_law.specs.Forms.{holes, longest};
 ghost use Rattle.reading.specs.Lines.{numbersForm, settingsNumbers, renderSettings, orderForm, eventNumbers, renderEvent};
 ghost use Rattle.writing.specs.Lines.{orderNumbers, reportNumbers, renderReport, refusedNumbers, renderRefused, badNumbers, renderBad};
 ghost use Rattle.writing.specs.Writes.{Writes, WritesForm};

@@ -2,8 +2,8 @@
 use crate::Wrote;
 use terms::Refusal;
 use terms::sizes;
-use text::Spot;
 use text::room;
+use text_law::Spot;
 ghost use mathlib.Core.List.{_++_};
 ghost use Rattle.writing.specs.Writes.{WritesForm, Formed};
 

@@ -1,6 +1,6 @@
 -- A side with no orders, or the first order of each.
 use borrow.Author.Needs.{needs}
-use Rattle.audit.proofs.Books.{no-buys, no-sells, bests}
+use Rattle.audit_law.proofs.Books.{no-buys, no-sells, bests}
 use Rattle.audit.proofs.best_apart.Statement.{statement}
 use Rattle.audit.proofs.best_apart.Tie as tie
 

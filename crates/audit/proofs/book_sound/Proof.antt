@@ -1,6 +1,6 @@
 -- The two best prices, then both passes.
 use borrow.Author.Needs.{needs}
-use Rattle.audit.proofs.Books.{book-crossed, limits-fit, tables-are}
+use Rattle.audit_law.proofs.Books.{book-crossed, limits-fit, tables-are}
 use Rattle.audit.proofs.book_sound.Statement.{statement}
 use Rattle.audit.proofs.book_sound.Tie as tie
 

@@ -1,9 +1,9 @@
 use mathlib.Core.Path.{ap}
 use borrow.Author.Needs.{needs}
-use Rattle.state.specs.declared.Session.{Session}
+use Rattle.state_law.specs.declared.Session.{Session}
 use Rattle.feed.proofs.start.Statement.{statement}
 use Rattle.feed.proofs.start.Tie as tie
-use Rattle.feed.specs.declared.Stage.{Stage}
+use Rattle.feed_law.specs.declared.Stage.{Stage}
 
 fixed-requires : tie.Need-fixed-requires
 fixed-requires c κs = search needs

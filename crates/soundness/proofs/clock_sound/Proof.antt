@@ -3,8 +3,8 @@ use borrow.Author.Needs.{needs}
 use borrow.Author.Tests.{not-false}
 use mathlib.Core.Path.{sym, _∙_}
 use Rattle.terms.proofs.Logic.{conditions, regroup, passes}
-use Rattle.soundness.specs.Sound.{clockSound}
-use Rattle.soundness.proofs.Clocked.{time-small}
+use Rattle.soundness_law.specs.Sound.{clockSound}
+use Rattle.soundness_law.proofs.Clocked.{time-small}
 use Rattle.soundness.proofs.clock_sound.Statement.{statement}
 use Rattle.soundness.proofs.clock_sound.Tie as tie
 

@@ -3,8 +3,8 @@ use borrow.Author.Needs.{needs}
 use mathlib.Core.Path.{sym, _∙_}
 use native.Mathlib.Omega.{arith}
 use borrow.Author.Tests.{not-false}
-use Rattle.soundness.proofs.Clocked.{session-clocked}
-use Rattle.soundness.proofs.Border.{numbers-unsound, book-decides}
+use Rattle.soundness_law.proofs.Clocked.{session-clocked}
+use Rattle.soundness_law.proofs.Border.{numbers-unsound, book-decides}
 use Rattle.soundness.proofs.is_sound.Statement.{statement}
 use Rattle.soundness.proofs.is_sound.Tie as tie
 

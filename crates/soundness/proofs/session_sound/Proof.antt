@@ -1,10 +1,10 @@
 -- What is remembered is tested only where the single numbers are within bounds.
 use borrow.Author.Needs.{needs}
 use Rattle.terms.proofs.Logic.{conditions}
-use Rattle.soundness.specs.Sound.{sessionSound}
+use Rattle.soundness_law.specs.Sound.{sessionSound}
 use mathlib.Core.Path.{sym, _∙_}
 use borrow.Author.Tests.{not-false}
-use Rattle.soundness.proofs.Clocked.{clocked}
+use Rattle.soundness_law.proofs.Clocked.{clocked}
 use Rattle.soundness.proofs.session_sound.Statement.{statement}
 use Rattle.soundness.proofs.session_sound.Tie as tie
 

@@ -1,7 +1,7 @@
 -- The tests of the definition, in its order.
 use borrow.Author.Needs.{needs}
 use Rattle.terms.proofs.Logic.{conditions}
-use Rattle.soundness.specs.Sound.{tapeSound}
+use Rattle.soundness_law.specs.Sound.{tapeSound}
 use Rattle.soundness.proofs.tape_sound.Statement.{statement}
 use Rattle.soundness.proofs.tape_sound.Tie as tie
 

@@ -1,6 +1,6 @@
 -- An arm for each side.
 use borrow.Author.Needs.{needs}
-use Rattle.audit.proofs.Turns.{key-buy, key-sell}
+use Rattle.audit_law.proofs.Turns.{key-buy, key-sell}
 use Rattle.audit.proofs.pass.key.Statement.{statement}
 use Rattle.audit.proofs.pass.key.Tie as tie
 

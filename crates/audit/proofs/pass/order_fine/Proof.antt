@@ -1,6 +1,6 @@
 -- Each return by the test before it, the last by both.
 use borrow.Author.Needs.{needs}
-use Rattle.audit.proofs.Turns.{fine-bounds, bounded-small, fine-tick}
+use Rattle.audit_law.proofs.Turns.{fine-bounds, bounded-small, fine-tick}
 use Rattle.audit.proofs.pass.order_fine.Statement.{statement}
 use Rattle.audit.proofs.pass.order_fine.Tie as tie
 

@@ -4,9 +4,9 @@ use mathlib.Core.Path.{_≡_}
 use lib.ListN.{length, drop}
 use borrow.Author.Needs.{needs}
 use Rattle.tables.specs.Tables.{decode}
-use Rattle.audit.specs.Marks.{marked}
-use Rattle.audit.specs.Pass.{lowBits, passOf}
-use Rattle.audit.proofs.Turns.{fine-keyed, inside, marks-all, marks-turn, pass-all, pass-bad, pass-unsorted, pass-seen, pass-turn}
+use Rattle.audit_law.specs.Marks.{marked}
+use Rattle.audit_law.specs.Pass.{lowBits, passOf}
+use Rattle.audit_law.proofs.Turns.{fine-keyed, inside, marks-all, marks-turn, pass-all, pass-bad, pass-unsorted, pass-seen, pass-turn}
 use Rattle.audit.proofs.pass.side_by.Statement.{statement}
 use Rattle.audit.proofs.pass.side_by.Tie as tie
 

@@ -1,6 +1,6 @@
 -- A smaller map that finds no clash is believed; otherwise the large map answers.
 use borrow.Author.Needs.{needs}
-use Rattle.audit.proofs.LowBits.{no-clash, all-numbers}
+use Rattle.audit_law.proofs.LowBits.{no-clash, all-numbers}
 use Rattle.audit.proofs.pass.sides.Statement.{statement}
 use Rattle.audit.proofs.pass.sides.Tie as tie
 

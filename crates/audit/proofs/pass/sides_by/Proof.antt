@@ -1,6 +1,6 @@
 -- The second pass goes on from the marks of the first.
 use borrow.Author.Needs.{needs}
-use Rattle.audit.proofs.Both.{both-stop, both-end}
+use Rattle.audit_law.proofs.Both.{both-stop, both-end}
 use Rattle.audit.proofs.pass.sides_by.Statement.{statement}
 use Rattle.audit.proofs.pass.sides_by.Tie as tie
 

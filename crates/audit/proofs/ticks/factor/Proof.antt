@@ -1,6 +1,6 @@
 -- The quotient is at most the scale.
 use borrow.Author.Needs.{needs}
-use Rattle.audit.proofs.Multiples.{factor-fits}
+use Rattle.audit_law.proofs.Multiples.{factor-fits}
 use Rattle.audit.proofs.ticks.factor.Statement.{statement}
 use Rattle.audit.proofs.ticks.factor.Tie as tie
 

@@ -1,5 +1,5 @@
 -- The slot that the search found is where the definition inserts.
-use Rattle.book.proofs.Search.{search-within, add-done}
+use Rattle.book_law.proofs.Search.{search-within, add-done}
 use borrow.Author.Needs.{needs}
 use Rattle.book.proofs.side.add.Statement.{statement}
 use Rattle.book.proofs.side.add.Tie as tie

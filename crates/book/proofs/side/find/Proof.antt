@@ -4,10 +4,10 @@ use Prim.Native.Nat.{_+_, _-_, _≤_}
 use mathlib.Core.Path.{_≡_}
 use lib.ListN.{drop}
 use Rattle.tables.specs.Tables.{decode}
-use Rattle.book.specs.Places.{firstWhere}
+use Rattle.book_law.specs.Places.{firstWhere}
 use lib.Dec.{eqb}
 use borrow.Author.Tests.{eq-eqb, ne-eqb}
-use Rattle.book.proofs.Search.{search-none, search-found, search-turn}
+use Rattle.book_law.proofs.Search.{search-none, search-found, search-turn}
 use Rattle.book.proofs.side.find.Statement.{statement}
 use Rattle.book.proofs.side.find.Tie as tie
 

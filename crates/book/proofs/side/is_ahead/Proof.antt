@@ -1,5 +1,5 @@
 -- Each test of the code is a test of the definition.
-use Rattle.book.specs.Priority.{ahead}
+use Rattle.book_law.specs.Priority.{ahead}
 use borrow.Author.Needs.{needs}
 use Rattle.book.proofs.side.is_ahead.Statement.{statement}
 use Rattle.book.proofs.side.is_ahead.Tie as tie

@@ -1,5 +1,5 @@
 -- An order rests where the search stopped before the end.
-use Rattle.book.proofs.Search.{rests-done}
+use Rattle.book_law.proofs.Search.{rests-done}
 use borrow.Author.Needs.{needs}
 use Rattle.book.proofs.side.is_resting.Statement.{statement}
 use Rattle.book.proofs.side.is_resting.Tie as tie

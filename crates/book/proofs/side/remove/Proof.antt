@@ -1,5 +1,5 @@
 -- The slot that the search found is the one that the definition removes; where it found none, nothing changes.
-use Rattle.book.proofs.Search.{remove-nothing, remove-none, remove-left, remove-done}
+use Rattle.book_law.proofs.Search.{remove-nothing, remove-none, remove-left, remove-done}
 use borrow.Author.Needs.{needs}
 use Rattle.book.proofs.side.remove.Statement.{statement}
 use Rattle.book.proofs.side.remove.Tie as tie

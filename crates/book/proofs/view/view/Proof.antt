@@ -1,6 +1,6 @@
 -- The tests of the lengths in the definition's order, then an arm for each side.
 use borrow.Author.Tests.{lt-ltb, le-ltb}
-use Rattle.book.specs.View.{viewOf}
+use Rattle.book_law.specs.View.{viewOf}
 use borrow.Author.Needs.{needs}
 use Rattle.book.proofs.view.view.Statement.{statement}
 use Rattle.book.proofs.view.view.Tie as tie

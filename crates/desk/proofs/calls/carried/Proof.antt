@@ -1,5 +1,5 @@
 -- What the call of the engine came to.
-use Rattle.desk.proofs.Applying.{that-session, apply-few, apply-done, apply-refused}
+use Rattle.desk_law.proofs.Applying.{that-session, apply-few, apply-done, apply-refused}
 use borrow.Author.Needs.{needs}
 use Rattle.desk.proofs.calls.carried.Statement.{statement}
 use Rattle.desk.proofs.calls.carried.Tie as tie

@@ -1,5 +1,5 @@
 -- Two short runs, numbers that are no session's, and a session.
-use Rattle.desk.proofs.Applying.{apply-no-session, apply-no-event, told-session, apply-strange}
+use Rattle.desk_law.proofs.Applying.{apply-no-session, apply-no-event, told-session, apply-strange}
 use borrow.Author.Needs.{needs}
 use Rattle.desk.proofs.calls.kakoludar_apply.Statement.{statement}
 use Rattle.desk.proofs.calls.kakoludar_apply.Tie as tie

@@ -1,5 +1,5 @@
 -- Two short runs, and the opening.
-use Rattle.desk.proofs.Opens.{open-no-settings, open-no-session, open-done}
+use Rattle.desk_law.proofs.Opens.{open-no-settings, open-no-session, open-done}
 use borrow.Author.Needs.{needs}
 use Rattle.desk.proofs.calls.kakoludar_open.Statement.{statement}
 use Rattle.desk.proofs.calls.kakoludar_open.Tie as tie

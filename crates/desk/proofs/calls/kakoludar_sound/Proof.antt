@@ -1,6 +1,6 @@
 -- The tests of the lengths in the definition's order, then the session.
 use borrow.Author.Tests.{lt-ltb, le-ltb}
-use Rattle.desk.specs.Calls.{soundOn}
+use Rattle.desk_law.specs.Calls.{soundOn}
 use borrow.Author.Needs.{needs}
 use Rattle.desk.proofs.calls.kakoludar_sound.Statement.{statement}
 use Rattle.desk.proofs.calls.kakoludar_sound.Tie as tie

@@ -1,6 +1,6 @@
 -- The session's run, and the side by its number.
 use borrow.Author.Tests.{lt-ltb, le-ltb, eq-eqb, ne-eqb}
-use Rattle.desk.specs.Calls.{viewOn}
+use Rattle.desk_law.specs.Calls.{viewOn}
 use borrow.Author.Needs.{needs}
 use Rattle.desk.proofs.calls.kakoludar_view.Statement.{statement}
 use Rattle.desk.proofs.calls.kakoludar_view.Tie as tie

@@ -1,5 +1,5 @@
 -- By the test of the category.
-use Rattle.desk.proofs.Opens.{opened-out, opened-in}
+use Rattle.desk_law.proofs.Opens.{opened-out, opened-in}
 use borrow.Author.Needs.{needs}
 use Rattle.desk.proofs.calls.opened.Statement.{statement}
 use Rattle.desk.proofs.calls.opened.Tie as tie

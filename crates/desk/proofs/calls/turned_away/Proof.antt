@@ -1,5 +1,5 @@
 -- By the test.
-use Rattle.desk.proofs.Applying.{strange-small, strange-unsound}
+use Rattle.desk_law.proofs.Applying.{strange-small, strange-unsound}
 use borrow.Author.Needs.{needs}
 use Rattle.desk.proofs.calls.turned_away.Statement.{statement}
 use Rattle.desk.proofs.calls.turned_away.Tie as tie

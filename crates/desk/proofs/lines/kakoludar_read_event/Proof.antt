@@ -1,5 +1,5 @@
 -- A short run, and the three answers of the reader.
-use Rattle.desk.proofs.LineReads.{event-no-run, event-whole-few, event-whole, event-unfinished, event-wrong-few, event-wrong}
+use Rattle.desk_law.proofs.LineReads.{event-no-run, event-whole-few, event-whole, event-unfinished, event-wrong-few, event-wrong}
 use borrow.Author.Needs.{needs}
 use Rattle.desk.proofs.lines.kakoludar_read_event.Statement.{statement}
 use Rattle.desk.proofs.lines.kakoludar_read_event.Tie as tie

@@ -1,5 +1,5 @@
 -- A short run, and the three answers of the reader.
-use Rattle.desk.proofs.LineReads.{settings-no-run, settings-whole-few, settings-whole, settings-unfinished, settings-wrong-few, settings-wrong}
+use Rattle.desk_law.proofs.LineReads.{settings-no-run, settings-whole-few, settings-whole, settings-unfinished, settings-wrong-few, settings-wrong}
 use borrow.Author.Needs.{needs}
 use Rattle.desk.proofs.lines.kakoludar_read_settings.Statement.{statement}
 use Rattle.desk.proofs.lines.kakoludar_read_settings.Tie as tie

@@ -1,5 +1,5 @@
 -- A short run, an event, or none.
-use Rattle.desk.proofs.LineWrites.{event-no-run, event-few, event-written, event-none}
+use Rattle.desk_law.proofs.LineWrites.{event-no-run, event-few, event-written, event-none}
 use borrow.Author.Needs.{needs}
 use Rattle.desk.proofs.lines.kakoludar_write_event.Statement.{statement}
 use Rattle.desk.proofs.lines.kakoludar_write_event.Tie as tie

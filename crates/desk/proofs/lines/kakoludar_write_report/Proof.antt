@@ -1,5 +1,5 @@
 -- A short run, a report, or none.
-use Rattle.desk.proofs.LineWrites.{report-no-run, report-few, report-written, report-none}
+use Rattle.desk_law.proofs.LineWrites.{report-no-run, report-few, report-written, report-none}
 use borrow.Author.Needs.{needs}
 use Rattle.desk.proofs.lines.kakoludar_write_report.Statement.{statement}
 use Rattle.desk.proofs.lines.kakoludar_write_report.Tie as tie

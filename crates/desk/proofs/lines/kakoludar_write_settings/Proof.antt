@@ -1,5 +1,5 @@
 -- A short run, no category, or settings.
-use Rattle.desk.proofs.LineWrites.{settings-no-run, settings-few, settings-written, settings-none}
+use Rattle.desk_law.proofs.LineWrites.{settings-no-run, settings-few, settings-written, settings-none}
 use borrow.Author.Needs.{needs}
 use Rattle.desk.proofs.lines.kakoludar_write_settings.Statement.{statement}
 use Rattle.desk.proofs.lines.kakoludar_write_settings.Tie as tie

@@ -1,5 +1,5 @@
 -- A short run, and what the end came to.
-use Rattle.desk.proofs.TextFeeds.{end-no-run, end-few, end-done}
+use Rattle.desk_law.proofs.TextFeeds.{end-no-run, end-few, end-done}
 use borrow.Author.Needs.{needs}
 use Rattle.desk.proofs.texts.kakoludar_end.Statement.{statement}
 use Rattle.desk.proofs.texts.kakoludar_end.Tie as tie

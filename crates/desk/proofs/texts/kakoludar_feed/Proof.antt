@@ -1,5 +1,5 @@
 -- Two short runs, then what the lines came to.
-use Rattle.desk.proofs.TextFeeds.{feed-no-run, feed-no-counts, feed-refused, feed-done}
+use Rattle.desk_law.proofs.TextFeeds.{feed-no-run, feed-no-counts, feed-refused, feed-done}
 use borrow.Author.Needs.{needs}
 use denote.Ref.{now}
 use Rattle.desk.proofs.texts.kakoludar_feed.Statement.{statement}

@@ -1,5 +1,5 @@
 -- A short run, and the start.
-use Rattle.desk.proofs.TextFeeds.{start-no-run, start-done}
+use Rattle.desk_law.proofs.TextFeeds.{start-no-run, start-done}
 use borrow.Author.Needs.{needs}
 use Rattle.desk.proofs.texts.kakoludar_start.Statement.{statement}
 use Rattle.desk.proofs.texts.kakoludar_start.Tie as tie

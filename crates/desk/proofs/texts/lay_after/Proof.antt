@@ -1,5 +1,5 @@
 -- The run, then two numbers.
-use Rattle.desk.proofs.TextFeeds.{after-laid}
+use Rattle.desk_law.proofs.TextFeeds.{after-laid}
 use borrow.Author.Needs.{needs}
 use Rattle.desk.proofs.texts.lay_after.Statement.{statement}
 use Rattle.desk.proofs.texts.lay_after.Tie as tie

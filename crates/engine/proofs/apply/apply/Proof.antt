@@ -1,5 +1,5 @@
 -- Row 1 by the lengths, the other rows by their verdict, and what no row refuses by what is carried out.
-use Rattle.engine.proofs.Applies.{roomy-long, ready, too-small, refused-as, accepted-as}
+use Rattle.engine_law.proofs.Applies.{roomy-long, ready, too-small, refused-as, accepted-as}
 use borrow.Author.Needs.{needs}
 use Rattle.engine.proofs.apply.apply.Statement.{statement}
 use Rattle.engine.proofs.apply.apply.Tie as tie

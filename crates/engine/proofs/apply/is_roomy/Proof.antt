@@ -1,6 +1,6 @@
 -- The three tests are those of the definition.
 use Rattle.terms.specs.Truth.{_⊓_}
-use Rattle.engine.specs.Calls.{roomy}
+use Rattle.engine_law.specs.Calls.{roomy}
 use Rattle.engine.proofs.apply.is_roomy.Statement.{statement}
 use Rattle.engine.proofs.apply.is_roomy.Tie as tie
 use mathlib.Core.Path.{refl}

@@ -1,6 +1,6 @@
 -- The tests of the lengths and of soundness in the definition's order, then the view of the book.
 use borrow.Author.Tests.{lt-ltb, le-ltb, not-true, not-false}
-use Rattle.engine.specs.Calls.{viewCall}
+use Rattle.engine_law.specs.Calls.{viewCall}
 use borrow.Author.Needs.{needs}
 use Rattle.engine.proofs.looking.view.Statement.{statement}
 use Rattle.engine.proofs.looking.view.Tie as tie

@@ -1,7 +1,7 @@
 use lib.ListN.{length}
 use borrow.Author.Needs.{needs}
 use denote.Ref.{now}
-use Rattle.feed.proofs.Ending.{none-left, some-left}
+use Rattle.feed_law.proofs.Ending.{none-left, some-left}
 use Rattle.feed.proofs.lines.tail.Statement.{statement}
 use Rattle.feed.proofs.lines.tail.Tie as tie
 

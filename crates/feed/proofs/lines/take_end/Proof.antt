@@ -1,10 +1,10 @@
 use mathlib.Core.Path.{refl}
 use borrow.Author.Needs.{needs}
 use denote.Ref.{now}
-use Rattle.feed.proofs.Ending.{ended-short, ended-at}
+use Rattle.feed_law.proofs.Ending.{ended-short, ended-at}
 use Rattle.feed.proofs.lines.take_end.Statement.{statement}
 use Rattle.feed.proofs.lines.take_end.Tie as tie
-use Rattle.feed.specs.declared.Stage.{Stage}
+use Rattle.feed_law.specs.declared.Stage.{Stage}
 
 returns : tie.Need-returns
 returns c = ended-short (c .before .before .before .args .stage) (now (c .before .before .before .args .rest)) (now (c .before .before .before .args .out)) (c .if1 .taken)

@@ -1,8 +1,8 @@
 use mathlib.Core.Path.{refl}
 use borrow.Author.Needs.{needs}
 use denote.Ref.{now}
-use Rattle.feed.proofs.Going.{refused-room, refused-out, taken-fine}
-use Rattle.feed.proofs.Starts.{taken-within}
+use Rattle.feed_law.proofs.Going.{refused-room, refused-out, taken-fine}
+use Rattle.feed_law.proofs.Starts.{taken-within}
 use Rattle.feed.proofs.lines.take_lines.Statement.{statement}
 use Rattle.feed.proofs.lines.take_lines.Tie as tie
 

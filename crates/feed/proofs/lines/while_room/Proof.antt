@@ -4,11 +4,11 @@ use mathlib.Core.Path.{_≡_, refl}
 use lib.ListN.{length}
 use borrow.Author.Needs.{needs}
 use denote.Ref.{now}
-use Rattle.feed.proofs.Going.{Going, going-start, going-full, going-last, going-on, going-end, line-within, line-fits}
+use Rattle.feed_law.proofs.Going.{Going, going-start, going-full, going-last, going-on, going-end, line-within, line-fits}
 use Rattle.feed.proofs.lines.while_room.Statement.{statement}
 use Rattle.feed.proofs.lines.while_room.Tie as tie
-use Rattle.feed.specs.Turns.{fedIn}
-use Rattle.feed.specs.Worlds.{lentOf, calls}
+use Rattle.feed_law.specs.Turns.{fedIn}
+use Rattle.feed_law.specs.Worlds.{lentOf, calls}
 
 abbrev Inv-loop : tie.InvT-loop
 Inv-loop bytes buys₀ sells₀ room₀ out₀ now₀ at₀ wrote₀ buys sells room out now at wrote = Going bytes out₀ (fedIn calls (length bytes) (length out₀) (now₀ .stage) (lentOf (now₀ .session) buys₀ sells₀ room₀) bytes) now buys sells room out at wrote × (length buys ≡ length buys₀) × (length sells ≡ length sells₀) × (length room ≡ length room₀)

@@ -4,7 +4,7 @@ use Prim.Native.Nat.{_+_, _-_, _*_, _≤_}
 use mathlib.Core.Path.{_≡_}
 use lib.ListN.{length, drop}
 use Rattle.terms.specs.Sizes.{recordLength}
-use Rattle.rules.specs.Mark.{markMost}
+use Rattle.rules_law.specs.Mark.{markMost}
 use Rattle.tables.specs.Tables.{decode}
 use Rattle.matching.specs.Sweeps.{finish}
 use Rattle.matching.proofs.Turns.{answer-zero, answer-end, answer-stop, answer-part, turn, turn-first}

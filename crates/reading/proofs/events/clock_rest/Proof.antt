@@ -1,5 +1,5 @@
 -- By the byte, and what the pieces found.
-use Rattle.text.proofs.Steps.{steps}
+use Rattle.text_law.proofs.Steps.{steps}
 use Rattle.reading.specs.Grammars.{clockRest}
 use borrow.Author.Needs.{needs}
 use Rattle.reading.proofs.events.clock_rest.Statement.{statement}

@@ -1,5 +1,5 @@
 -- By the byte, and what the pieces found.
-use Rattle.text.proofs.Steps.{choices}
+use Rattle.text_law.proofs.Steps.{choices}
 use Rattle.reading.specs.Grammars.{kinds}
 use borrow.Author.Needs.{needs}
 use Rattle.reading.proofs.events.kinds.Statement.{statement}

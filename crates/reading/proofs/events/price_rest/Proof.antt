@@ -1,5 +1,5 @@
 -- By the kind, and what the pieces found.
-use Rattle.text.proofs.Steps.{pieces}
+use Rattle.text_law.proofs.Steps.{pieces}
 use Rattle.reading.specs.Grammars.{priceRest}
 use borrow.Author.Needs.{needs}
 use Rattle.reading.proofs.events.price_rest.Statement.{statement}

@@ -1,6 +1,6 @@
 -- An arm for each act.
-use Rattle.refusal.specs.Refusals.{bandRight}
-use Rattle.state.specs.Clock.{clockStep}
+use Rattle.refusal_law.specs.Refusals.{bandRight}
+use Rattle.state_law.specs.Clock.{clockStep}
 use borrow.Author.Needs.{needs}
 use Rattle.refusal.proofs.rows.band_right.Statement.{statement}
 use Rattle.refusal.proofs.rows.band_right.Tie as tie

@@ -1,7 +1,7 @@
 -- A cascade of refusals, in the table's order.
 use borrow.Author.Needs.{needs}
 use Rattle.terms.proofs.Cascade.{cascade}
-use Rattle.refusal.proofs.Places.{place-is}
+use Rattle.refusal_law.proofs.Places.{place-is}
 use Rattle.refusal.proofs.rows.book_rows.Statement.{statement}
 use Rattle.refusal.proofs.rows.book_rows.Tie as tie
 

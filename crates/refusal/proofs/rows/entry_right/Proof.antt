@@ -1,5 +1,5 @@
 -- The lots and the price of the definition's first case.
-use Rattle.refusal.specs.Refusals.{numbersRight}
+use Rattle.refusal_law.specs.Refusals.{numbersRight}
 use borrow.Author.Needs.{needs}
 use Rattle.terms.specs.Truth.{_⊓_}
 use Rattle.refusal.proofs.rows.entry_right.Statement.{statement}

@@ -1,5 +1,5 @@
 -- An arm for each act.
-use Rattle.refusal.specs.Refusals.{finds}
+use Rattle.refusal_law.specs.Refusals.{finds}
 use borrow.Author.Needs.{needs}
 use Rattle.refusal.proofs.rows.finds_it.Statement.{statement}
 use Rattle.refusal.proofs.rows.finds_it.Tie as tie

@@ -1,5 +1,5 @@
 -- An arm for each act.
-use Rattle.refusal.specs.Refusals.{hasNumbers}
+use Rattle.refusal_law.specs.Refusals.{hasNumbers}
 use borrow.Author.Needs.{needs}
 use Rattle.terms.specs.Truth.{_⊓_}
 use Rattle.refusal.proofs.rows.has_numbers.Statement.{statement}

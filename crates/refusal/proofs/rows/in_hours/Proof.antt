@@ -1,5 +1,5 @@
 -- An arm for each act.
-use Rattle.refusal.specs.Refusals.{inHours}
+use Rattle.refusal_law.specs.Refusals.{inHours}
 use borrow.Author.Needs.{needs}
 use Rattle.refusal.proofs.rows.in_hours.Statement.{statement}
 use Rattle.refusal.proofs.rows.in_hours.Tie as tie

@@ -1,5 +1,5 @@
 -- An arm for each act.
-use Rattle.refusal.specs.Refusals.{numbersRight}
+use Rattle.refusal_law.specs.Refusals.{numbersRight}
 use borrow.Author.Needs.{needs}
 use Rattle.refusal.proofs.rows.numbers_right.Statement.{statement}
 use Rattle.refusal.proofs.rows.numbers_right.Tie as tie

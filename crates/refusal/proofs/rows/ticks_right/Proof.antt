@@ -1,5 +1,5 @@
 -- An arm for each act.
-use Rattle.refusal.specs.Refusals.{ticksRight}
+use Rattle.refusal_law.specs.Refusals.{ticksRight}
 use borrow.Author.Needs.{needs}
 use Rattle.refusal.proofs.rows.ticks_right.Statement.{statement}
 use Rattle.refusal.proofs.rows.ticks_right.Tie as tie

@@ -4,9 +4,9 @@ use Rattle.terms.proofs.Cascade.{cascade}
 use mathlib.Core.Path.{sym, _∙_}
 use native.Mathlib.Omega.{arith}
 use borrow.Author.Tests.{not-false}
-use Rattle.soundness.proofs.Clocked.{session-clocked}
-use Rattle.soundness.proofs.Border.{sound-session}
-use Rattle.refusal.specs.Refusals.{refusalOf}
+use Rattle.soundness_law.proofs.Clocked.{session-clocked}
+use Rattle.soundness_law.proofs.Border.{sound-session}
+use Rattle.refusal_law.specs.Refusals.{refusalOf}
 use Rattle.refusal.proofs.rows.verdict.Statement.{statement}
 use Rattle.refusal.proofs.rows.verdict.Tie as tie
 

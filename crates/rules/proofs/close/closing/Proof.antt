@@ -1,6 +1,6 @@
 -- A case of the close price each: the half hour, the last ten, the last trade or the previous close.
 use borrow.Author.Needs.{needs}
-use Rattle.rules.proofs.Tapes.{closings}
+use Rattle.rules_law.proofs.Tapes.{closings}
 use Rattle.rules.proofs.close.closing.Statement.{statement}
 use Rattle.rules.proofs.close.closing.Tie as tie
 

@@ -1,8 +1,8 @@
 -- The place of the last trade is 9 where ten are remembered, and the number of trades less one before that.
 use borrow.Author.Tests.{eq-eqb}
-use Rattle.rules.specs.Close.{lastOr}
+use Rattle.rules_law.specs.Close.{lastOr}
 use borrow.Author.Needs.{needs}
-use Rattle.rules.proofs.Tapes.{last-of-ten, last-of-few}
+use Rattle.rules_law.proofs.Tapes.{last-of-ten, last-of-few}
 use Rattle.rules.proofs.close.last_or.Statement.{statement}
 use Rattle.rules.proofs.close.last_or.Tie as tie
 

@@ -1,7 +1,7 @@
 -- The tally of the ten is that of what is left, from the tally so far; each trade of the ten fits.
 use borrow.Author.Needs.{needs}
 use Prim.Native.Nat.{_-_}
-use Rattle.rules.proofs.Tapes.{Tallying, ten-turn, ten-end}
+use Rattle.rules_law.proofs.Tapes.{Tallying, ten-turn, ten-end}
 use native.Mathlib.Omega.{arith}
 use Rattle.rules.proofs.close.last_ten.Statement.{statement}
 use Rattle.rules.proofs.close.last_ten.Tie as tie

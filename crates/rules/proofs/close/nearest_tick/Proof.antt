@@ -1,7 +1,7 @@
 -- The lots times the tick are within bounds, so twice the value and the unit fit.
 use borrow.Author.Needs.{needs}
-use Rattle.rules.specs.Close.{nearest}
-use Rattle.rules.proofs.Averages.{nearest-small}
+use Rattle.rules_law.specs.Close.{nearest}
+use Rattle.rules_law.proofs.Averages.{nearest-small}
 use native.Mathlib.Omega.{arith}
 use Rattle.rules.proofs.close.nearest_tick.Statement.{statement}
 use Rattle.rules.proofs.close.nearest_tick.Tie as tie

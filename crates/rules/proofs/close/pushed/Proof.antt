@@ -1,8 +1,8 @@
 -- With fewer than ten a store at the next place, with ten a shift.
 use borrow.Author.Tests.{lt-ltb}
-use Rattle.rules.specs.Close.{remembered}
+use Rattle.rules_law.specs.Close.{remembered}
 use borrow.Author.Needs.{needs}
-use Rattle.rules.proofs.Tapes.{shifted}
+use Rattle.rules_law.proofs.Tapes.{shifted}
 use Rattle.rules.proofs.close.pushed.Statement.{statement}
 use Rattle.rules.proofs.close.pushed.Tie as tie
 

@@ -1,5 +1,5 @@
 -- The sums of the definition, with the product from a call.
-use Rattle.rules.specs.Close.{tallied}
+use Rattle.rules_law.specs.Close.{tallied}
 use borrow.Author.Needs.{needs}
 use Rattle.rules.proofs.close.tally_after.Statement.{statement}
 use Rattle.rules.proofs.close.tally_after.Tie as tie

@@ -1,5 +1,5 @@
 -- Each field of the tape is what its call answers.
-use Rattle.rules.specs.Close.{tapeAfter}
+use Rattle.rules_law.specs.Close.{tapeAfter}
 use borrow.Author.Needs.{needs}
 use Rattle.rules.proofs.close.tape_after.Statement.{statement}
 use Rattle.rules.proofs.close.tape_after.Tie as tie

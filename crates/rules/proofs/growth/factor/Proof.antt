@@ -1,6 +1,6 @@
 -- The source's table is the list that the definition computes, and the test of that list is carried to the entry.
 use borrow.Author.Needs.{needs}
-use Rattle.rules.proofs.Factors.{factors, factor-is}
+use Rattle.rules_law.proofs.Factors.{factors, factor-is}
 use Rattle.rules.proofs.growth.factor.Statement.{statement}
 use Rattle.rules.proofs.growth.factor.Tie as tie
 

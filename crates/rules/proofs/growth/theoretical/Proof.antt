@@ -1,5 +1,5 @@
 -- The product of an underlying and a factor fits, and its quotient is at most 110,600,000.
-use Rattle.rules.specs.Growth.{theoretical}
+use Rattle.rules_law.specs.Growth.{theoretical}
 use borrow.Author.Needs.{needs}
 use native.Mathlib.Omega.{arith}
 use native.Mathlib.Nat.{mul-le-mul}

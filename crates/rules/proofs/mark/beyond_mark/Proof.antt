@@ -1,6 +1,6 @@
 -- A price beyond 102 or 98 hundredths of the first, in whole paise.
 use borrow.Author.Needs.{needs}
-use Rattle.rules.proofs.Ranges.{mark-buy, mark-sell}
+use Rattle.rules_law.proofs.Ranges.{mark-buy, mark-sell}
 use Rattle.rules.proofs.mark.beyond_mark.Statement.{statement}
 use Rattle.rules.proofs.mark.beyond_mark.Tie as tie
 

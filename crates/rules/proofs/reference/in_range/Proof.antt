@@ -1,7 +1,7 @@
 -- The distance is compared with the reach, a two hundredth of percent times reference, rounded down.
 use borrow.Author.Needs.{needs}
 use native.Mathlib.Omega.{arith}
-use Rattle.rules.proofs.Ranges.{range-product, range-below, range-above}
+use Rattle.rules_law.proofs.Ranges.{range-product, range-below, range-above}
 use Rattle.rules.proofs.reference.in_range.Statement.{statement}
 use Rattle.rules.proofs.reference.in_range.Tie as tie
 

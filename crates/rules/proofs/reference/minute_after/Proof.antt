@@ -1,6 +1,6 @@
 -- The sums of the definition.
 use mathlib.Core.Path.{refl}
-use Rattle.rules.specs.Reference.{minuteAfter}
+use Rattle.rules_law.specs.Reference.{minuteAfter}
 use borrow.Author.Needs.{needs}
 use Rattle.rules.proofs.reference.minute_after.Statement.{statement}
 use Rattle.rules.proofs.reference.minute_after.Tie as tie

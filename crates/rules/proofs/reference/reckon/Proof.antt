@@ -1,6 +1,6 @@
 -- At most two boundaries tell: the first sees the minute's trades, and any later one settles the reference.
 use borrow.Author.Needs.{needs}
-use Rattle.rules.proofs.Minutes.{reckonings}
+use Rattle.rules_law.proofs.Minutes.{reckonings}
 use Rattle.rules.proofs.reference.reckon.Statement.{statement}
 use Rattle.rules.proofs.reference.reckon.Tie as tie
 

@@ -1,6 +1,6 @@
 -- Both cases of a known underlying.
 use borrow.Author.Tests.{eq-eqb, ne-eqb}
-use Rattle.rules.specs.Reference.{theoreticalOr}
+use Rattle.rules_law.specs.Reference.{theoreticalOr}
 use borrow.Author.Needs.{needs}
 use Rattle.rules.proofs.reference.theoretical_or.Statement.{statement}
 use Rattle.rules.proofs.reference.theoretical_or.Tie as tie

@@ -1,6 +1,6 @@
 -- Each end is what its call answers.
 use borrow.Author.Needs.{needs}
-use Rattle.rules.proofs.Bands.{high-small}
+use Rattle.rules_law.proofs.Bands.{high-small}
 use Rattle.rules.proofs.slabs.band_at.Statement.{statement}
 use Rattle.rules.proofs.slabs.band_at.Tie as tie
 

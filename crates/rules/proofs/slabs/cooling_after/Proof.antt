@@ -1,6 +1,6 @@
 -- The tests of the definition, in its order.
 use borrow.Author.Tests.{eq-eqb, ne-eqb}
-use Rattle.rules.specs.Slabs.{coolingAfter}
+use Rattle.rules_law.specs.Slabs.{coolingAfter}
 use borrow.Author.Needs.{needs}
 use Rattle.rules.proofs.slabs.cooling_after.Statement.{statement}
 use Rattle.rules.proofs.slabs.cooling_after.Tie as tie

@@ -1,9 +1,9 @@
 -- No product wraps within the bounds of settings and percents.
 use mathlib.Core.Path.{refl}
-use Rattle.rules.specs.Slabs.{highAt}
+use Rattle.rules_law.specs.Slabs.{highAt}
 use borrow.Author.Needs.{needs}
 use native.Mathlib.Omega.{arith}
-use Rattle.rules.proofs.Bands.{high-part, high-small}
+use Rattle.rules_law.proofs.Bands.{high-part, high-small}
 use Rattle.rules.proofs.slabs.high_at.Statement.{statement}
 use Rattle.rules.proofs.slabs.high_at.Tie as tie
 

@@ -1,9 +1,9 @@
 -- No product wraps within the bounds of settings and percents.
 use mathlib.Core.Path.{refl}
-use Rattle.rules.specs.Slabs.{lowAt}
+use Rattle.rules_law.specs.Slabs.{lowAt}
 use borrow.Author.Needs.{needs}
 use native.Mathlib.Omega.{arith}
-use Rattle.rules.proofs.Bands.{low-part, low-small}
+use Rattle.rules_law.proofs.Bands.{low-part, low-small}
 use Rattle.rules.proofs.slabs.low_at.Statement.{statement}
 use Rattle.rules.proofs.slabs.low_at.Tie as tie
 

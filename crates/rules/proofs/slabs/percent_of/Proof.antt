@@ -1,6 +1,6 @@
 -- The two slabs.
 use borrow.Author.Tests.{eq-eqb, ne-eqb}
-use Rattle.rules.specs.Slabs.{percentOf}
+use Rattle.rules_law.specs.Slabs.{percentOf}
 use borrow.Author.Needs.{needs}
 use Rattle.rules.proofs.slabs.percent_of.Statement.{statement}
 use Rattle.rules.proofs.slabs.percent_of.Tie as tie

@@ -1,7 +1,7 @@
 -- The source's table is the definition's, row by row.
 use borrow.Author.Needs.{needs}
 use native.Mathlib.Omega.{arith}
-use Rattle.rules.proofs.Rows.{rowed}
+use Rattle.rules_law.proofs.Rows.{rowed}
 use mathlib.Core.Path.{refl}
 use Rattle.rules.proofs.slabs.slab_of.Statement.{statement}
 use Rattle.rules.proofs.slabs.slab_of.Tie as tie

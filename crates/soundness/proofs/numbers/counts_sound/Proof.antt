@@ -1,6 +1,6 @@
 -- The tests of the definition.
 use mathlib.Core.Path.{refl}
-use Rattle.soundness.specs.Sound.{countsSound}
+use Rattle.soundness_law.specs.Sound.{countsSound}
 use Rattle.terms.specs.Truth.{_⊓_}
 use Rattle.soundness.proofs.numbers.counts_sound.Statement.{statement}
 use Rattle.soundness.proofs.numbers.counts_sound.Tie as tie

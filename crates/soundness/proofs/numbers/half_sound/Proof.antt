@@ -1,10 +1,10 @@
 -- The products are made only where the lots are bounded.
 use borrow.Author.Needs.{needs}
-use Rattle.soundness.specs.Sound.{halfSound}
+use Rattle.soundness_law.specs.Sound.{halfSound}
 use borrow.Author.Tests.{not-false, leb-true}
 use native.Mathlib.Omega.{arith}
 use Rattle.terms.proofs.Logic.{conditions}
-use Rattle.soundness.proofs.Bounds.{lots-bounded}
+use Rattle.soundness_law.proofs.Bounds.{lots-bounded}
 use Rattle.soundness.proofs.numbers.half_sound.Statement.{statement}
 use Rattle.soundness.proofs.numbers.half_sound.Tie as tie
 

@@ -1,5 +1,5 @@
 -- The sum is bounded only where the count is.
-use Rattle.soundness.specs.Sound.{minuteSound}
+use Rattle.soundness_law.specs.Sound.{minuteSound}
 use Rattle.terms.proofs.Logic.{conditions}
 use native.Mathlib.Omega.{arith}
 use borrow.Author.Tests.{not-false, leb-true}

@@ -1,6 +1,6 @@
 -- The tests of the definition.
 use mathlib.Core.Path.{refl}
-use Rattle.soundness.specs.Sound.{numbersSound}
+use Rattle.soundness_law.specs.Sound.{numbersSound}
 use borrow.Author.Needs.{needs}
 use Rattle.terms.specs.Truth.{_⊓_}
 use Rattle.soundness.proofs.numbers.numbers_sound.Statement.{statement}

@@ -1,10 +1,10 @@
 -- What is left of the first n passes as they all do.
-use Rattle.soundness.specs.Sound.{every, priceSound}
+use Rattle.soundness_law.specs.Sound.{every, priceSound}
 use Prim.Native.Nat.{_≤_, _-_}
 use mathlib.Core.Path.{_≡_}
 use lib.ListN.{take, drop}
 use borrow.Author.Needs.{needs}
-use Rattle.soundness.proofs.Lists.{all-pass, one-fails, one-passes}
+use Rattle.soundness_law.proofs.Lists.{all-pass, one-fails, one-passes}
 use native.Mathlib.Omega.{arith}
 use Rattle.soundness.proofs.numbers.prices_sound.Statement.{statement}
 use Rattle.soundness.proofs.numbers.prices_sound.Tie as tie

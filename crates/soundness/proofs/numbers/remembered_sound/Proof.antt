@@ -1,7 +1,7 @@
 -- Both lists of ten, by as many as are remembered.
 use borrow.Author.Needs.{needs}
 use Rattle.terms.proofs.Logic.{conditions}
-use Rattle.soundness.specs.Sound.{rememberedSound}
+use Rattle.soundness_law.specs.Sound.{rememberedSound}
 use Rattle.soundness.proofs.numbers.remembered_sound.Statement.{statement}
 use Rattle.soundness.proofs.numbers.remembered_sound.Tie as tie
 

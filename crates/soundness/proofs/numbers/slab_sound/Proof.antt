@@ -1,6 +1,6 @@
 -- The tests of the definition.
 use mathlib.Core.Path.{refl}
-use Rattle.soundness.specs.Sound.{slabSound}
+use Rattle.soundness_law.specs.Sound.{slabSound}
 use borrow.Author.Needs.{needs}
 use Rattle.terms.specs.Truth.{_⊓_}
 use Rattle.soundness.proofs.numbers.slab_sound.Statement.{statement}

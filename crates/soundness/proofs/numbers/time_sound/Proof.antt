@@ -1,6 +1,6 @@
 -- The tests of the definition.
 use mathlib.Core.Path.{refl}
-use Rattle.soundness.specs.Sound.{timeSound}
+use Rattle.soundness_law.specs.Sound.{timeSound}
 use Rattle.terms.specs.Truth.{_⊓_}
 use Rattle.soundness.proofs.numbers.time_sound.Statement.{statement}
 use Rattle.soundness.proofs.numbers.time_sound.Tie as tie

@@ -1,5 +1,5 @@
 -- The band at the percent of the row, after the widening that is due.
-use Rattle.state.specs.Clock.{clockStep}
+use Rattle.state_law.specs.Clock.{clockStep}
 use borrow.Author.Needs.{needs}
 use Rattle.state.proofs.clock.band_at.Statement.{statement}
 use Rattle.state.proofs.clock.band_at.Tie as tie

@@ -1,5 +1,5 @@
 -- Both cases of the end of a cooling-off.
-use Rattle.state.specs.Clock.{coolingBy}
+use Rattle.state_law.specs.Clock.{coolingBy}
 use borrow.Author.Needs.{needs}
 use Rattle.state.proofs.clock.cooling_by.Statement.{statement}
 use Rattle.state.proofs.clock.cooling_by.Tie as tie

@@ -1,5 +1,5 @@
 -- Each field is what its call answers.
-use Rattle.state.specs.Clock.{clockStep}
+use Rattle.state_law.specs.Clock.{clockStep}
 use borrow.Author.Needs.{needs}
 use Rattle.state.proofs.clock.step.Statement.{statement}
 use Rattle.state.proofs.clock.step.Tie as tie

@@ -1,5 +1,5 @@
 -- Both cases of the end of a cooling-off.
-use Rattle.state.specs.Clock.{widenedBy}
+use Rattle.state_law.specs.Clock.{widenedBy}
 use borrow.Author.Needs.{needs}
 use Rattle.state.proofs.clock.widened_by.Statement.{statement}
 use Rattle.state.proofs.clock.widened_by.Tie as tie

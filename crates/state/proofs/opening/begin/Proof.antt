@@ -1,5 +1,5 @@
 -- Settings without a refusal are valid, and each verdict has its session.
-use Rattle.state.specs.Opening.{openingOf}
+use Rattle.state_law.specs.Opening.{openingOf}
 use borrow.Author.Needs.{needs}
 use mathlib.Core.Path.{sym, _∙_}
 use Rattle.terms.proofs.Valid.{fine-valid}

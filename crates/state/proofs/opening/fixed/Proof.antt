@@ -1,5 +1,5 @@
 -- Every field is zero.
-use Rattle.state.specs.Opening.{fixedSession}
+use Rattle.state_law.specs.Opening.{fixedSession}
 use borrow.Author.Needs.{needs}
 use Rattle.state.proofs.opening.fixed.Statement.{statement}
 use Rattle.state.proofs.opening.fixed.Tie as tie

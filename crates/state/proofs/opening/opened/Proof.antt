@@ -1,5 +1,5 @@
 -- Every field is the definition's.
-use Rattle.state.specs.Opening.{openedSession}
+use Rattle.state_law.specs.Opening.{openedSession}
 use borrow.Author.Needs.{needs}
 use Rattle.state.proofs.opening.opened.Statement.{statement}
 use Rattle.state.proofs.opening.opened.Tie as tie

@@ -1,5 +1,5 @@
 -- Each field is what its call answers.
-use Rattle.state.specs.Trades.{withTrade}
+use Rattle.state_law.specs.Trades.{withTrade}
 use borrow.Author.Needs.{needs}
 use Rattle.state.proofs.trades.with_trade.Statement.{statement}
 use Rattle.state.proofs.trades.with_trade.Tie as tie

@@ -1,7 +1,7 @@
 -- By what the word found.
 use borrow.Author.Needs.{needs}
 use mathlib.Core.Path.{_∙_, sym}
-use Rattle.text.specs.Pieces.{fieldOn}
+use Rattle.text_law.specs.Pieces.{fieldOn}
 use Rattle.text.proofs.pieces.field.Statement.{statement}
 use Rattle.text.proofs.pieces.field.Tie as tie
 

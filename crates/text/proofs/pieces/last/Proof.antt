@@ -1,7 +1,7 @@
 -- By what the field found, and then the newline.
 use borrow.Author.Needs.{needs}
 use mathlib.Core.Path.{_∙_, sym}
-use Rattle.text.specs.Pieces.{lastOn}
+use Rattle.text_law.specs.Pieces.{lastOn}
 use Rattle.text.proofs.pieces.last.Statement.{statement}
 use Rattle.text.proofs.pieces.last.Tie as tie
 

@@ -3,9 +3,9 @@ use Prim.Native.Nat.{_≤_, _<_, _-_, _^_}
 use native.Mathlib.Omega.{arith}
 use mathlib.Core.Path.{_≡_, _∙_, sym}
 use lib.ListN.{drop}
-use Rattle.text.specs.Pieces.{numberOn, moreOn}
-use Rattle.text.proofs.Digits.{fewer}
-use Rattle.text.proofs.Steps.{one-more, number-ends, number-zero, number-low, number-high, number-first, more-ends, more-low, more-high, more-turn}
+use Rattle.text_law.specs.Pieces.{numberOn, moreOn}
+use Rattle.text_law.proofs.Digits.{fewer}
+use Rattle.text_law.proofs.Steps.{one-more, number-ends, number-zero, number-low, number-high, number-first, more-ends, more-low, more-high, more-turn}
 use borrow.Author.Needs.{needs}
 use Rattle.text.proofs.pieces.number.Statement.{statement}
 use Rattle.text.proofs.pieces.number.Tie as tie

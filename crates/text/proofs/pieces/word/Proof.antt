@@ -3,8 +3,8 @@ use Prim.Native.Nat.{_≤_, _-_}
 use native.Mathlib.Omega.{arith}
 use mathlib.Core.Path.{_≡_, _∙_, sym}
 use lib.ListN.{length, drop}
-use Rattle.text.specs.Pieces.{wordOn}
-use Rattle.text.proofs.Steps.{word-past, word-ends, word-differs, word-turn}
+use Rattle.text_law.specs.Pieces.{wordOn}
+use Rattle.text_law.proofs.Steps.{word-past, word-ends, word-differs, word-turn}
 use borrow.Author.Needs.{needs}
 use Rattle.text.proofs.pieces.word.Statement.{statement}
 use Rattle.text.proofs.pieces.word.Tie as tie

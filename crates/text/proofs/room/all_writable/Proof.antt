@@ -3,8 +3,8 @@ use Prim.Native.Nat.{_≤_, _-_}
 use native.Mathlib.Omega.{arith}
 use mathlib.Core.Path.{_≡_, _∙_, sym}
 use lib.ListN.{length, drop}
-use Rattle.text.specs.Numerals.{allWritable}
-use Rattle.text.proofs.Fills.{writable-end, writable-not, writable-turn}
+use Rattle.text_law.specs.Numerals.{allWritable}
+use Rattle.text_law.proofs.Fills.{writable-end, writable-not, writable-turn}
 use borrow.Author.Needs.{needs}
 use Rattle.text.proofs.room.all_writable.Statement.{statement}
 use Rattle.text.proofs.room.all_writable.Tie as tie

@@ -1,7 +1,7 @@
 -- By the powers of ten that the number lies between.
 use native.Mathlib.Omega.{arith}
 use mathlib.Core.Path.{sym}
-use Rattle.text.proofs.Digits.{length-first, length-is}
+use Rattle.text_law.proofs.Digits.{length-first, length-is}
 use Rattle.text.proofs.room.digits.Statement.{statement}
 use Rattle.text.proofs.room.digits.Tie as tie
 

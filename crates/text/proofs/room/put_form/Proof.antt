@@ -2,7 +2,7 @@
 use Prim.Native.Nat.{_-_}
 use native.Mathlib.Omega.{arith}
 use lib.ListN.{length}
-use Rattle.text.proofs.Fills.{writable-at, Left, left-all, left-room, left-number, left-turn, left-none}
+use Rattle.text_law.proofs.Fills.{writable-at, Left, left-all, left-room, left-number, left-turn, left-none}
 use borrow.Author.Needs.{needs}
 use Rattle.text.proofs.room.put_form.Statement.{statement}
 use Rattle.text.proofs.room.put_form.Tie as tie

@@ -4,10 +4,10 @@ use native.Mathlib.Omega.{arith}
 use mathlib.Core.Path.{_≡_, refl, _∙_, sym}
 use lib.ListN.{length, length-set}
 use Rattle.terms.specs.Sizes.{writtenMost}
-use Rattle.text.specs.Numerals.{numeral}
-use Rattle.text.specs.Room.{over}
-use Rattle.text.proofs.Digits.{length-first, length-last}
-use Rattle.text.proofs.Fills.{digit-turn, digit-end}
+use Rattle.text_law.specs.Numerals.{numeral}
+use Rattle.text_law.specs.Room.{over}
+use Rattle.text_law.proofs.Digits.{length-first, length-last}
+use Rattle.text_law.proofs.Fills.{digit-turn, digit-end}
 use borrow.Author.Needs.{needs}
 use Rattle.text.proofs.room.put_number.Statement.{statement}
 use Rattle.text.proofs.room.put_number.Tie as tie

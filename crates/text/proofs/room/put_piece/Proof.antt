@@ -2,8 +2,8 @@
 use native.Mathlib.Omega.{arith}
 use mathlib.Core.Path.{ap}
 use lib.ListN.{length, getD}
-use Rattle.text.proofs.Fills.{hole-piece, hole-taken, byte-piece, byte-taken}
-use Rattle.text.proofs.Rooms.{set-over}
+use Rattle.text_law.proofs.Fills.{hole-piece, hole-taken, byte-piece, byte-taken}
+use Rattle.text_law.proofs.Rooms.{set-over}
 use borrow.Author.Needs.{needs}
 use Rattle.text.proofs.room.put_piece.Statement.{statement}
 use Rattle.text.proofs.room.put_piece.Tie as tie

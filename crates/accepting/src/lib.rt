@@ -1,0 +1,4 @@
+// accepting: an accepted event carried out: the clock's steps, the act, and the tails of both tables cleared.
+// It may use the acts and the crates below them. It promises: the count, the session and each lent number are those of engine_law.
+
+pub mod accepted;

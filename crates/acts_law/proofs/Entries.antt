@@ -1,0 +1,105 @@
+-- The whole of an order: what its calls ask, and what they leave. Assumes nothing.
+use Prim.Native.Nat.{ℕ, _+_, _*_, _≤_, _<_}
+use native.Mathlib.Omega.{arith}
+use mathlib.Core.Path.{_≡_, refl, sym, ap, _∙_}
+use mathlib.Core.Bool.{Bool, true, false, false≢true}
+use mathlib.Core.List.{List, [], _∷_, _++_}
+use lib.Dec.{eqb}
+use lib.ListN.{length}
+use Rattle.terms.specs.declared.Band.{Band}
+use Rattle.terms.specs.declared.Entry.{Entry}
+use Rattle.terms.specs.declared.Order.{Order}
+use Rattle.terms.specs.declared.Report.{Report}
+use Rattle.terms.specs.declared.Life.{Life}
+use Rattle.terms.specs.declared.Life.the-variants.{AllDay, Ioc}
+use Rattle.terms.specs.declared.Kind.{Kind}
+use Rattle.terms.specs.declared.Said.the-variants.{Accept}
+use Rattle.terms.specs.Sizes.{recordLength, slots}
+use Rattle.terms.proofs.Logic.{cases}
+use Rattle.rules_law.specs.Slabs.{slabOf}
+use Rattle.rules_law.specs.Reference.{RangeFits}
+use Rattle.rules_law.proofs.Rows.{rowed}
+use Rattle.tables.specs.Tables.{decode, tableOf, Holds}
+use Rattle.tables.proofs.Slots.{length-decode}
+use Rattle.book_law.specs.Matching.{Fate, Done, Rests, Turns, Ends, reportAt, tradeReports, ownLastOr, fateOf, fateOfLeft, settled}
+use Rattle.book_law.proofs.Conserve.{sweep-fewer}
+use Rattle.book_law.proofs.Remainder.{length-trades}
+use Rattle.state_law.specs.declared.Session.{Session}
+use Rattle.state_law.specs.Now.{Clocked, bandNow, rangeNow}
+use Rattle.acts_law.specs.declared.Remainder.{Remainder}
+use Rattle.acts_law.specs.declared.Met.{Met}
+use Rattle.acts_law.specs.declared.Placed.{Placed}
+use Rattle.acts_law.specs.Acts.{lastIn, sweepIn, fateIn, entered}
+use Rattle.acts_law.specs.Written.{Written, fateFrom, remainderOf, fateBack, takesPlace, Settling, Settled}
+use Rattle.acts_law.specs.Entering.{Meeting, MetAs, Entering, EnteredAs}
+use Rattle.acts_law.proofs.Reports.{written-length, written-then}
+
+back : (f : Fate) → fateBack (remainderOf f) ≡ f
+back Done = refl
+back (Rests price) = refl
+back (Turns price) = refl
+back (Ends why) = refl
+
+range-fits : (s : Session) → Clocked s → RangeFits (rangeNow s)
+range-fits s c =
+    let w = rowed (s .settings .category) in
+    record { percent-small = omega (arith, w .small); reference-small = c .reference-small }
+
+-- only an order that lives all day takes a place
+places : (life : Life) (kind : Kind) (band : Band) (last left : ℕ) (out : Bool) → takesPlace (remainderOf (fateFrom life kind band last left out)) ≡ true → life ≡ AllDay
+places AllDay kind band last left out e = refl
+places Ioc kind band last left out e =
+    absurd (cases (eqb left 0)
+    (λ z. false≢true (rw z at e))
+    (λ z. cases out (λ o. false≢true (rw (z, o) at e)) (λ o. false≢true (rw (z, o) at e))))
+
+module _ (s : Session) (n : Entry) (nmine : ℕ) (mine : List ℕ) (ntheirs : ℕ) (theirs room : List ℕ) (at : ℕ)
+    (g : Entering s n nmine mine ntheirs theirs room at) (band : Band) (b : band ≡ bandNow s) where
+  pub meet-asks : Meeting s band ntheirs theirs room at
+  meet-asks =
+      record {
+        banded = b;
+        given-few = g .given-few;
+        ranged = range-fits s (g .clocked);
+        holds = g .holds-theirs;
+        space = omega (arith, g .space);
+        fits = g .fits;
+        deals = g .deals;
+      }
+
+  module _ (theirs′ room′ : List ℕ) (m : Met) (k : MetAs s n (decode ntheirs theirs) theirs room at theirs′ room′ m)
+      (f : Remainder) (e : f ≡ remainderOf (fateFrom (n .life) (n .kind) band (m .last) (m .left) (m .out))) where
+    abbrev accepted : List Report
+    accepted = reportAt (s .time) (Accept (s .given + 1)) ∷ tradeReports (s .time) (n .side) (s .given + 1) (sweepIn s n (decode ntheirs theirs) .fills)
+
+    fate-is : fateBack f ≡ fateIn s n (sweepIn s n (decode ntheirs theirs))
+    unfolding fateIn fateOf
+    fate-is =
+        ap fateBack e
+        ∙ (back (fateFrom (n .life) (n .kind) band (m .last) (m .left) (m .out))
+        ∙ rw (k .last, k .left, k .out, b))
+
+    accepted-space : at + recordLength * length accepted ≤ length room
+    accepted-space = omega (arith, k .told .behind, k .few, g .space, length-decode ntheirs theirs)
+
+    pub settle-asks : Settling nmine mine room′ (m .at) f
+    settle-asks =
+        record {
+          holds = g .holds-mine;
+          space = omega (arith, k .few, g .space, length-decode ntheirs theirs, written-length room at accepted room′ (m .at) (k .told) accepted-space);
+          place = λ p. g .place (places (n .life) (n .kind) band (m .last) (m .left) (m .out) (rw e at p));
+        }
+
+    pub entered-as : (mine′ room″ : List ℕ) (p : Placed) → Settled (n .side) (s .time) (s .given + 1) (m .left) (fateBack f) (decode nmine mine) mine room′ (m .at) mine′ room″ p →
+        EnteredAs s n (decode nmine mine) (decode ntheirs theirs) mine theirs room at mine′ theirs′ room″ (record { session = m .session; mine = p .count; theirs = m .count; at = p .at })
+    unfolding entered
+    entered-as mine′ room″ p q =
+        let r = rw (fate-is, k .left) at q in
+        record {
+          booked = r .book;
+          countered = k .book;
+          nmine = r .count;
+          ntheirs = k .count;
+          session = k .session;
+          told = written-then room at accepted room′ (m .at) _ room″ (p .at) (k .told) (r .told) accepted-space;
+        }

@@ -1,0 +1,198 @@
+-- What a listener who knows the settings and hears each report knows: the band and the reference of the session, and that no slab
+-- report comes before a trade at an end of the initial band has had its cooling-off. So each trade is inside what was told before it.
+use Prim.Native.Nat.{ℕ, _+_, _≤_}
+use native.Mathlib.Omega.{arith}
+use native.Mathlib.Nat.{le-refl}
+use borrow.Author.Tests.{leb-true, le-leb}
+use mathlib.Core.Path.{_≡_, refl, _∙_}
+use mathlib.Core.Bool.{Bool, true, _||_}
+use mathlib.Core.List.{List, [], _∷_, _++_}
+use lib.Dec.{eqb, leb}
+use Rattle.terms.specs.declared.Settings.{Settings}
+use Rattle.terms.specs.declared.Band.{Band}
+use Rattle.terms.specs.declared.Deal.{Deal}
+use Rattle.terms.specs.declared.Report.{Report}
+use Rattle.terms.specs.declared.Said.{Said}
+use Rattle.terms.specs.declared.Said.the-variants.{Accept, Trade, Convert, Cancel, Slab, Ref, Close}
+use Rattle.terms.proofs.Logic.{by, cases, split, join, or-last}
+use Rattle.rules_law.specs.Slabs.{slabOf, percentOf, bandAt, inBand, touches, coolingLength, coolingAfter}
+use Rattle.rules_law.specs.Reference.{rangeOf, inRange}
+use Rattle.book_law.specs.Matching.{reportAt}
+use Rattle.state_law.specs.declared.Session.{Session}
+use Rattle.state_law.specs.Now.{bandNow}
+use Rattle.acts_law.specs.Heard.{initialBand, enhancedBand, bandAfter, referenceAfter, touchedIn, touchedBy}
+
+-- ---- the listener
+
+-- the band and the reference so far, the time of the last report, and the reports, newest first
+pub record Listener : Type 0 where
+  pub band : Band
+  pub reference : ℕ
+  pub time : ℕ
+  pub past : List Report
+
+abbrev pub listen : Listener → Report → Listener
+listen l r =
+    record {
+      band = bandAfter (l .band) (r .said);
+      reference = referenceAfter (l .reference) (r .said);
+      time = r .time;
+      past = r ∷ l .past;
+    }
+
+unfoldable pub listenAll : Listener → List Report → Listener
+listenAll l [] = l
+listenAll l (r ∷ rs) = listenAll (listen l r) rs
+
+-- what a slab report comes to: it follows a trade at an end of the initial band, that was the band until then, and it tells the enhanced
+-- one, which holds every price of the one before
+pub record FineSlab (g : Settings) (l : Listener) (t : ℕ) (band : Band) : Type 0 where
+  pub touched : touchedBy (initialBand g) t (l .past) ≡ true
+  pub before : l .band ≡ initialBand g
+  pub told : band ≡ enhancedBand g
+  pub wider : (x : ℕ) → inBand (l .band) x ≡ true → inBand band x ≡ true
+
+-- what must hold of a report, by what was heard before it: a trade is in the band and in the range
+abbrev pub FineSaid : Settings → Listener → ℕ → Said → Type 0
+FineSaid g l t (Accept number) = Unit {0}
+FineSaid g l t (Trade deal) = (inBand (l .band) (deal .price) ≡ true) × (inRange (rangeOf (slabOf (g .category)) (l .reference)) (deal .price) ≡ true)
+FineSaid g l t (Convert order) = Unit {0}
+FineSaid g l t (Cancel ended) = Unit {0}
+FineSaid g l t (Slab band) = FineSlab g l t band
+FineSaid g l t (Ref price) = Unit {0}
+FineSaid g l t (Close closing) = Unit {0}
+
+-- and no time is before that of the report before
+abbrev pub Fine : Settings → Listener → Report → Type 0
+Fine g l r = (l .time ≤ r .time) × FineSaid g l (r .time) (r .said)
+
+unfoldable pub EachFine : Settings → Listener → List Report → Type 0
+EachFine g l [] = Unit {0}
+EachFine g l (r ∷ rs) = Fine g l r × EachFine g (listen l r) rs
+
+-- a cooling-off that runs was begun by a trade that the listener has heard
+abbrev pub Cooled : Settings → ℕ → List Report → Type 0
+Cooled g cooling past = (eqb cooling 0 || touchedBy (initialBand g) cooling past) ≡ true
+
+-- what a listener knows of a session, by the four values that it is about
+pub record Knows (g : Settings) (l : Listener) (band : Band) (reference time cooling : ℕ) : Type 0 where
+  pub band-same : l .band ≡ band
+  pub reference-same : l .reference ≡ reference
+  pub time-past : l .time ≤ time
+  pub cooled : Cooled g cooling (l .past)
+
+abbrev pub KnowsOf : Settings → Listener → Session → Type 0
+KnowsOf g l s = Knows g l (bandNow s) (s .reckoning .reference) (s .time) (s .cooling)
+
+-- reports that are fine from l on, after which the listener knows these values
+pub record Tells (g : Settings) (l : Listener) (rs : List Report) (band : Band) (reference time cooling : ℕ) : Type 0 where
+  pub fine : EachFine g l rs
+  pub known : Knows g (listenAll l rs) band reference time cooling
+
+abbrev pub TellsOf : Settings → Listener → List Report → Session → Type 0
+TellsOf g l rs s = Tells g l rs (bandNow s) (s .reckoning .reference) (s .time) (s .cooling)
+
+-- ---- lists of reports
+
+pub listen-append : (l : Listener) (xs ys : List Report) → listenAll l (xs ++ ys) ≡ listenAll (listenAll l xs) ys
+unfolding listenAll
+listen-append l [] ys = refl
+listen-append l (x ∷ xs) ys = listen-append (listen l x) xs ys
+
+pub fine-append : (g : Settings) (l : Listener) (xs ys : List Report) → EachFine g l xs → EachFine g (listenAll l xs) ys → EachFine g l (xs ++ ys)
+unfolding listenAll EachFine
+fine-append g l [] ys p q = q
+fine-append g l (x ∷ xs) ys p q = (p .0, fine-append g (listen l x) xs ys (p .1) q)
+
+module _ (g : Settings) (b : Band) (p t c : ℕ) where
+  pub none-tells : (l : Listener) → Knows g l b p t c → Tells g l [] b p t c
+  unfolding EachFine listenAll
+  none-tells l k = record { fine = tt; known = k }
+
+  pub next-tells : (l : Listener) (r : Report) (rs : List Report) → Fine g l r → Tells g (listen l r) rs b p t c → Tells g l (r ∷ rs) b p t c
+  unfolding EachFine listenAll
+  next-tells l r rs f k = record { fine = (f, k .fine); known = k .known }
+
+  pub one-tells : (l : Listener) (r : Report) → Fine g l r → Knows g (listen l r) b p t c → Tells g l (r ∷ []) b p t c
+  one-tells l r f k = next-tells l r [] f (none-tells (listen l r) k)
+
+  -- after the first part the listener knows these, after the second those
+  pub append-tells : (b′ : Band) (p′ t′ c′ : ℕ) (l : Listener) (xs ys : List Report) → Tells g l xs b p t c →
+      (Knows g (listenAll l xs) b p t c → Tells g (listenAll l xs) ys b′ p′ t′ c′) → Tells g l (xs ++ ys) b′ p′ t′ c′
+  append-tells b′ p′ t′ c′ l xs ys k f =
+      let q : Tells g (listenAll l xs) ys b′ p′ t′ c′ = f (k .known) in
+      record { fine = fine-append g l xs ys (k .fine) (q .fine); known = rw (listen-append l xs ys) (q .known) }
+
+-- what holds of each report holds of one in the middle
+pub fine-at : (g : Settings) (l : Listener) (before later : List Report) (r : Report) → EachFine g l (before ++ (r ∷ later)) →
+    Fine g (listenAll l before) r
+unfolding EachFine listenAll
+fine-at g l [] later r f = f .0
+fine-at g l (x ∷ xs) later r f = fine-at g (listen l x) xs later r (f .1)
+
+-- ---- touches
+
+or-left : (p q : Bool) → p ≡ true → p || q ≡ true
+or-left p q e = rw e
+
+-- one that is over by a time is over by each later one
+later-in : (b : Band) (t u time : ℕ) (said : Said) → t ≤ u → touchedIn b t time said ≡ true → touchedIn b u time said ≡ true
+later-in b t u time (Accept number) h e = e
+later-in b t u time (Trade deal) h e =
+    let p = split (touches b (deal .price)) (leb (time + coolingLength) t) e in
+    join (touches b (deal .price)) (leb (time + coolingLength) u) (p .0)
+    (le-leb (time + coolingLength) u (omega (arith, leb-true (time + coolingLength) t (p .1))))
+later-in b t u time (Convert order) h e = e
+later-in b t u time (Cancel ended) h e = e
+later-in b t u time (Slab band) h e = e
+later-in b t u time (Ref price) h e = e
+later-in b t u time (Close closing) h e = e
+
+pub later-by : (b : Band) (t u : ℕ) (rs : List Report) → t ≤ u → touchedBy b t rs ≡ true → touchedBy b u rs ≡ true
+unfolding touchedBy
+later-by b t u [] h e = e
+later-by b t u (r ∷ rs) h e =
+    cases (touchedIn b t (r .time) (r .said))
+    (λ z. or-left _ _ (later-in b t u (r .time) (r .said) h z))
+    (λ z. or-last (touchedIn b u (r .time) (r .said)) _ (λ y. later-by b t u rs h (rw z at e)))
+
+pub cooled-more : (g : Settings) (cooling : ℕ) (r : Report) (past : List Report) → Cooled g cooling past → Cooled g cooling (r ∷ past)
+unfolding touchedBy
+cooled-more g cooling r past h =
+    cases (eqb cooling 0)
+    (λ z. rw z refl)
+    (λ z. rw z (or-last (touchedIn (initialBand g) cooling (r .time) (r .said)) _ (λ y. rw z at h)))
+
+-- ---- a trade that touches an end of the initial band begins what the listener then knows of
+
+pub cooled-trade : (g : Settings) (widened cooling time : ℕ) (deal : Deal) (past : List Report) → Cooled g cooling past →
+    Cooled g (coolingAfter widened cooling time (bandAt (g .base) (g .tick) (percentOf (slabOf (g .category)) widened)) (deal .price))
+    (reportAt time (Trade deal) ∷ past)
+unfolding coolingAfter percentOf touchedBy
+cooled-trade g widened cooling time deal past h =
+    let r : Report = reportAt time (Trade deal) in
+    let P : ℕ → Type 0 = λ c. Cooled g c (r ∷ past) in
+    let same : P cooling = cooled-more g cooling r past h in
+    let b : Band = bandAt (g .base) (g .tick) (percentOf (slabOf (g .category)) widened) in
+    by P (eqb widened 0) _ _
+    (λ z. by P (eqb cooling 0) _ _
+    (λ c. by P (touches b (deal .price)) _ _
+    (λ e. or-last (eqb (time + coolingLength) 0) _
+    (λ y. or-left _ (touchedBy (initialBand g) (time + coolingLength) past)
+    (join (touches (initialBand g) (deal .price)) (leb (time + coolingLength) (time + coolingLength))
+    (rw z at e)
+    (le-leb (time + coolingLength) (time + coolingLength) (le-refl (time + coolingLength))))))
+    (λ e. same))
+    (λ c. same))
+    (λ z. same)
+
+-- a report that changes neither band nor reference, and is not before the time
+pub knows-more : (g : Settings) (l : Listener) (r : Report) (band : Band) (reference cooling : ℕ) → ((b : Band) → bandAfter b (r .said) ≡ b) →
+    ((p : ℕ) → referenceAfter p (r .said) ≡ p) → Knows g l band reference (r .time) cooling → Knows g (listen l r) band reference (r .time) cooling
+knows-more g l r band reference cooling b p k =
+    record {
+      band-same = b (l .band) ∙ k .band-same;
+      reference-same = p (l .reference) ∙ k .reference-same;
+      time-past = le-refl (r .time);
+      cooled = cooled-more g cooling r (l .past) (k .cooled);
+    }

@@ -1,0 +1,124 @@
+-- Trades read back from their records: one after the other into the session, and they are the fills that were reported. Assumes nothing.
+use Prim.Native.Nat.{ℕ, zero, suc, _+_, _-_, _*_, _≤_, _<_}
+use native.Mathlib.Omega.{arith}
+use native.Mathlib.Nat.{add-assoc}
+use native.Mathlib.Numerals.{add-one}
+use mathlib.Core.Path.{_≡_, refl, sym, ap, _∙_}
+use mathlib.Core.List.{List, [], _∷_, _++_, append-assoc}
+use lib.ListN.{length, getD, take, drop, length-append}
+use lib.Seq.{getD-drop, drop-drop}
+use Rattle.terms.specs.declared.Order.{Order}
+use Rattle.terms.specs.declared.Band.{Band}
+use Rattle.terms.specs.declared.Side.{Side}
+use Rattle.terms.specs.declared.Side.the-variants.{Buy, Sell}
+use Rattle.terms.specs.Sizes.{recordLength, priceMost, lotsMost}
+use Rattle.terms.specs.Records.{recordOf, recordsOf}
+use Rattle.terms.specs.declared.Report.{Report}
+use Rattle.terms.specs.declared.Said.the-variants.{Trade}
+use Rattle.book_law.specs.Over.{Each}
+use Rattle.book_law.specs.Matching.{reportAt, dealOf, tradeReports}
+use Rattle.state_law.specs.declared.Session.{Session}
+use Rattle.state_law.specs.Now.{bandNow}
+use Rattle.state_law.specs.Trades.{withTrade, withTrades, TradesFit}
+use Rattle.state_law.proofs.Fits.{fits-after, band-kept}
+use Rattle.acts_law.specs.Written.{fillAt, fillsAt, Deals, EachDeals}
+
+-- ---- in the code's loop
+
+fewer : (s : Session) (j k : ℕ) → j ≤ k → TradesFit s k → TradesFit s j
+fewer s j k h f = omega arith
+
+-- a number of the record that begins at a place
+read-at : (room : List ℕ) (p k : ℕ) → getD (drop p room) k 0 ≡ getD room (p + k) 0
+read-at room p k = getD-drop p room k 0
+
+pub record Recalling (band : Band) (room : List ℕ) (at n : ℕ) (s₀ s : Session) (i : ℕ) : Type 0 where
+  pub places : i ≤ n
+  pub fits : TradesFit s (n - i)
+  pub banded : band ≡ bandNow s
+  pub rest : withTrades s₀ (fillsAt n (drop at room)) ≡ withTrades s (fillsAt (n - i) (drop (at + recordLength * i) room))
+
+pub recall-none : (band : Band) (room : List ℕ) (at n : ℕ) (s : Session) → TradesFit s n → band ≡ bandNow s → Recalling band room at n s s 0
+recall-none band room at n s f b =
+    let z : n - 0 ≡ n = omega arith in
+    let p : at + recordLength * 0 ≡ at = omega arith in
+    record { places = omega arith; fits = rw z f; banded = b; rest = rw (z, p) }
+
+module _ (room : List ℕ) (at n i : ℕ) (e : EachDeals n (drop at room)) (h : i < n) where
+  -- what the code reads is what the record has
+  pub deals-at : Deals (record { number = 0; price = getD room (at + recordLength * i + 5) 0; lots = getD room (at + recordLength * i + 4) 0 })
+  deals-at =
+      let d = e .at i h in
+      let p : drop (recordLength * i) (drop at room) ≡ drop (at + recordLength * i) room = drop-drop (recordLength * i) at room in
+      rw (← read-at room (at + recordLength * i) 5, ← read-at room (at + recordLength * i) 4, ← p) d
+
+  module _ (band : Band) (s₀ s : Session) (r : Recalling band room at n s₀ s i) where
+    pub one-fits : TradesFit s 1
+    one-fits = fewer s 1 (n - i) (omega arith) (r .fits)
+
+    -- one trade more
+    pub recall-turn : (s′ : Session) → s′ ≡ withTrade s (getD room (at + recordLength * i + 5) 0) (getD room (at + recordLength * i + 4) 0) → Recalling band room at n s₀ s′ (i + 1)
+    unfolding fillsAt withTrades
+    recall-turn s′ w =
+        let d = deals-at in
+        let m : n - i ≡ suc (n - (i + 1)) = omega arith in
+        let m₁ : n - i ≡ n - (i + 1) + 1 = omega arith in
+        let k : at + recordLength * i + recordLength ≡ at + recordLength * (i + 1) = omega arith in
+        let q : drop recordLength (drop (at + recordLength * i) room) ≡ drop (at + recordLength * (i + 1)) room =
+        drop-drop recordLength (at + recordLength * i) room ∙ ap (λ (j : ℕ). drop j room) k in
+        let t : TradesFit s (n - (i + 1) + 1) = rw m₁ at (r .fits) in
+        rw w (record {
+          places = omega arith;
+          fits = fits-after s (n - (i + 1)) (getD room (at + recordLength * i + 5) 0) (getD room (at + recordLength * i + 4) 0) t (d .price-small) (d .lots-some) (d .lots-small);
+          banded = r .banded ∙ sym (band-kept s (getD room (at + recordLength * i + 5) 0) (getD room (at + recordLength * i + 4) 0));
+          rest = r .rest ∙ rw (m, read-at room (at + recordLength * i) 5, read-at room (at + recordLength * i) 4, q);
+        })
+
+pub recall-all : (band : Band) (room : List ℕ) (at n i : ℕ) (s₀ s : Session) → Recalling band room at n s₀ s i → n ≤ i → s ≡ withTrades s₀ (fillsAt n (drop at room))
+unfolding fillsAt withTrades
+recall-all band room at n i s₀ s r h =
+    let z : n - i ≡ 0 = omega arith in
+    sym (r .rest ∙ rw z)
+
+-- ---- the fills that were reported
+
+abbrev fillReport : ℕ → Side → ℕ → Order → Report
+fillReport time side number f = reportAt time (Trade (dealOf side number f))
+
+-- the record of a fill has its lots and its price, whichever side came in
+module _ (time number : ℕ) (f : Order) (l : List ℕ) where
+  reads-fill : (side : Side) → fillAt (recordOf (fillReport time side number f) ++ l) ≡ record { number = 0; price = f .price; lots = f .lots }
+  unfolding recordOf
+  reads-fill Buy = refl
+  reads-fill Sell = refl
+
+  skips-fill : (side : Side) → drop recordLength (recordOf (fillReport time side number f) ++ l) ≡ l
+  unfolding recordOf
+  skips-fill Buy = refl
+  skips-fill Sell = refl
+
+module _ (time : ℕ) (side : Side) (number : ℕ) (r : List ℕ) where
+  -- read back, they are the same to the session
+  pub recalls : (s : Session) (fs : List Order) → withTrades s (fillsAt (length fs) (recordsOf (tradeReports time side number fs) ++ r)) ≡ withTrades s fs
+  unfolding withTrades fillsAt tradeReports recordsOf
+  recalls s [] = refl
+  recalls s (f ∷ fs) =
+      let l : List ℕ = recordsOf (tradeReports time side number fs) ++ r in
+      ap (λ (k : List ℕ). withTrades (withTrade s (fillAt k .price) (fillAt k .lots)) (fillsAt (length fs) (drop recordLength k)))
+      (append-assoc (recordOf (fillReport time side number f)) (recordsOf (tradeReports time side number fs)) r)
+      ∙ ((λ i. withTrades (withTrade s (reads-fill time number f l side i .price) (reads-fill time number f l side i .lots)) (fillsAt (length fs) (skips-fill time number f l side i)))
+      ∙ recalls (withTrade s (f .price) (f .lots)) fs)
+
+  -- and fit as the fills do
+  pub deals-each : (fs : List Order) → Each Deals fs → (k : ℕ) → k < length fs → Deals (fillAt (drop (recordLength * k) (recordsOf (tradeReports time side number fs) ++ r)))
+  unfolding tradeReports recordsOf
+  deals-each [] e k h = absurd (omega arith)
+  deals-each (f ∷ fs) e zero h =
+      rw (append-assoc (recordOf (fillReport time side number f)) (recordsOf (tradeReports time side number fs)) r, reads-fill time number f (recordsOf (tradeReports time side number fs) ++ r) side)
+      (let d = e .0 in record { price-small = d .price-small; lots-some = d .lots-some; lots-small = d .lots-small })
+  deals-each (f ∷ fs) e (suc k) h =
+      let l : List ℕ = recordsOf (tradeReports time side number fs) ++ r in
+      let m : recordLength * suc k ≡ recordLength + recordLength * k = omega arith in
+      let d : drop (recordLength + recordLength * k) (recordOf (fillReport time side number f) ++ l) ≡ drop (recordLength * k) l =
+      sym (drop-drop (recordLength * k) recordLength (recordOf (fillReport time side number f) ++ l)) ∙ ap (λ (x : List ℕ). drop (recordLength * k) x) (skips-fill time number f l side) in
+      rw (append-assoc (recordOf (fillReport time side number f)) (recordsOf (tradeReports time side number fs)) r, m, d) (deals-each fs (e .1) k (omega arith))

@@ -1,0 +1,59 @@
+-- What the orders of a day ask for and have: the lots asked, as the reports of acceptance give them their numbers; the numbers given; the
+-- lots that rest.
+use Prim.Native.Nat.{ℕ, zero, suc, _+_}
+use mathlib.Core.List.{List, [], _∷_, _++_}
+use Rattle.terms.specs.declared.Act.{Act}
+use Rattle.terms.specs.declared.Act.the-variants.{Enter, Withdraw, Under, Clock, Finish}
+use Rattle.terms.specs.declared.Report.{Report}
+use Rattle.terms.specs.declared.Said.{Said}
+use Rattle.terms.specs.declared.Said.the-variants.{Accept, Trade, Convert, Cancel, Slab, Ref, Close}
+use Rattle.book_law.specs.Over.{mine, lotsOf}
+use Rattle.book_law.specs.Told.{total}
+use Rattle.state_law.specs.Day.{Day}
+
+-- the lots that an act asks for
+abbrev pub wanted : Act → ℕ
+wanted (Enter n) = n .lots
+wanted (Withdraw number) = 0
+wanted (Under price) = 0
+wanted Clock = 0
+wanted (Finish settle) = 0
+
+-- and the order that asks: the report of acceptance gives it its number
+abbrev pub askedIn : ℕ → ℕ → Said → ℕ
+askedIn id lots (Accept number) = mine id number lots
+askedIn id lots (Trade deal) = 0
+askedIn id lots (Convert order) = 0
+askedIn id lots (Cancel ended) = 0
+askedIn id lots (Slab band) = 0
+askedIn id lots (Ref price) = 0
+askedIn id lots (Close closing) = 0
+
+-- the lots that the order with number id asks for, by an act and its reports
+abbrev pub askedBy : ℕ → Act → List Report → ℕ
+askedBy id a rs = total (askedIn id (wanted a)) rs
+
+-- the lots of the order with number id that rest
+abbrev pub resting : ℕ → Day → ℕ
+resting id d = lotsOf id (d .buys) + lotsOf id (d .sells)
+
+-- ---- the numbers given
+
+abbrev pub acceptsIn : Said → List ℕ
+acceptsIn (Accept number) = number ∷ []
+acceptsIn (Trade deal) = []
+acceptsIn (Convert order) = []
+acceptsIn (Cancel ended) = []
+acceptsIn (Slab band) = []
+acceptsIn (Ref price) = []
+acceptsIn (Close closing) = []
+
+-- the numbers of the reports of acceptance, in their order
+unfoldable pub accepts : List Report → List ℕ
+accepts [] = []
+accepts (r ∷ rs) = acceptsIn (r .said) ++ accepts rs
+
+-- 1, 2, .. n
+unfoldable pub numbersTo : ℕ → List ℕ
+numbersTo zero = []
+numbersTo (suc n) = numbersTo n ++ (suc n ∷ [])

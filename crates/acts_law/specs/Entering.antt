@@ -1,0 +1,70 @@
+-- What code leaves in the lent numbers when an order comes in.
+use Prim.Native.Nat.{ℕ, _+_, _*_, _≤_, _<_}
+use mathlib.Core.Path.{_≡_}
+use mathlib.Core.List.{List, [], _∷_, _++_}
+use lib.ListN.{length}
+use Rattle.terms.specs.declared.Entry.{Entry}
+use Rattle.terms.specs.declared.Order.{Order}
+use Rattle.terms.specs.declared.Band.{Band}
+use Rattle.terms.specs.declared.Life.the-variants.{AllDay}
+use Rattle.terms.specs.declared.Said.the-variants.{Accept}
+use Rattle.terms.specs.Sizes.{recordLength, slots, numbersMost}
+use Rattle.rules_law.specs.Reference.{RangeFits}
+use Rattle.tables.specs.Tables.{decode, tableOf, Holds}
+use Rattle.matching.specs.declared.Incoming.{Incoming}
+use Rattle.book_law.specs.Over.{Each}
+use Rattle.book_law.specs.Matching.{Swept, reportAt, tradeReports, ownLastOr, Fate, settled, fateReports}
+use Rattle.state_law.specs.declared.Session.{Session}
+use Rattle.state_law.specs.Set.{setGiven}
+use Rattle.state_law.specs.Now.{Clocked, bandNow, rangeNow}
+use Rattle.state_law.specs.Trades.{withTrades, TradesFit}
+use Rattle.acts_law.specs.declared.Met.{Met}
+use Rattle.acts_law.specs.declared.Entered.{Entered}
+use Rattle.acts_law.specs.Acts.{lastIn, sweepIn, fateIn, entered}
+use Rattle.acts_law.specs.Written.{Written, Deals}
+
+-- the order as it meets the counter side
+abbrev pub incomingIn : Session → Entry → ℕ → Incoming
+incomingIn s n number =
+    record { side = n .side; kind = n .kind; range = rangeNow s; number = number; lots = n .lots; time = s .time; last = lastIn s }
+
+-- what the code asks: room for the accept report and a trade with each counter order, and one more
+pub record Meeting (s : Session) (band : Band) (count : ℕ) (t room : List ℕ) (at : ℕ) : Type 0 where
+  pub banded : band ≡ bandNow s
+  pub given-few : s .given < numbersMost
+  pub ranged : RangeFits (rangeNow s)
+  pub holds : Holds count t
+  pub space : at + recordLength * (count + 1) ≤ length room
+  pub fits : TradesFit s count
+  pub deals : Each Deals (decode count t)
+
+-- the table across, the room and the answer once it has met the counter side
+pub record MetAs (s : Session) (n : Entry) (os : List Order) (t room : List ℕ) (at : ℕ) (t′ room′ : List ℕ) (r : Met) : Type 0 where
+  pub book : t′ ≡ tableOf (sweepIn s n os .rest) t
+  pub count : r .count ≡ length (sweepIn s n os .rest)
+  pub told : Written room at (reportAt (s .time) (Accept (s .given + 1)) ∷ tradeReports (s .time) (n .side) (s .given + 1) (sweepIn s n os .fills)) room′ (r .at)
+  pub session : r .session ≡ withTrades (setGiven s (s .given + 1)) (sweepIn s n os .fills)
+  pub left : r .left ≡ sweepIn s n os .left
+  pub last : r .last ≡ ownLastOr (lastIn s) (sweepIn s n os .fills)
+  pub out : r .out ≡ sweepIn s n os .out
+  pub few : r .at ≤ at + recordLength * (length os + 1)
+
+-- ---- the whole of an order
+
+pub record Entering (s : Session) (n : Entry) (nmine : ℕ) (mine : List ℕ) (ntheirs : ℕ) (theirs room : List ℕ) (at : ℕ) : Type 0 where
+  pub clocked : Clocked s
+  pub given-few : s .given < numbersMost
+  pub holds-mine : Holds nmine mine
+  pub holds-theirs : Holds ntheirs theirs
+  pub place : n .life ≡ AllDay → nmine < slots
+  pub space : at + recordLength * (ntheirs + 2) ≤ length room
+  pub fits : TradesFit s ntheirs
+  pub deals : Each Deals (decode ntheirs theirs)
+
+pub record EnteredAs (s : Session) (n : Entry) (own across : List Order) (mine theirs room : List ℕ) (at : ℕ) (mine′ theirs′ room′ : List ℕ) (r : Entered) : Type 0 where
+  pub booked : mine′ ≡ tableOf (settled (n .side) (s .given + 1) (sweepIn s n across .left) (fateIn s n (sweepIn s n across)) own) mine
+  pub countered : theirs′ ≡ tableOf (sweepIn s n across .rest) theirs
+  pub nmine : r .mine ≡ length (settled (n .side) (s .given + 1) (sweepIn s n across .left) (fateIn s n (sweepIn s n across)) own)
+  pub ntheirs : r .theirs ≡ length (sweepIn s n across .rest)
+  pub session : r .session ≡ withTrades (setGiven s (s .given + 1)) (sweepIn s n across .fills)
+  pub told : Written room at (entered s n own (sweepIn s n across) .reports) room′ (r .at)

@@ -1,0 +1,46 @@
+// acts_law: the law of what an accepted event does to a day: an order entered, cancelled, the day closed, and the reports of each.
+// It has no code and may use the crates below it down to refusal. It promises: no lot is made or lost, numbers are given in order, every
+// trade is where settings and reports allow it, and the reports of an event fit the room.
+
+use state_law::Session;
+use terms::Why;
+
+// What becomes of the lots that an order has left: nothing is left, it rests at its limit, it turns into a limit, it is cancelled.
+pub enum Remainder {
+    Nothing,
+    Resting(u64),
+    Turned(u64),
+    Ended(Why),
+}
+
+// The live orders of a side, and the place in the room behind the last report.
+pub struct Placed {
+    pub count: usize,
+    pub at: usize,
+}
+
+// The live orders of both sides after a cancel, and the place behind its report.
+pub struct Withdrawn {
+    pub buys: usize,
+    pub sells: usize,
+    pub at: usize,
+}
+
+// An order that has met the counter side: the session, the counter orders that remain, the place behind the reports, the lots left,
+// the price of its last trade or what stands for it, and whether it stopped out of range.
+pub struct Met {
+    pub session: Session,
+    pub count: usize,
+    pub at: usize,
+    pub left: u64,
+    pub last: u64,
+    pub out: bool,
+}
+
+// An order that has come in: the session, the live orders of its own side and of the other, the place behind its reports.
+pub struct Entered {
+    pub session: Session,
+    pub mine: usize,
+    pub theirs: usize,
+    pub at: usize,
+}

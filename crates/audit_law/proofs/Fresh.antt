@@ -1,0 +1,76 @@
+-- A run of marks, begun on an empty map, goes through just where the numbers are distinct. Assumes nothing.
+use Prim.Native.Nat.{ℕ, _*_, _<_}
+use mathlib.Core.Bool.{Bool, true, false, _&&_, _||_, not}
+use mathlib.Core.Path.{_≡_, refl, sym, ap, _∙_}
+use mathlib.Core.List.{List, [], _∷_, _++_}
+use lib.Dec.{eqb}
+use lib.ListN.{length, replicate, length-set, length-replicate}
+use Rattle.audit_law.specs.Marks.{hasMark, withMark, fresh, marked, isIn, apart}
+use Rattle.audit_law.proofs.Bits.{mark-tells, no-marks}
+
+-- all numbers are below k
+abbrev pub Below : ℕ → List ℕ → Type 0
+Below k [] = Unit {0}
+Below k (x ∷ xs) = (x < k) × Below k xs
+
+below-append : (k : ℕ) (xs ys : List ℕ) → Below k xs → Below k ys → Below k (xs ++ ys)
+below-append k [] ys p q = q
+below-append k (x ∷ xs) ys p q = (p .0, below-append k xs ys (p .1) q)
+
+-- none of the numbers is marked
+none : List ℕ → List ℕ → Bool
+none m [] = true
+none m (y ∷ ys) = not (hasMark m y) && none m ys
+
+mix : (e h i n : Bool) → (not (e || h) && (not i && n)) ≡ (not (e || i) && (not h && n))
+mix true h i n = refl
+mix false true true n = refl
+mix false true false n = refl
+mix false false true n = refl
+mix false false false n = refl
+
+none-mark : (m : List ℕ) (x : ℕ) (ys : List ℕ) → x < 64 * length m → none (withMark m x) ys ≡ (not (isIn x ys) && none m ys)
+unfolding none isIn
+none-mark m x [] h = refl
+none-mark m x (y ∷ ys) h = rw (mark-tells m x y h, none-mark m x ys h) (mix (eqb y x) (hasMark m y) (isIn x ys) (none m ys))
+
+regroup : (h i n a : Bool) → (h && ((i && n) && a)) ≡ ((h && n) && (i && a))
+regroup true true n a = refl
+regroup true false true a = refl
+regroup true false false a = refl
+regroup false i n a = refl
+
+fresh-is : (m xs : List ℕ) → Below (64 * length m) xs → fresh m xs ≡ (none m xs && apart xs)
+unfolding none apart fresh
+fresh-is m [] b = refl
+fresh-is m (x ∷ xs) b =
+    let same : length (withMark m x) ≡ length m = length-set m _ _ in
+    rw (fresh-is (withMark m x) xs (rw same (b .1)), none-mark m x xs (b .0)) (regroup (not (hasMark m x)) (not (isIn x xs)) (none m xs) (apart xs))
+
+none-empty : (words : ℕ) (xs : List ℕ) → none (replicate words 0) xs ≡ true
+unfolding none
+none-empty words [] = refl
+none-empty words (x ∷ xs) = rw (no-marks words x) (none-empty words xs)
+
+fresh-apart : (words : ℕ) (xs : List ℕ) → Below (64 * words) xs → fresh (replicate words 0) xs ≡ apart xs
+fresh-apart words xs b =
+    let same : length {A = ℕ} (replicate words 0) ≡ words = length-replicate words 0 in
+    rw (none-empty words xs) at (fresh-is (replicate words 0) xs (rw same b))
+
+-- two runs, one after the other
+and-assoc : (a b c : Bool) → (a && (b && c)) ≡ ((a && b) && c)
+and-assoc true b c = refl
+and-assoc false b c = refl
+
+fresh-append : (m xs ys : List ℕ) → fresh m (xs ++ ys) ≡ (fresh m xs && fresh (marked m xs) ys)
+unfolding fresh marked
+fresh-append m [] ys = refl
+fresh-append m (x ∷ xs) ys =
+    rw (fresh-append (withMark m x) xs ys)
+    (and-assoc (not (hasMark m x)) (fresh (withMark m x) xs) (fresh (marked (withMark m x) xs) ys))
+
+pub both-fresh : (m xs ys : List ℕ) → m ≡ replicate (length m) 0 → Below (64 * length m) xs → Below (64 * length m) ys →
+    apart (xs ++ ys) ≡ (fresh m xs && fresh (marked m xs) ys)
+both-fresh m xs ys z b c =
+    let all : fresh (replicate (length m) 0) (xs ++ ys) ≡ apart (xs ++ ys) = fresh-apart (length m) (xs ++ ys) (below-append (64 * length m) xs ys b c) in
+    sym (ap (λ (e : List ℕ). fresh e (xs ++ ys)) z ∙ all) ∙ fresh-append m xs ys

@@ -1,0 +1,135 @@
+-- What an incoming order's reports say and where its remainder goes: every lot of it, and of each order that it meets, is told as
+-- traded or cancelled, or rests. Assumes nothing, not even a sound book.
+use Prim.Native.Nat.{ℕ, _+_, _≤_}
+use native.Mathlib.Omega.{arith}
+use borrow.Author.Tests.{eqb-true}
+use mathlib.Core.Path.{_≡_, refl, ap}
+use mathlib.Core.List.{List, [], _∷_, _++_}
+use lib.Dec.{eqb}
+use lib.ListN.{length}
+use Rattle.terms.specs.declared.Side.{Side}
+use Rattle.terms.specs.declared.Side.the-variants.{Buy, Sell}
+use Rattle.terms.specs.declared.Kind.{Kind}
+use Rattle.terms.specs.declared.Kind.the-variants.{Limit, Market}
+use Rattle.terms.specs.declared.Life.{Life}
+use Rattle.terms.specs.declared.Life.the-variants.{AllDay, Ioc}
+use Rattle.terms.specs.declared.Order.{Order}
+use Rattle.terms.specs.declared.Band.{Band}
+use Rattle.terms.specs.declared.Why.{Why}
+use Rattle.terms.specs.declared.Why.the-variants.{Immediate, OutOfRange, OutsideBand}
+use Rattle.terms.specs.declared.Report.{Report}
+use Rattle.terms.specs.declared.Said.{Said}
+use Rattle.terms.proofs.Logic.{by}
+use Rattle.rules_law.specs.Slabs.{inBand}
+use Rattle.book_law.specs.Matching.{Taker, Swept, sweep, tradeReports, Fate, Done, Rests, Turns, Ends, ownLastOr, fateOfLeft, fateOf, settled, fateReports}
+use Rattle.book_law.specs.Over.{tally, mine, sumOf, lotsOf}
+use Rattle.book_law.specs.Told.{total, tradedIn, cancelledIn, traded, cancelled}
+use Rattle.book_law.proofs.Over.{mine-add, mine-zero, lots-insert}
+use Rattle.book_law.proofs.Conserve.{Conserved, sweep-conserves}
+
+pub total-append : (f : Said → ℕ) (xs ys : List Report) → total f (xs ++ ys) ≡ total f xs + total f ys
+unfolding total
+total-append f [] ys = omega arith
+total-append f (x ∷ xs) ys = omega (arith, total-append f xs ys)
+
+-- ---- trades
+
+-- the incoming order traded the lots of all fills, each counter order those of its own
+pub trades-traded : (id time : ℕ) (side : Side) (number : ℕ) (fs : List Order) →
+    traded id (tradeReports time side number fs) ≡ mine id number (sumOf fs) + lotsOf id fs
+unfolding total tradeReports tally
+trades-traded id time side number [] = omega (arith, mine-zero id number)
+trades-traded id time Buy number (f ∷ fs) = omega (arith, trades-traded id time Buy number fs, mine-add id number (f .lots) (sumOf fs))
+trades-traded id time Sell number (f ∷ fs) = omega (arith, trades-traded id time Sell number fs, mine-add id number (f .lots) (sumOf fs))
+
+pub trades-cancelled : (id time : ℕ) (side : Side) (number : ℕ) (fs : List Order) → cancelled id (tradeReports time side number fs) ≡ 0
+unfolding total tradeReports
+trades-cancelled id time side number [] = refl
+trades-cancelled id time side number (f ∷ fs) = omega (arith, trades-cancelled id time side number fs)
+
+pub length-trades : (time : ℕ) (side : Side) (number : ℕ) (fs : List Order) → length (tradeReports time side number fs) ≡ length fs
+unfolding tradeReports
+length-trades time side number [] = refl
+length-trades time side number (f ∷ fs) = omega (arith, length-trades time side number fs)
+
+-- ---- the remainder
+
+-- what is left is told as cancelled, or rests, and nothing else is said of it
+pub record Placed (side : Side) (number left time : ℕ) (os : List Order) (fate : Fate) : Type 0 where
+  pub kept : (id : ℕ) →
+      cancelled id (fateReports time number left fate) + lotsOf id (settled side number left fate os) ≡ mine id number left + lotsOf id os
+  pub untraded : (id : ℕ) → traded id (fateReports time number left fate) ≡ 0
+  pub one : length (fateReports time number left fate) ≤ 1
+
+module _ (side : Side) (number left time : ℕ) (os : List Order) where
+  done-placed : left ≡ 0 → Placed side number left time os Done
+  unfolding total
+  done-placed e = record { kept = λ id. rw e (omega (arith, mine-zero id number)); untraded = λ id. refl; one = omega arith }
+
+  lots-at : (p id : ℕ) → lotsOf id (settled side number left (Rests p) os) ≡ mine id number left + lotsOf id os
+  lots-at p id = lots-insert id side (record { number = number; price = p; lots = left }) os
+
+  rests-placed : (p : ℕ) → Placed side number left time os (Rests p)
+  unfolding total
+  rests-placed p = record { kept = λ id. omega (arith, lots-at p id); untraded = λ id. refl; one = omega arith }
+
+  turns-placed : (p : ℕ) → Placed side number left time os (Turns p)
+  unfolding total
+  turns-placed p = record { kept = λ id. omega (arith, lots-at p id); untraded = λ id. refl; one = omega arith }
+
+  ends-placed : (why : Why) → Placed side number left time os (Ends why)
+  unfolding total
+  ends-placed why = record { kept = λ id. omega arith; untraded = λ id. refl; one = omega arith }
+
+  left-placed : (life : Life) (kind : Kind) (b : Band) (p : ℕ) → Placed side number left time os (fateOfLeft life kind b p)
+  left-placed Ioc kind b p = ends-placed Immediate
+  left-placed AllDay (Limit l) b p = rests-placed l
+  left-placed AllDay Market b p = by (Placed side number left time os) (inBand b p) _ _ (λ e. turns-placed p) (λ e. ends-placed OutsideBand)
+
+pub fate-placed : (side : Side) (number time : ℕ) (os : List Order) (life : Life) (kind : Kind) (b : Band) (last : ℕ) (w : Swept) →
+    Placed side number (w .left) time os (fateOf life kind b last w)
+unfolding fateOf
+fate-placed side number time os life kind b last w =
+    let P : Fate → Type 0 = Placed side number (w .left) time os in
+    by P (eqb (w .left) 0) _ _ (λ e. done-placed side number (w .left) time os (eqb-true _ _ e))
+    (λ e. by P (w .out) _ _ (λ e. ends-placed side number (w .left) time os OutOfRange)
+    (λ e. left-placed side number (w .left) time os life kind b (ownLastOr last (w .fills))))
+
+-- ---- both together: of each order, what is told of it and what rests afterwards is what rested before, and what came in
+
+-- "trades, then convert or cancel"
+abbrev pub entryReports : ℕ → Side → ℕ → Swept → Fate → List Report
+entryReports time side number w fate = tradeReports time side number (w .fills) ++ fateReports time number (w .left) fate
+
+-- own and across are the sides before the order came in, w and fate what came of it
+abbrev pub Balanced : ℕ → ℕ → Side → ℕ → ℕ → List Order → List Order → Swept → Fate → Type 0
+Balanced id time side number lots own across w fate =
+    traded id (entryReports time side number w fate)
+    + cancelled id (entryReports time side number w fate)
+    + (lotsOf id (settled side number (w .left) fate own) + lotsOf id (w .rest))
+    ≡ mine id number lots + (lotsOf id own + lotsOf id across)
+
+entry-balanced : (id time : ℕ) (side : Side) (number lots : ℕ) (own across : List Order) (w : Swept) (fate : Fate) → Conserved lots across w →
+    Placed side number (w .left) time own fate → Balanced id time side number lots own across w fate
+entry-balanced id time side number lots own across w fate c f =
+    let ts : List Report = tradeReports time side number (w .fills) in
+    let fs : List Report = fateReports time number (w .left) fate in
+    omega (
+      arith,
+      total-append (tradedIn id) ts fs,
+      trades-traded id time side number (w .fills),
+      f .untraded id,
+      total-append (cancelledIn id) ts fs,
+      trades-cancelled id time side number (w .fills),
+      f .kept id,
+      c .resting id,
+      mine-add id number (sumOf (w .fills)) (w .left),
+      ap (mine id number) (c .incoming),
+    )
+
+pub entered-balanced : (id time : ℕ) (q : Taker) (number lots : ℕ) (life : Life) (b : Band) (last : ℕ) (own across : List Order) →
+    Balanced id time (q .side) number lots own across (sweep q 0 lots across) (fateOf life (q .kind) b last (sweep q 0 lots across))
+entered-balanced id time q number lots life b last own across =
+    let w : Swept = sweep q 0 lots across in
+    entry-balanced id time (q .side) number lots own across w (fateOf life (q .kind) b last w) (sweep-conserves q 0 lots across)
+    (fate-placed (q .side) number time own life (q .kind) b last w)

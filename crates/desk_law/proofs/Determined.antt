@@ -1,0 +1,38 @@
+-- Each result at the boundary is an equation against the definitions, so two are equal.
+use mathlib.Core.Path.{sym, _∙_}
+use Rattle.desk_law.specs.Determined.{OpenDetermined, ApplyDetermined, ReadDetermined, WriteDetermined, StartDetermined, FeedDetermined}
+
+pub open-determined : OpenDetermined
+open-determined gs run run₁ run₂ r₁ r₂ a b = (a .answer ∙ sym (b .answer), a .laid ∙ sym (b .laid))
+
+pub apply-determined : ApplyDetermined
+apply-determined run event buys sells room run₁ buys₁ sells₁ room₁ run₂ buys₂ sells₂ room₂ r₁ r₂ a b =
+    record {
+      answer = a .answer ∙ sym (b .answer);
+      kept = a .kept ∙ sym (b .kept);
+      bought = a .bought ∙ sym (b .bought);
+      sold = a .sold ∙ sym (b .sold);
+      told = a .told ∙ sym (b .told);
+    }
+
+pub read-determined : ReadDetermined
+read-determined E numbers n a run run₁ run₂ r₁ r₂ x y = (x .answer ∙ sym (y .answer), x .laid ∙ sym (y .laid))
+
+pub write-determined : WriteDetermined
+write-determined v line room room₁ room₂ r₁ r₂ x y = (x .answer ∙ sym (y .answer), x .laid ∙ sym (y .laid))
+
+pub start-determined : StartDetermined
+start-determined run run₁ run₂ r₁ r₂ a b = (a .answer ∙ sym (b .answer), a .laid ∙ sym (b .laid))
+
+pub feed-determined : FeedDetermined
+feed-determined run bytes buys sells room out counts run₁ buys₁ sells₁ room₁ out₁ counts₁ run₂ buys₂ sells₂ room₂ out₂ counts₂ r₁ r₂ a b = (
+  record {
+    answer = a .answer ∙ sym (b .answer);
+    kept = a .kept ∙ sym (b .kept);
+    bought = a .bought ∙ sym (b .bought);
+    sold = a .sold ∙ sym (b .sold);
+    told = a .told ∙ sym (b .told);
+  },
+  a .printed ∙ sym (b .printed),
+  a .counted ∙ sym (b .counted),
+)

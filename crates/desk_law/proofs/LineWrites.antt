@@ -1,0 +1,121 @@
+-- What a writer's answer leaves, as code comes to it, by what the numbers were. Assumes nothing.
+use Prim.Native.Nat.{ℕ, _≤_, _<_}
+use native.Mathlib.Omega.{arith}
+use mathlib.Core.Path.{_≡_, refl, ap, _∙_}
+use mathlib.Core.Bool.{Bool, true, false, not}
+use mathlib.Core.List.{List}
+use borrow.Author.Tests.{lt-ltb, le-ltb, not-true, not-false}
+use lib.ListN.{length, getD, take, drop}
+use Rattle.terms.specs.declared.Event.{Event}
+use Rattle.terms.specs.declared.Refusal.{Refusal}
+use Rattle.terms.specs.declared.Refusal.the-variants.{SmallRoom, NumberRange, SettingsRange}
+use Rattle.terms.specs.declared.Report.{Report}
+use Rattle.terms.specs.declared.Settings.{Settings}
+use Rattle.terms.specs.declared.Verdict.{Verdict}
+use Rattle.terms.specs.declared.Verdict.the-variants.{Fine, Refused}
+use Rattle.terms.specs.Sizes.{recordLength}
+use Rattle.reading.specs.Lines.{renderEvent, renderSettings, eventNumbers, settingsNumbers}
+use Rattle.records.specs.declared.ReadRecord.{ReadRecord}
+use Rattle.records.specs.Back.{RecordRead}
+use Rattle.records.proofs.Told.{told-right, told-only, six-at}
+use Rattle.writing.specs.declared.Wrote.{Wrote}
+use Rattle.writing.specs.Lines.{renderReport, reportNumbers}
+use Rattle.writing.specs.Writes.{lineVerdict, wroteOf, Writes}
+use Rattle.packing.specs.declared.events.FoundEvent.{FoundEvent}
+use Rattle.packing.specs.Runs.{settingsLength, eventLength}
+use Rattle.packing.specs.Settings.{isCategory, settingsFrom}
+use Rattle.packing.specs.Events.{foundIn, eventFrom}
+use Rattle.answers.specs.Answers.{countMost, answerOf}
+use Rattle.desk_law.specs.Writes.{wroteNumber, Few, WrittenOn, settingsVerdictOn, SettingsWrittenOn, eventVerdictOn, EventWrittenOn, reportIn, reportVerdictOn, ReportWrittenOn}
+use Rattle.writing.proofs.Short.{event-short, settings-short, report-short}
+
+-- ---- of any line
+
+wrote-few : (v : Verdict) (n : ℕ) (w : Wrote) → n ≤ countMost → w ≡ wroteOf v n → Few w
+wrote-few Fine n w h e = rw e h
+wrote-few (Refused r) n w h e = rw e tt
+
+wrote-number : (v : Verdict) (n : ℕ) → wroteNumber (wroteOf v n) ≡ answerOf v n
+wrote-number Fine n = refl
+wrote-number (Refused r) n = refl
+
+writes-few : (room line ns room′ : List ℕ) (w : Wrote) → length line ≤ countMost → Writes room line ns w room′ → Few w
+writes-few room line ns room′ w h k = wrote-few (lineVerdict room ns) (length line) w h (k .answer)
+
+writes-on : (v : Verdict) (room line ns room′ : List ℕ) (w : Wrote) (r : ℕ) → v ≡ lineVerdict room ns → Writes room line ns w room′ → r ≡ wroteNumber w → WrittenOn v line room room′ r
+writes-on v room line ns room′ w r e k x =
+    record { answer = x ∙ (ap wroteNumber (k .answer) ∙ rw e (wrote-number (lineVerdict room ns) (length line))); laid = rw e (k .laid) }
+
+refused-on : (v : Verdict) (n : Refusal) (line room : List ℕ) (r : ℕ) → v ≡ Refused n → r ≡ answerOf (Refused n) 0 → WrittenOn v line room room r
+refused-on v n line room r e x = record { answer = rw e x; laid = rw e }
+
+-- ---- settings; code tests `found`, which is whether the category is one
+
+module _ (run room : List ℕ) (r : ℕ) where
+  pub settings-no-run : length run < settingsLength → r ≡ answerOf (Refused SmallRoom) 0 → SettingsWrittenOn run room room r
+  unfolding settingsVerdictOn
+  settings-no-run h x = refused-on _ SmallRoom _ room r (rw (lt-ltb (length run) settingsLength h)) x
+
+  module _ (h : settingsLength ≤ length run) (found : Bool) (k : found ≡ isCategory (getD run 0 0)) where
+    pub settings-none : not found ≡ true → r ≡ answerOf (Refused SettingsRange) 0 → SettingsWrittenOn run room room r
+    unfolding settingsVerdictOn
+    settings-none t x = refused-on _ SettingsRange _ room r (rw (le-ltb (length run) settingsLength h, ← k, not-true found t)) x
+
+    pub settings-written : (g : Settings) (w : Wrote) (room′ : List ℕ) → not found ≡ false → g ≡ settingsFrom run →
+        Writes room (renderSettings g) (settingsNumbers g) w room′ → r ≡ wroteNumber w → SettingsWrittenOn run room room′ r
+    unfolding settingsVerdictOn
+    settings-written g w room′ t e p x =
+        rw (← e)
+        (writes-on _ room (renderSettings g) (settingsNumbers g) room′ w r (rw (le-ltb (length run) settingsLength h, ← k, not-false found t, e)) p x)
+
+pub settings-few : (g : Settings) (room room′ : List ℕ) (w : Wrote) → Writes room (renderSettings g) (settingsNumbers g) w room′ → Few w
+settings-few g room room′ w p = writes-few room (renderSettings g) (settingsNumbers g) room′ w (omega (arith, settings-short g)) p
+
+-- ---- events
+
+module _ (run room : List ℕ) (r : ℕ) where
+  pub event-no-run : length run < eventLength → r ≡ answerOf (Refused SmallRoom) 0 → EventWrittenOn run room room r
+  unfolding eventVerdictOn
+  event-no-run h x = refused-on _ SmallRoom _ room r (rw (lt-ltb (length run) eventLength h)) x
+
+  module _ (h : eventLength ≤ length run) (found : FoundEvent) (k : found ≡ foundIn run) where
+    pub event-none : found ≡ FoundEvent.Nothing → r ≡ answerOf (Refused NumberRange) 0 → EventWrittenOn run room room r
+    unfolding eventVerdictOn
+    event-none t x = refused-on _ NumberRange _ room r (rw (le-ltb (length run) eventLength h, ← k, t)) x
+
+    pub event-written : (e : Event) (w : Wrote) (room′ : List ℕ) → found ≡ FoundEvent.Told e → Writes room (renderEvent e) (eventNumbers e) w room′ →
+        r ≡ wroteNumber w → EventWrittenOn run room room′ r
+    unfolding eventVerdictOn eventFrom
+    event-written e w room′ t p x =
+        rw (← k, t) (writes-on _ room (renderEvent e) (eventNumbers e) room′ w r (rw (le-ltb (length run) eventLength h)) p x)
+
+pub event-few : (e : Event) (room room′ : List ℕ) (w : Wrote) → Writes room (renderEvent e) (eventNumbers e) w room′ → Few w
+event-few e room room′ w p = writes-few room (renderEvent e) (eventNumbers e) room′ w (omega (arith, event-short e)) p
+
+-- ---- reports
+
+-- what the reader of records finds is what the definition computes
+report-is : (run : List ℕ) (o : ReadRecord) → recordLength ≤ length run → RecordRead (take recordLength (drop 0 run)) o → o ≡ reportIn run
+unfolding reportIn
+report-is run o h p =
+    told-only (take recordLength run) o (reportIn run) p
+    (rw (six-at run 0 (omega arith)) (told-right (getD run 0 0) (getD run 1 0) (getD run 2 0) (getD run 3 0) (getD run 4 0) (getD run 5 0)))
+
+module _ (run room : List ℕ) (r : ℕ) where
+  pub report-no-run : length run < recordLength → r ≡ answerOf (Refused SmallRoom) 0 → ReportWrittenOn run room room r
+  unfolding reportVerdictOn
+  report-no-run h x = refused-on _ SmallRoom _ room r (rw (lt-ltb (length run) recordLength h)) x
+
+  module _ (h : recordLength ≤ length run) (o : ReadRecord) (k : RecordRead (take recordLength (drop 0 run)) o) where
+    pub report-none : o ≡ ReadRecord.Nothing → r ≡ answerOf (Refused NumberRange) 0 → ReportWrittenOn run room room r
+    unfolding reportVerdictOn
+    report-none t x = refused-on _ NumberRange _ room r (rw (le-ltb (length run) recordLength h, ← report-is run o h k, t)) x
+
+    pub report-written : (p : Report) (w : Wrote) (room′ : List ℕ) → o ≡ ReadRecord.Told p → Writes room (renderReport p) (reportNumbers p) w room′ →
+        r ≡ wroteNumber w → ReportWrittenOn run room room′ r
+    unfolding reportVerdictOn
+    report-written p w room′ t q x =
+        rw (← report-is run o h k, t) (writes-on _ room (renderReport p) (reportNumbers p) room′ w r (rw (le-ltb (length run) recordLength h)) q x)
+
+pub report-few : (p : Report) (room room′ : List ℕ) (w : Wrote) → Writes room (renderReport p) (reportNumbers p) w room′ → Few w
+report-few p room room′ w q = writes-few room (renderReport p) (reportNumbers p) room′ w (omega (arith, report-short p)) q

@@ -1,0 +1,49 @@
+-- What an opening on runs of numbers leaves, as code comes to it. Assumes nothing.
+use Prim.Native.Nat.{ℕ, _≤_, _<_}
+use mathlib.Core.Path.{_≡_}
+use mathlib.Core.Bool.{Bool, true, false, not}
+use mathlib.Core.List.{List}
+use borrow.Author.Tests.{lt-ltb, le-ltb, not-true, not-false}
+use lib.ListN.{length, getD}
+use Rattle.terms.specs.declared.Refusal.the-variants.{SmallRoom, SettingsRange}
+use Rattle.terms.specs.declared.Settings.{Settings}
+use Rattle.terms.specs.declared.Verdict.the-variants.{Refused}
+use Rattle.tables.specs.Put.{put}
+use Rattle.state_law.specs.declared.Session.{Session}
+use Rattle.state_law.specs.declared.Opened.{Opened}
+use Rattle.state_law.specs.Opening.{openingOf, fixedSession}
+use Rattle.packing.specs.Runs.{settingsLength, sessionLength}
+use Rattle.packing.specs.Settings.{isCategory, settingsFrom}
+use Rattle.packing.specs.Sessions.{sessionNumbers}
+use Rattle.answers.specs.Answers.{answerOf}
+use Rattle.desk_law.specs.Calls.{openedFrom, OpenedAs}
+
+-- code tests `found`, which is whether the category is one
+module _ (gs : List ℕ) (found : Bool) (h : found ≡ isCategory (getD gs 0 0)) where
+  pub opened-out : (s : Session) → not found ≡ true → s ≡ fixedSession → record { verdict = Refused SettingsRange; session = s } ≡ openedFrom gs
+  unfolding openedFrom
+  opened-out s t e = rw (← h, not-true found t, e)
+
+  pub opened-in : (g : Settings) (o : Opened) → not found ≡ false → g ≡ settingsFrom gs → o ≡ openingOf g → o ≡ openedFrom gs
+  unfolding openedFrom
+  opened-in g o t e f = rw (← h, not-false found t, ← e) f
+
+module _ (gs run : List ℕ) (r : ℕ) where
+  pub open-no-settings : length gs < settingsLength → r ≡ answerOf (Refused SmallRoom) 0 → OpenedAs gs run run r
+  open-no-settings h e = record { answer = rw (lt-ltb (length gs) settingsLength h) e; laid = rw (lt-ltb (length gs) settingsLength h) }
+
+  module _ (h : settingsLength ≤ length gs) where
+    pub open-no-session : length run < sessionLength → r ≡ answerOf (Refused SmallRoom) 0 → OpenedAs gs run run r
+    open-no-session k e =
+        record {
+          answer = rw (le-ltb (length gs) settingsLength h, lt-ltb (length run) sessionLength k) e;
+          laid = rw (le-ltb (length gs) settingsLength h, lt-ltb (length run) sessionLength k);
+        }
+
+    pub open-done : (run′ ns : List ℕ) (o : Opened) → sessionLength ≤ length run → o ≡ openedFrom gs → ns ≡ sessionNumbers (o .session) →
+        run′ ≡ put run 0 ns → r ≡ answerOf (o .verdict) 0 → OpenedAs gs run run′ r
+    open-done run′ ns o k e f l a =
+        record {
+          answer = rw (le-ltb (length gs) settingsLength h, le-ltb (length run) sessionLength k, ← e) a;
+          laid = rw (le-ltb (length gs) settingsLength h, le-ltb (length run) sessionLength k, ← e, ← f) l;
+        }

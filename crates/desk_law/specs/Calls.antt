@@ -1,0 +1,86 @@
+-- THE CALLS ON A SESSION, on runs of numbers that an app keeps: what each answers, and what it leaves in every lent run.
+use Prim.Native.Nat.{ℕ}
+use mathlib.Core.Path.{_≡_}
+use mathlib.Core.Bool.{cond}
+use mathlib.Core.List.{List, []}
+use lib.Dec.{ltb, eqb}
+use lib.ListN.{length, getD}
+use Rattle.terms.specs.declared.Refusal.the-variants.{SmallRoom, Unsound, SettingsRange}
+use Rattle.terms.specs.declared.Side.the-variants.{Buy, Sell}
+use Rattle.terms.specs.declared.Verdict.{Verdict}
+use Rattle.terms.specs.declared.Verdict.the-variants.{Fine, Refused}
+use Rattle.terms.specs.Sizes.{tableLength}
+use Rattle.terms.specs.Records.{recordsOf}
+use Rattle.tables.specs.Put.{put}
+use Rattle.state_law.specs.declared.Session.{Session}
+use Rattle.state_law.specs.declared.Opened.{Opened}
+use Rattle.state_law.specs.Opening.{openingOf, fixedSession}
+use Rattle.soundness_law.specs.Sound.{sound, dayIn}
+use Rattle.engine_law.specs.Outcome.{Outcome}
+use Rattle.engine_law.specs.Calls.{roomy, called, tableBy, viewCall}
+use Rattle.packing.specs.Runs.{settingsLength, sessionLength, eventLength}
+use Rattle.packing.specs.Settings.{isCategory, settingsFrom}
+use Rattle.packing.specs.Sessions.{flag, sessionNumbers, sessionFrom}
+use Rattle.packing.specs.Events.{eventFrom}
+use Rattle.answers.specs.Answers.{answerOf}
+
+-- one thing where two runs are as long as they have to be, and another where one is short
+abbrev pub whereLong : {A : Type 0} → List ℕ → ℕ → List ℕ → ℕ → A → A → A
+whereLong xs n ys m long short = cond (ltb (length xs) n) short (cond (ltb (length ys) m) short long)
+
+-- ---- open
+
+-- a category above 7 is out of range; else "a refused one returns its number and one fixed session"
+unfoldable pub openedFrom : List ℕ → Opened
+openedFrom gs = cond (isCategory (getD gs 0 0)) (openingOf (settingsFrom gs)) (record { verdict = Refused SettingsRange; session = fixedSession })
+
+-- a short run is a short table, 1, and nothing is written
+pub record OpenedAs (gs run run′ : List ℕ) (r : ℕ) : Type 0 where
+  pub answer : r ≡ answerOf (whereLong gs settingsLength run sessionLength (openedFrom gs .verdict) (Refused SmallRoom)) 0
+  pub laid : run′ ≡ whereLong gs settingsLength run sessionLength (put run 0 (sessionNumbers (openedFrom gs .session))) run
+
+-- ---- apply
+
+-- what an event comes to, on the day that the runs hold; a short run is a short table
+unfoldable pub calledOn : List ℕ → List ℕ → List ℕ → List ℕ → List ℕ → Outcome
+calledOn run event buys sells room =
+    whereLong run sessionLength event eventLength
+    (called (sessionFrom run) (eventFrom event) buys sells room)
+    (record { verdict = Refused SmallRoom; day = dayIn (sessionFrom run) buys sells; reports = [] })
+
+-- what it comes to on numbers that are no session's: "1: a table under 768 numbers ..", "2: session not sound"
+unfoldable pub strangeVerdict : List ℕ → List ℕ → List ℕ → Verdict
+strangeVerdict buys sells room = cond (roomy buys sells room) (Refused Unsound) (Refused SmallRoom)
+
+-- the session's run: laid anew by an accepted event; "All refusals return the number and the session given, and write nothing."
+abbrev pub runBy : Verdict → Session → List ℕ → List ℕ
+runBy Fine s run = put run 0 (sessionNumbers s)
+runBy (Refused r) s run = run
+
+-- the answer, the session's run, both tables and the room, by what the event comes to
+pub record LeftBy (o : Outcome) (run buys sells room run′ buys′ sells′ room′ : List ℕ) (r : ℕ) : Type 0 where
+  pub answer : r ≡ answerOf (o .verdict) (length (o .reports))
+  pub kept : run′ ≡ runBy (o .verdict) (o .day .session) run
+  pub bought : buys′ ≡ tableBy (o .verdict) (o .day .buys) buys
+  pub sold : sells′ ≡ tableBy (o .verdict) (o .day .sells) sells
+  pub told : room′ ≡ put room 0 (recordsOf (o .reports))
+
+abbrev pub AppliedOn : List ℕ → List ℕ → List ℕ → List ℕ → List ℕ → List ℕ → List ℕ → List ℕ → List ℕ → ℕ → Type 0
+AppliedOn run event buys sells room run′ buys′ sells′ room′ r = LeftBy (calledOn run event buys sells room) run buys sells room run′ buys′ sells′ room′ r
+
+-- ---- sound
+
+-- 1 sound, 0 not, 0 too for a short run or table
+unfoldable pub soundOn : List ℕ → List ℕ → List ℕ → ℕ
+soundOn run buys sells =
+    cond (ltb (length run) sessionLength) 0
+    (whereLong buys tableLength sells tableLength (flag (sound (dayIn (sessionFrom run) buys sells))) 0)
+
+-- ---- view
+
+-- the length of the view, which starts at number 0 of the named table (1 buy, 2 sell; any other: 0)
+unfoldable pub viewOn : ℕ → List ℕ → List ℕ → List ℕ → ℕ
+viewOn side run buys sells =
+    cond (ltb (length run) sessionLength) 0
+    (cond (eqb side 1) (length (viewCall Buy (sessionFrom run) buys sells))
+    (cond (eqb side 2) (length (viewCall Sell (sessionFrom run) buys sells)) 0))

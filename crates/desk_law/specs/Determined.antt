@@ -1,0 +1,51 @@
+-- DETERMINACY AT THE BOUNDARY: what a contract allows for one input is one result. Two results of a call coincide, with every lent number.
+use Prim.Native.Nat.{ℕ}
+use mathlib.Core.Path.{_≡_}
+use mathlib.Core.List.{List}
+use Rattle.terms.specs.declared.Verdict.{Verdict}
+use Rattle.text_law.specs.Grammar.{Answer}
+use Rattle.desk_law.specs.Calls.{OpenedAs, AppliedOn}
+use Rattle.desk_law.specs.Reads.{ReadInto}
+use Rattle.desk_law.specs.Writes.{WrittenOn}
+use Rattle.desk_law.specs.Feeding.{StartedAs, FedAs}
+
+-- `kakoludar_open`
+abbrev pub OpenDetermined : Type 0
+OpenDetermined = (gs run run₁ run₂ : List ℕ) (r₁ r₂ : ℕ) → OpenedAs gs run run₁ r₁ → OpenedAs gs run run₂ r₂ → (r₁ ≡ r₂) × (run₁ ≡ run₂)
+
+-- all that a call of `kakoludar_apply` answers and leaves
+pub record Coincide (run buys sells room run′ buys′ sells′ room′ : List ℕ) (r r′ : ℕ) : Type 0 where
+  pub answer : r ≡ r′
+  pub kept : run ≡ run′
+  pub bought : buys ≡ buys′
+  pub sold : sells ≡ sells′
+  pub told : room ≡ room′
+
+abbrev pub ApplyDetermined : Type 0
+ApplyDetermined =
+    (run event buys sells room run₁ buys₁ sells₁ room₁ run₂ buys₂ sells₂ room₂ : List ℕ) (r₁ r₂ : ℕ) →
+    AppliedOn run event buys sells room run₁ buys₁ sells₁ room₁ r₁ → AppliedOn run event buys sells room run₂ buys₂ sells₂ room₂ r₂ →
+    Coincide run₁ buys₁ sells₁ room₁ run₂ buys₂ sells₂ room₂ r₁ r₂
+
+-- `kakoludar_read_event` and `kakoludar_read_settings`
+abbrev pub ReadDetermined : Type 1
+ReadDetermined =
+    (E : Type 0) (numbers : E → List ℕ) (n : ℕ) (a : Answer E) (run run₁ run₂ : List ℕ) (r₁ r₂ : ℕ) →
+    ReadInto numbers n a run run₁ r₁ → ReadInto numbers n a run run₂ r₂ → (r₁ ≡ r₂) × (run₁ ≡ run₂)
+
+-- `kakoludar_write_settings`, `kakoludar_write_event`, `kakoludar_write_report` and `kakoludar_end`
+abbrev pub WriteDetermined : Type 0
+WriteDetermined =
+    (v : Verdict) (line room room₁ room₂ : List ℕ) (r₁ r₂ : ℕ) → WrittenOn v line room room₁ r₁ → WrittenOn v line room room₂ r₂ → (r₁ ≡ r₂) × (room₁ ≡ room₂)
+
+-- `kakoludar_start`
+abbrev pub StartDetermined : Type 0
+StartDetermined = (run run₁ run₂ : List ℕ) (r₁ r₂ : ℕ) → StartedAs run run₁ r₁ → StartedAs run run₂ r₂ → (r₁ ≡ r₂) × (run₁ ≡ run₂)
+
+-- `kakoludar_feed`: the answer, and all six slices that it may write
+abbrev pub FeedDetermined : Type 0
+FeedDetermined =
+    (run bytes buys sells room out counts run₁ buys₁ sells₁ room₁ out₁ counts₁ run₂ buys₂ sells₂ room₂ out₂ counts₂ : List ℕ) (r₁ r₂ : ℕ) →
+    FedAs run bytes buys sells room out counts run₁ buys₁ sells₁ room₁ out₁ counts₁ r₁ →
+    FedAs run bytes buys sells room out counts run₂ buys₂ sells₂ room₂ out₂ counts₂ r₂ →
+    Coincide run₁ buys₁ sells₁ room₁ run₂ buys₂ sells₂ room₂ r₁ r₂ × (out₁ ≡ out₂) × (counts₁ ≡ counts₂)

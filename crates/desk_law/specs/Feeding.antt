@@ -1,0 +1,101 @@
+-- TEXT IN AND TEXT OUT, on runs of numbers that an app keeps: what each call answers, and what it leaves in every lent slice.
+use Prim.Native.Nat.{ℕ}
+use mathlib.Core.Path.{_≡_}
+use mathlib.Core.Bool.{Bool, true, false, cond}
+use mathlib.Core.List.{List, [], _∷_}
+use lib.Dec.{ltb}
+use lib.ListN.{length}
+use Rattle.terms.specs.declared.Refusal.the-variants.{SmallRoom}
+use Rattle.terms.specs.declared.Verdict.{Verdict}
+use Rattle.terms.specs.declared.Verdict.the-variants.{Fine, Refused}
+use Rattle.tables.specs.Put.{put}
+use Rattle.feed_law.specs.declared.Run.{Run}
+use Rattle.feed_law.specs.declared.Stop.{Stop}
+use Rattle.feed_law.specs.Texts.{endText}
+use Rattle.feed_law.specs.Worlds.{Lent, lentOf, calls}
+use Rattle.feed_law.specs.Turns.{Fed, halted}
+use Rattle.feed_law.specs.Feeds.{laid, begun, fedOf, endVerdict}
+use Rattle.answers.specs.Answers.{answerNumber, answerOf}
+use Rattle.desk_law.specs.Calls.{whereLong}
+use Rattle.standing.specs.Runs.{runLength, runNumbers, runFrom}
+use Rattle.desk_law.specs.Writes.{WrittenOn}
+
+-- ---- start
+
+-- 1 for a short run
+unfoldable pub startVerdict : List ℕ → Verdict
+startVerdict run = cond (ltb (length run) runLength) (Refused SmallRoom) Fine
+
+abbrev pub startedBy : Verdict → List ℕ → List ℕ
+startedBy Fine run = put run 0 (runNumbers begun)
+startedBy (Refused r) run = run
+
+pub record StartedAs (run run′ : List ℕ) (r : ℕ) : Type 0 where
+  pub answer : r ≡ answerOf (startVerdict run) 0
+  pub laid : run′ ≡ startedBy (startVerdict run) run
+
+-- ---- feed
+
+-- two counts: the bytes taken, and the bytes printed
+abbrev pub countsLength : ℕ
+countsLength = 2
+
+-- 0 the bytes hold no further line, 1 the output room is to be emptied, 2 the run is over; or a refusal
+abbrev pub stopNumber : Stop → ℕ
+stopNumber Stop.Waits = answerNumber 0 0
+stopNumber Stop.Full = answerNumber 0 1
+stopNumber Stop.Over = answerNumber 0 2
+stopNumber (Stop.Refused r) = answerOf (Refused r) 0
+
+abbrev pub isRefusal : Stop → Bool
+isRefusal Stop.Waits = false
+isRefusal Stop.Full = false
+isRefusal Stop.Over = false
+isRefusal (Stop.Refused r) = true
+
+-- numbers that are laid anew, but by a refusal, which writes nothing
+abbrev pub laidBy : Stop → List ℕ → List ℕ → List ℕ
+laidBy Stop.Waits ns old = put old 0 ns
+laidBy Stop.Full ns old = put old 0 ns
+laidBy Stop.Over ns old = put old 0 ns
+laidBy (Stop.Refused r) ns old = old
+
+-- where a run stands after some lines, and both counts
+pub record LaidAfter (run counts : List ℕ) (after : Run) (used wrote : ℕ) (run′ counts′ : List ℕ) : Type 0 where
+  pub kept : run′ ≡ put run 0 (runNumbers after)
+  pub counted : counts′ ≡ put counts 0 (used ∷ wrote ∷ [])
+
+-- what the bytes come to, on the run that the numbers are of; a short run of numbers is a short table
+unfoldable pub fedOn : List ℕ → List ℕ → List ℕ → List ℕ → List ℕ → List ℕ → List ℕ → Fed Lent
+fedOn run bytes buys sells room out counts =
+    whereLong run runLength counts countsLength
+    (fedOf (runFrom run) buys sells room bytes out)
+    (halted calls (Stop.Refused SmallRoom) (runFrom run .stage) (lentOf (runFrom run .session) buys sells room))
+
+-- where the run stands afterwards
+abbrev pub runAfter : Fed Lent → Run
+runAfter f = record { stage = f .stage; session = f .world .session }
+
+-- the answer and every lent slice, by what the bytes come to
+pub record FedLeft (f : Fed Lent) (run out counts run′ buys′ sells′ room′ out′ counts′ : List ℕ) (r : ℕ) : Type 0 where
+  pub answer : r ≡ stopNumber (f .stop)
+  pub kept : run′ ≡ laidBy (f .stop) (runNumbers (runAfter f)) run
+  pub bought : buys′ ≡ f .world .buys
+  pub sold : sells′ ≡ f .world .sells
+  pub told : room′ ≡ f .world .room
+  pub printed : out′ ≡ laid out (f .text)
+  pub counted : counts′ ≡ laidBy (f .stop) (f .used ∷ length (f .text) ∷ []) counts
+
+abbrev pub FedAs : List ℕ → List ℕ → List ℕ → List ℕ → List ℕ → List ℕ → List ℕ → List ℕ → List ℕ → List ℕ → List ℕ → List ℕ → List ℕ → ℕ → Type 0
+FedAs run bytes buys sells room out counts run′ buys′ sells′ room′ out′ counts′ r =
+    FedLeft (fedOn run bytes buys sells room out counts) run out counts run′ buys′ sells′ room′ out′ counts′ r
+
+-- ---- end
+
+-- 1 for a short run, then 16
+unfoldable pub endVerdictOn : List ℕ → List ℕ → Verdict
+endVerdictOn run out = cond (ltb (length run) runLength) (Refused SmallRoom) (endVerdict out)
+
+-- what the end of the input prints, with the bytes that were left
+abbrev pub EndedOn : List ℕ → List ℕ → List ℕ → List ℕ → ℕ → Type 0
+EndedOn run rest out out′ r = WrittenOn (endVerdictOn run out) (endText (runFrom run .stage) (length rest)) out out′ r

@@ -1,0 +1,40 @@
+-- THE CALLS THAT READ A LINE into a run of numbers: what each answers, and what it leaves in the run.
+use Prim.Native.Nat.{ℕ}
+use mathlib.Core.Path.{_≡_}
+use mathlib.Core.Bool.{cond}
+use mathlib.Core.List.{List}
+use lib.Dec.{ltb}
+use lib.ListN.{length}
+use Rattle.terms.specs.declared.Refusal.the-variants.{SmallRoom, LineUnfinished, LineWrong}
+use Rattle.terms.specs.declared.Verdict.the-variants.{Refused}
+use Rattle.terms.specs.Refusals.{numberOf}
+use Rattle.tables.specs.Put.{put}
+use Rattle.text_law.specs.Grammar.{Answer, whole, unfinished, wrong}
+use Rattle.reading.specs.Answers.{readEvent, readSettings}
+use Rattle.packing.specs.Runs.{settingsLength, eventLength}
+use Rattle.packing.specs.Settings.{settingsNumbers}
+use Rattle.packing.specs.Events.{eventNumbers}
+use Rattle.answers.specs.Answers.{answerNumber, answerOf}
+
+-- the bytes that a line took; 14; "15, line wrong; returns the place"
+abbrev pub readNumber : {E : Type 0} → Answer E → ℕ
+readNumber (whole e n) = answerNumber 0 n
+readNumber unfinished = answerNumber (numberOf LineUnfinished) 0
+readNumber (wrong n) = answerNumber (numberOf LineWrong) n
+
+-- the run of what was read; a refusal writes nothing
+abbrev pub runRead : {E : Type 0} → (E → List ℕ) → Answer E → List ℕ → List ℕ
+runRead numbers (whole e n) run = put run 0 (numbers e)
+runRead numbers unfinished run = run
+runRead numbers (wrong n) run = run
+
+-- values whose runs have some length were read into a run, with this answer; a short run is a short table
+pub record ReadInto {E : Type 0} (numbers : E → List ℕ) (n : ℕ) (a : Answer E) (run run′ : List ℕ) (r : ℕ) : Type 0 where
+  pub answer : r ≡ cond (ltb (length run) n) (answerOf (Refused SmallRoom) 0) (readNumber a)
+  pub laid : run′ ≡ cond (ltb (length run) n) run (runRead numbers a run)
+
+abbrev pub EventReadInto : List ℕ → List ℕ → List ℕ → ℕ → Type 0
+EventReadInto line run run′ r = ReadInto eventNumbers eventLength (readEvent line) run run′ r
+
+abbrev pub SettingsReadInto : List ℕ → List ℕ → List ℕ → ℕ → Type 0
+SettingsReadInto line run run′ r = ReadInto settingsNumbers settingsLength (readSettings line) run run′ r

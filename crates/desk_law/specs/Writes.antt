@@ -1,0 +1,79 @@
+-- THE CALLS THAT WRITE A LINE from a run of numbers: what each answers, and what it leaves in the line room.
+use Prim.Native.Nat.{ℕ, _≤_}
+use mathlib.Core.Path.{_≡_}
+use mathlib.Core.Bool.{cond}
+use mathlib.Core.List.{List, []}
+use lib.Dec.{ltb}
+use lib.ListN.{length, getD}
+use Rattle.terms.specs.declared.Refusal.the-variants.{SmallRoom, NumberRange, SettingsRange}
+use Rattle.terms.specs.declared.Verdict.{Verdict}
+use Rattle.terms.specs.declared.Verdict.the-variants.{Fine, Refused}
+use Rattle.terms.specs.Sizes.{recordLength}
+use Rattle.reading.specs.Lines.{renderEvent, renderSettings, eventNumbers, settingsNumbers}
+use Rattle.writing.specs.declared.Wrote.{Wrote}
+use Rattle.writing.specs.Lines.{renderReport, reportNumbers}
+use Rattle.writing.specs.Writes.{lineVerdict, roomOf}
+use Rattle.records.specs.declared.ReadRecord.{ReadRecord}
+use Rattle.records.specs.Back.{reportFrom}
+use Rattle.packing.specs.declared.events.FoundEvent.{FoundEvent}
+use Rattle.packing.specs.Runs.{settingsLength, eventLength}
+use Rattle.packing.specs.Settings.{isCategory, settingsFrom}
+use Rattle.packing.specs.Events.{foundIn, eventFrom}
+use Rattle.answers.specs.Answers.{countMost, answerOf}
+
+-- ---- a writer's answer as a number
+
+abbrev pub wroteNumber : Wrote → ℕ
+wroteNumber (Wrote.Written n) = answerOf Fine n
+wroteNumber (Wrote.Refused r) = answerOf (Refused r) 0
+
+-- few bytes were written
+abbrev pub Few : Wrote → Type 0
+Few (Wrote.Written n) = n ≤ countMost
+Few (Wrote.Refused r) = Unit
+
+-- a line is written where the verdict is fine; a refusal writes nothing
+pub record WrittenOn (v : Verdict) (line room room′ : List ℕ) (r : ℕ) : Type 0 where
+  pub answer : r ≡ answerOf v (length line)
+  pub laid : room′ ≡ roomOf v line room
+
+-- ---- settings: 1 for a short run, 12 where the category is none, then 16 and 17
+
+unfoldable pub settingsVerdictOn : List ℕ → List ℕ → Verdict
+settingsVerdictOn run room =
+    cond (ltb (length run) settingsLength) (Refused SmallRoom)
+    (cond (isCategory (getD run 0 0)) (lineVerdict room (settingsNumbers (settingsFrom run))) (Refused SettingsRange))
+
+abbrev pub SettingsWrittenOn : List ℕ → List ℕ → List ℕ → ℕ → Type 0
+SettingsWrittenOn run room room′ r = WrittenOn (settingsVerdictOn run room) (renderSettings (settingsFrom run)) room room′ r
+
+-- ---- an event: 1 for a short run, 4 where the numbers are no event's, then 16 and 17
+
+abbrev pub foundVerdict : FoundEvent → List ℕ → Verdict
+foundVerdict (FoundEvent.Told e) room = lineVerdict room (eventNumbers e)
+foundVerdict FoundEvent.Nothing room = Refused NumberRange
+
+unfoldable pub eventVerdictOn : List ℕ → List ℕ → Verdict
+eventVerdictOn run room = cond (ltb (length run) eventLength) (Refused SmallRoom) (foundVerdict (foundIn run) room)
+
+abbrev pub EventWrittenOn : List ℕ → List ℕ → List ℕ → ℕ → Type 0
+EventWrittenOn run room room′ r = WrittenOn (eventVerdictOn run room) (renderEvent (eventFrom run)) room room′ r
+
+-- ---- a report, from its record: 1 for a short run, 4 where the numbers are no report's, then 16 and 17
+
+unfoldable pub reportIn : List ℕ → ReadRecord
+reportIn ns = reportFrom (getD ns 0 0) (getD ns 1 0) (getD ns 2 0) (getD ns 3 0) (getD ns 4 0) (getD ns 5 0)
+
+abbrev pub toldVerdict : ReadRecord → List ℕ → Verdict
+toldVerdict (ReadRecord.Told p) room = lineVerdict room (reportNumbers p)
+toldVerdict ReadRecord.Nothing room = Refused NumberRange
+
+abbrev pub toldLine : ReadRecord → List ℕ
+toldLine (ReadRecord.Told p) = renderReport p
+toldLine ReadRecord.Nothing = []
+
+unfoldable pub reportVerdictOn : List ℕ → List ℕ → Verdict
+reportVerdictOn run room = cond (ltb (length run) recordLength) (Refused SmallRoom) (toldVerdict (reportIn run) room)
+
+abbrev pub ReportWrittenOn : List ℕ → List ℕ → List ℕ → ℕ → Type 0
+ReportWrittenOn run room room′ r = WrittenOn (reportVerdictOn run room) (toldLine (reportIn run)) room room′ r

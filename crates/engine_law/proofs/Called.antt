@@ -1,0 +1,33 @@
+-- The reports of a call are few, and one that is not refused has room for them. Assumes nothing.
+use Prim.Native.Nat.{ℕ, _≤_}
+use native.Mathlib.Omega.{arith}
+use mathlib.Core.Path.{_≡_}
+use mathlib.Core.Bool.{true}
+use mathlib.Core.List.{List}
+use lib.ListN.{length}
+use Rattle.terms.specs.declared.Event.{Event}
+use Rattle.terms.specs.declared.Refusal.the-variants.{SmallRoom}
+use Rattle.terms.specs.declared.Verdict.the-variants.{Fine, Refused}
+use Rattle.terms.specs.Sizes.{reportsMost}
+use Rattle.terms.proofs.Logic.{cases}
+use Rattle.state_law.specs.declared.Session.{Session}
+use Rattle.soundness_law.specs.Sound.{dayIn}
+use Rattle.engine_law.specs.Outcome.{outcome}
+use Rattle.engine_law.specs.Calls.{roomy, called}
+use Rattle.engine_law.proofs.Applies.{called-outcome, called-short}
+use Rattle.engine_law.proofs.Kept.{outcome-few}
+
+module _ (s : Session) (e : Event) (buys sells room : List ℕ) where
+  -- its reports are no more than the room has place for
+  pub called-few : length (called s e buys sells room .reports) ≤ reportsMost
+  called-few =
+      cases (roomy buys sells room)
+      (λ h. rw (called-outcome s e buys sells room h) (outcome-few (dayIn s buys sells) e))
+      (λ h. rw (called-short s e buys sells room h) (omega arith))
+
+  -- and one that is not refused has room
+  pub fine-roomy : called s e buys sells room .verdict ≡ Fine → roomy buys sells room ≡ true
+  fine-roomy v = cases (roomy buys sells room) (λ h. h) (λ h. absurd (refused (rw (called-short s e buys sells room h) at v)))
+    where
+      refused : Refused SmallRoom ≡ Fine → ⊥
+      refused p = let z : _≡_ {A = ℕ} 0 1 = cc in omega arith

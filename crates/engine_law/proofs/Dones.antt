@@ -1,0 +1,149 @@
+-- What each accepted event leaves, from what its calls left. Assumes nothing.
+use Prim.Native.Nat.{ℕ, _+_, _*_, _/_, _≤_, _<_}
+use native.Mathlib.Omega.{arith}
+use native.Mathlib.Nat.{mul-div-right}
+use mathlib.Core.Path.{_≡_, refl, sym, ap, _∙_}
+use mathlib.Core.Bool.{true, cond, _||_}
+use mathlib.Core.List.{List, [], _∷_, _++_, append-nil}
+use borrow.Author.Tests.{ltb-true, leb-true}
+use lib.Dec.{ltb}
+use lib.ListN.{length}
+use Rattle.terms.specs.declared.Act.{Act}
+use Rattle.terms.specs.declared.Act.the-variants.{Enter, Withdraw, Under, Clock, Finish}
+use Rattle.terms.specs.declared.Entry.{Entry}
+use Rattle.terms.specs.declared.Life.the-variants.{AllDay}
+use Rattle.terms.specs.declared.Order.{Order}
+use Rattle.terms.specs.declared.Side.the-variants.{Buy, Sell}
+use Rattle.terms.specs.Sizes.{recordLength, slots, tableLength, roomLength, numbersMost}
+use Rattle.terms.proofs.Logic.{both, cases}
+use Rattle.tables.specs.Tables.{decode, tableOf, Holds}
+use Rattle.tables.proofs.Slots.{length-decode}
+use Rattle.tables.proofs.Whole.{After}
+use Rattle.book_law.specs.Over.{Each}
+use Rattle.book_law.specs.Priority.{rests, removed}
+use Rattle.state_law.specs.declared.Session.{Session}
+use Rattle.state_law.specs.Set.{setBuys, setSells, setUnder, setTime, setClosed, setGiven}
+use Rattle.state_law.specs.Now.{Clocked, Steady}
+use Rattle.state_law.specs.Clock.{clockStep}
+use Rattle.state_law.specs.Day.{Day, dayOf}
+use Rattle.soundness_law.specs.Sound.{dayIn}
+use Rattle.soundness_law.proofs.Clocked.{steady}
+use Rattle.soundness_law.proofs.Border.{sound-session}
+use Rattle.refusal_law.specs.Refusals.{inHours, finds, hasPlace, hasNumbers}
+use Rattle.acts_law.specs.Acts.{Acted, clockReports, act, sweepIn, fateIn, entered, withdrawn, finished}
+use Rattle.acts_law.specs.Written.{Written, Deals, RestsIn, WithdrawnAs, Finished}
+use Rattle.acts_law.specs.declared.Withdrawn.{Withdrawn}
+use Rattle.acts_law.specs.declared.Entered.{Entered}
+use Rattle.acts_law.specs.Entering.{Entering, EnteredAs}
+use Rattle.acts_law.proofs.Reports.{written-then}
+use Rattle.engine_law.specs.declared.Answer.{Answer}
+use Rattle.engine_law.specs.Calls.{eventAt, Ready, ActedAs}
+use Rattle.engine_law.specs.Steps.{doneAt, SteppedAs, Quiet, under, clock}
+use Rattle.engine_law.proofs.Starts.{accepts, clocked-now, clocked-after, trades-fit, buys-deal, sells-deal, after-buys, after-sells, same-room, behind-clock, clock-space}
+
+-- ---- the answer of every act
+
+pub done-as : (a : Acted) (s : Session) (bs ss : List Order) (nbuys nsells at : ℕ) (buys sells room buys′ sells′ room′ : List ℕ) →
+    a .day ≡ dayOf s bs ss → nbuys ≡ length bs → nsells ≡ length ss → buys′ ≡ tableOf bs buys → sells′ ≡ tableOf ss sells → Written room 0 (a .reports) room′ at →
+    ActedAs a buys sells room buys′ sells′ room′ (doneAt s nbuys nsells at)
+done-as a s bs ss nbuys nsells at buys sells room buys′ sells′ room′ d b c t u w =
+    let k : at / recordLength ≡ length (a .reports) = omega (arith, w .behind) in
+    record {
+      answer = ap Answer.Reported k;
+      session = rw (d, b, c);
+      bought = rw d t;
+      sold = rw d u;
+      told = w .laid;
+    }
+
+-- ---- under and clock
+
+quiet-hours : {s : Session} {u : ℕ} {a : Act} (t l : ℕ) → Quiet s u a → inHours a t l ≡ true → ltb t l ≡ true
+unfolding inHours
+quiet-hours t l (under price) h = h
+quiet-hours t l clock h = h
+
+module _ (s : Session) (t u : ℕ) (a : Act) (buys sells room : List ℕ) (r : Ready s t a buys sells room) (q : Quiet s u a) where
+  pub quiet-time : ltb t (s .settings .length) ≡ true
+  quiet-time = quiet-hours t (s .settings .length) q (accepts s t a buys sells room r .timely)
+
+quiet-day : (s : Session) (t u : ℕ) (a : Act) (buys sells : List ℕ) → Quiet s u a → act (dayIn s buys sells) (eventAt t a) .day ≡ dayOf (setUnder (clockStep s t) u) (decode (s .buys) buys) (decode (s .sells) sells)
+unfolding act clockStep
+quiet-day s t u a buys sells (under price) = refl
+quiet-day s t u a buys sells clock = refl
+
+quiet-reports : (s : Session) (t u : ℕ) (a : Act) (buys sells : List ℕ) → Quiet s u a → act (dayIn s buys sells) (eventAt t a) .reports ≡ clockReports s (clockStep s t)
+unfolding act
+quiet-reports s t u a buys sells (under price) = append-nil (clockReports s (clockStep s t))
+quiet-reports s t u a buys sells clock = append-nil (clockReports s (clockStep s t))
+
+pub quiet-done : (s : Session) (t u : ℕ) (a : Act) (buys sells room : List ℕ) → Quiet s u a → (s′ : Session) → s′ ≡ clockStep s t → (buys₁ sells₁ room₁ : List ℕ) (at : ℕ) →
+    SteppedAs s s′ buys sells room buys₁ sells₁ room₁ at → ActedAs (act (dayIn s buys sells) (eventAt t a)) buys sells room buys₁ sells₁ room₁ (doneAt (setUnder s′ u) (s .buys) (s .sells) at)
+quiet-done s t u a buys sells room q s′ e buys₁ sells₁ room₁ at k =
+    done-as (act (dayIn s buys sells) (eventAt t a)) (setUnder s′ u) (decode (s .buys) buys) (decode (s .sells) sells) (s .buys) (s .sells) at buys sells room buys₁ sells₁ room₁
+    (quiet-day s t u a buys sells q ∙ ap (λ (x : Session). dayOf (setUnder x u) (decode (s .buys) buys) (decode (s .sells) sells)) (sym e))
+    (sym (length-decode (s .buys) buys))
+    (sym (length-decode (s .sells) sells))
+    (k .bought)
+    (k .sold)
+    (rw (quiet-reports s t u a buys sells q, ← e) (k .told))
+
+-- ---- a cancel
+
+module _ (s : Session) (t number : ℕ) (buys sells room : List ℕ) (r : Ready s t (Withdraw number) buys sells room) where
+  pub cancel-time : ltb t (s .settings .length) ≡ true
+  unfolding inHours
+  cancel-time = accepts s t (Withdraw number) buys sells room r .timely
+
+  found : (rests number (decode (s .buys) buys) || rests number (decode (s .sells) sells)) ≡ true
+  unfolding finds
+  found = accepts s t (Withdraw number) buys sells room r .found
+
+  module _ (s′ : Session) (e : s′ ≡ clockStep s t) (buys₁ sells₁ room₁ : List ℕ) (at : ℕ) (k : SteppedAs s s′ buys sells room buys₁ sells₁ room₁ at) where
+    abbrev bought : After (s .buys) (decode (s .buys) buys) buys buys₁
+    bought = after-buys s t (Withdraw number) buys sells room r cancel-time s′ buys₁ sells₁ room₁ at k
+
+    abbrev sold : After (s .sells) (decode (s .sells) sells) sells sells₁
+    sold = after-sells s t (Withdraw number) buys sells room r cancel-time s′ buys₁ sells₁ room₁ at k
+
+    pub withdraw-asks : Holds (s .buys) buys₁ × Holds (s .sells) sells₁ × (at + recordLength ≤ length room₁) × RestsIn number (decode (s .buys) buys₁) (decode (s .sells) sells₁)
+    withdraw-asks = (
+      bought .holds,
+      sold .holds,
+      omega (arith, behind-clock s t (Withdraw number) buys sells room r cancel-time s′ buys₁ sells₁ room₁ at k, same-room s t (Withdraw number) buys sells room r cancel-time s′ buys₁ sells₁ room₁ at k, r .room-long),
+      record { somewhere = rw (bought .reads, sold .reads) found },
+    )
+
+    pub cancel-done : (buys₂ sells₂ room₂ : List ℕ) (w : Withdrawn) → WithdrawnAs number t (decode (s .buys) buys₁) (decode (s .sells) sells₁) buys₁ sells₁ room₁ at buys₂ sells₂ room₂ w →
+        ActedAs (act (dayIn s buys sells) (eventAt t (Withdraw number))) buys sells room buys₂ sells₂ room₂ (doneAt s′ (w .buys) (w .sells) (w .at))
+    unfolding act withdrawn clockStep
+    cancel-done buys₂ sells₂ room₂ w v =
+        let v′ = rw (bought .reads, sold .reads) at v in
+        let space = clock-space s t (Withdraw number) buys sells room r cancel-time s′ buys₁ sells₁ room₁ at k in
+        cases (rests number (decode (s .buys) buys))
+        (λ z. done-as (act (dayIn s buys sells) (eventAt t (Withdraw number))) s′ (removed number (decode (s .buys) buys)) (decode (s .sells) sells) (w .buys) (w .sells) (w .at) buys sells room buys₂ sells₂ room₂
+        (rw (z, e)) (rw z at (v′ .nbuys)) (rw z at (v′ .nsells)) ((rw z at (v′ .bought)) ∙ bought .past _) ((rw z at (v′ .sold)) ∙ sold .past _)
+        (rw (z, ← e) (written-then room 0 (clockReports s s′) room₁ at _ room₂ (w .at) (k .told) (rw z at (v′ .told)) space)))
+        (λ z. done-as (act (dayIn s buys sells) (eventAt t (Withdraw number))) s′ (decode (s .buys) buys) (removed number (decode (s .sells) sells)) (w .buys) (w .sells) (w .at) buys sells room buys₂ sells₂ room₂
+        (rw (z, e)) (rw z at (v′ .nbuys)) (rw z at (v′ .nsells)) ((rw z at (v′ .bought)) ∙ bought .past _) ((rw z at (v′ .sold)) ∙ sold .past _)
+        (rw (z, ← e) (written-then room 0 (clockReports s s′) room₁ at _ room₂ (w .at) (k .told) (rw z at (v′ .told)) space)))
+
+-- ---- the close
+
+module _ (s : Session) (t settle : ℕ) (buys sells room : List ℕ) (r : Ready s t (Finish settle) buys sells room)
+    (lp : length (s .tape .prices) ≡ 10) (ls : length (s .tape .sizes) ≡ 10) where
+  pub finish-asks : Steady s × (tableLength ≤ length buys) × (tableLength ≤ length sells) × (recordLength * (slots + slots + 1) ≤ length room)
+  finish-asks = (
+    steady s lp ls (sound-session (dayIn s buys sells) (accepts s t (Finish settle) buys sells room r .whole)),
+    r .buys-long,
+    r .sells-long,
+    omega (arith, r .room-long),
+  )
+
+pub finish-done : (s : Session) (t settle : ℕ) (buys sells room buys′ sells′ room′ : List ℕ) (at : ℕ) →
+    Finished s t settle (decode (s .buys) buys) (decode (s .sells) sells) buys sells room buys′ sells′ room′ at →
+    ActedAs (act (dayIn s buys sells) (eventAt t (Finish settle))) buys sells room buys′ sells′ room′ (doneAt (setClosed (setTime s t) true) 0 0 at)
+unfolding act finished
+finish-done s t settle buys sells room buys′ sells′ room′ at f =
+    done-as (act (dayIn s buys sells) (eventAt t (Finish settle))) (setClosed (setTime s t) true) [] [] 0 0 at buys sells room buys′ sells′ room′
+    refl refl refl (f .bought) (f .sold) (f .told)

@@ -1,0 +1,180 @@
+-- What an event comes to: a refused one changes nothing and tells nothing; an accepted one leaves a sound day, keeps every lot, gives
+-- numbers in order, tells nothing that is not fine, has no more reports than the room has place for, and no number in them that cannot be
+-- written. Each law is for any day.
+use Prim.Native.Nat.{ℕ, _+_, _≤_, _<_}
+use native.Mathlib.Omega.{arith}
+use native.Mathlib.Nat.{le-refl}
+use borrow.Author.Tests.{leb-true, eq-eqb, ne-eqb}
+use mathlib.Core.Path.{_≡_, refl, _∙_}
+use mathlib.Core.Bool.{true}
+use mathlib.Core.List.{[], _++_, append-nil}
+use lib.ListN.{length}
+use Rattle.terms.specs.declared.Entry.{Entry}
+use Rattle.terms.specs.declared.Event.{Event}
+use Rattle.terms.specs.declared.Act.{Act}
+use Rattle.terms.specs.declared.Act.the-variants.{Enter, Withdraw, Under, Clock, Finish}
+use Rattle.terms.specs.declared.Refusal.{Refusal}
+use Rattle.terms.specs.declared.Verdict.{Verdict}
+use Rattle.terms.specs.declared.Verdict.the-variants.{Fine, Refused}
+use Rattle.terms.specs.Sizes.{reportsMost}
+use Rattle.book_law.specs.Over.{mine}
+use Rattle.book_law.proofs.Over.{mine-zero}
+use Rattle.book_law.specs.Told.{total, traded, cancelled}
+use Rattle.state_law.specs.Day.{Day}
+use Rattle.soundness_law.specs.Sound.{sound}
+use Rattle.refusal_law.specs.Refusals.{refusalOf}
+use Rattle.refusal_law.proofs.Accepted.{Accepted, accepted}
+use Rattle.acts_law.specs.Acts.{act}
+use Rattle.acts_law.specs.Small.{SmallReports}
+use Rattle.acts_law.specs.Asked.{wanted, askedBy, resting, accepts, numbersTo}
+use Rattle.acts_law.proofs.Stays.{act-stays}
+use Rattle.acts_law.proofs.Lots.{act-kept, act-asks}
+use Rattle.acts_law.proofs.Numbers.{act-counts, givenBy, act-given}
+use Rattle.acts_law.proofs.Hears.{Listener, KnowsOf, TellsOf, none-tells}
+use Rattle.acts_law.proofs.Says.{act-tells, act-moved}
+use Rattle.acts_law.proofs.Few.{act-few}
+use Rattle.acts_law.proofs.Small.{act-small, act-ten}
+use Rattle.engine_law.specs.Outcome.{Outcome, decided, outcome}
+
+-- ---- the two cases of an event
+
+-- a law of an outcome: of an accepted event, by what it passed; of a refused one, by the day as it is
+by-verdict : (P : Outcome → Type 0) (d : Day) (e : Event) → (Accepted d e → P (decided Fine d (act d e))) →
+    ((r : Refusal) → P (decided (Refused r) d (act d e))) → P (outcome d e)
+unfolding outcome
+by-verdict P d e f g = go (refusalOf d e) (λ h. accepted d e h)
+  where
+    go : (v : Verdict) → (v ≡ Fine → Accepted d e) → P (decided v d (act d e))
+    go Fine h = f (h refl)
+    go (Refused r) h = g r
+
+-- "All refusals return the number and the session given, and write nothing."
+pub refused-nothing : (d : Day) (e : Event) (r : Refusal) → outcome d e .verdict ≡ Refused r → (outcome d e .day ≡ d) × (outcome d e .reports ≡ [])
+refused-nothing d e r =
+    by-verdict (λ (o : Outcome). o .verdict ≡ Refused r → (o .day ≡ d) × (o .reports ≡ [])) d e
+    (λ k h. absurd (let z : _≡_ {A = ℕ} 0 1 = cc in omega arith))
+    (λ q h. (refl, refl))
+
+-- the verdict is the first row that applies
+pub outcome-verdict : (d : Day) (e : Event) → outcome d e .verdict ≡ refusalOf d e
+unfolding outcome
+outcome-verdict d e = go (refusalOf d e)
+  where
+    go : (v : Verdict) → decided v d (act d e) .verdict ≡ v
+    go Fine = refl
+    go (Refused r) = refl
+
+-- ---- soundness
+
+-- AN ACCEPTED EVENT LEAVES A SOUND DAY, whatever the day was
+pub accepted-sound : (d : Day) (e : Event) → outcome d e .verdict ≡ Fine → sound (outcome d e .day) ≡ true
+accepted-sound d e =
+    by-verdict (λ (o : Outcome). o .verdict ≡ Fine → sound (o .day) ≡ true) d e
+    (λ k h. act-stays d e k)
+    (λ r h. absurd (let z : _≡_ {A = ℕ} 0 1 = cc in omega arith))
+
+-- and no event leaves a sound day unsound
+pub outcome-sound : (d : Day) (e : Event) → sound d ≡ true → sound (outcome d e .day) ≡ true
+outcome-sound d e h = by-verdict (λ (o : Outcome). sound (o .day) ≡ true) d e (λ k. act-stays d e k) (λ r. h)
+
+-- ---- lots, numbers, reports, time
+
+pub outcome-kept : (id : ℕ) (d : Day) (e : Event) →
+    askedBy id (e .act) (outcome d e .reports) + resting id d
+    ≡ traded id (outcome d e .reports) + cancelled id (outcome d e .reports) + resting id (outcome d e .day)
+unfolding total
+outcome-kept id d e =
+    by-verdict (λ (o : Outcome). askedBy id (e .act) (o .reports) + resting id d ≡ traded id (o .reports) + cancelled id (o .reports) + resting id (o .day)) d e
+    (λ k. act-kept id d e)
+    (λ r. omega arith)
+
+pub outcome-counts : (d : Day) (e : Event) →
+    numbersTo (d .session .given) ++ accepts (outcome d e .reports) ≡ numbersTo (outcome d e .day .session .given)
+unfolding accepts
+outcome-counts d e =
+    by-verdict (λ (o : Outcome). numbersTo (d .session .given) ++ accepts (o .reports) ≡ numbersTo (o .day .session .given)) d e
+    (λ k. act-counts d e)
+    (λ r. append-nil (numbersTo (d .session .given)))
+
+pub outcome-tells : (d : Day) (e : Event) (l : Listener) → KnowsOf (d .session .settings) l (d .session) →
+    TellsOf (d .session .settings) l (outcome d e .reports) (outcome d e .day .session)
+outcome-tells d e l m =
+    by-verdict (λ (o : Outcome). TellsOf (d .session .settings) l (o .reports) (o .day .session)) d e
+    (λ k. act-tells d e l (k .whole) (leb-true (d .session .time) (e .time) (k .forward)) m)
+    (λ r. none-tells (d .session .settings) _ _ _ _ l m)
+
+pub outcome-settings : (d : Day) (e : Event) → outcome d e .day .session .settings ≡ d .session .settings
+outcome-settings d e = by-verdict (λ (o : Outcome). o .day .session .settings ≡ d .session .settings) d e (λ k. act-moved d e .settings) (λ r. refl)
+
+-- TIME NEVER GOES BACK
+pub outcome-forward : (d : Day) (e : Event) → d .session .time ≤ outcome d e .day .session .time
+outcome-forward d e =
+    by-verdict (λ (o : Outcome). d .session .time ≤ o .day .session .time) d e
+    (λ k. omega (arith, act-moved d e .time, leb-true (d .session .time) (e .time) (k .forward)))
+    (λ r. le-refl (d .session .time))
+
+-- THE REPORTS FIT THE ROOM
+pub outcome-few : (d : Day) (e : Event) → length (outcome d e .reports) ≤ reportsMost
+outcome-few d e = by-verdict (λ (o : Outcome). length (o .reports) ≤ reportsMost) d e (λ k. act-few d e (k .whole)) (λ r. omega arith)
+
+-- EVERY NUMBER IN A REPORT CAN BE WRITTEN. The session's array holds ten prices,
+pub outcome-small : (d : Day) (e : Event) → length (d .session .tape .prices) ≡ 10 → SmallReports (outcome d e .reports)
+unfolding SmallReports
+outcome-small d e l = by-verdict (λ (o : Outcome). SmallReports (o .reports)) d e (λ k. act-small d e k l) (λ r. tt)
+
+-- and holds ten after the event
+pub outcome-ten : (d : Day) (e : Event) → length (d .session .tape .prices) ≡ 10 → length (outcome d e .day .session .tape .prices) ≡ 10
+outcome-ten d e l = by-verdict (λ (o : Outcome). length (o .day .session .tape .prices) ≡ 10) d e (λ k. act-ten d e l) (λ r. l)
+
+-- ---- the number of an order
+
+-- an accepted order has the next number, and asks for its lots under it
+pub accepted-asks : (d : Day) (t : ℕ) (n : Entry) → outcome d (record { time = t; act = Enter n }) .verdict ≡ Fine →
+    (askedBy (d .session .given + 1) (Enter n) (outcome d (record { time = t; act = Enter n }) .reports) ≡ n .lots)
+    × (outcome d (record { time = t; act = Enter n }) .day .session .given ≡ d .session .given + 1)
+accepted-asks d t n =
+    let e : Event = record { time = t; act = Enter n } in
+    let id : ℕ = d .session .given + 1 in
+    by-verdict (λ (o : Outcome). o .verdict ≡ Fine → (askedBy id (Enter n) (o .reports) ≡ n .lots) × (o .day .session .given ≡ id)) d e
+    (λ k h. (act-asks id d e ∙ rw (eq-eqb id id refl), act-given d e))
+    (λ r h. absurd (let z : _≡_ {A = ℕ} 0 1 = cc in omega arith))
+
+-- numbers are never taken back
+given-grows : (given : ℕ) (a : Act) → given ≤ givenBy given a
+given-grows given (Enter n) = omega arith
+given-grows given (Withdraw number) = omega arith
+given-grows given (Under price) = omega arith
+given-grows given Clock = omega arith
+given-grows given (Finish settle) = omega arith
+
+pub outcome-given : (d : Day) (e : Event) → d .session .given ≤ outcome d e .day .session .given
+outcome-given d e =
+    by-verdict (λ (o : Outcome). d .session .given ≤ o .day .session .given) d e
+    (λ k. omega (arith, act-given d e, given-grows (d .session .given) (e .act)))
+    (λ r. le-refl (d .session .given))
+
+not-mine : (id number lots : ℕ) → (number ≡ id → ⊥) → mine id number lots ≡ 0
+not-mine id number lots h = rw (ne-eqb number id h)
+
+-- a number that was given before is asked for no more,
+pub asks-old : (id : ℕ) (d : Day) (e : Event) → id ≤ d .session .given → askedBy id (e .act) (outcome d e .reports) ≡ 0
+unfolding total
+asks-old id d e h =
+    by-verdict (λ (o : Outcome). askedBy id (e .act) (o .reports) ≡ 0) d e
+    (λ k. act-asks id d e ∙ not-mine id (d .session .given + 1) (wanted (e .act)) (λ z. omega arith))
+    (λ r. refl)
+
+asked-new : (id given : ℕ) (a : Act) → givenBy given a < id → mine id (given + 1) (wanted a) ≡ 0
+asked-new id given (Enter n) h = not-mine id (given + 1) (n .lots) (λ z. omega arith)
+asked-new id given (Withdraw number) h = mine-zero id (given + 1)
+asked-new id given (Under price) h = mine-zero id (given + 1)
+asked-new id given Clock h = mine-zero id (given + 1)
+asked-new id given (Finish settle) h = mine-zero id (given + 1)
+
+-- and one that is not given yet is not asked for
+pub asks-new : (id : ℕ) (d : Day) (e : Event) → outcome d e .day .session .given < id → askedBy id (e .act) (outcome d e .reports) ≡ 0
+unfolding total
+asks-new id d e =
+    by-verdict (λ (o : Outcome). o .day .session .given < id → askedBy id (e .act) (o .reports) ≡ 0) d e
+    (λ k h. act-asks id d e ∙ asked-new id (d .session .given) (e .act) (omega (arith, act-given d e)))
+    (λ r h. refl)

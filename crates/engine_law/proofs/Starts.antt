@@ -1,0 +1,138 @@
+-- What an accepted event starts from: the session after the clock steps is within bounds, the tables are cleared, and the counter orders
+-- can be traded. Assumes nothing.
+use Prim.Native.Nat.{ℕ, _+_, _*_, _≤_, _<_}
+use native.Mathlib.Omega.{arith}
+use mathlib.Core.Path.{_≡_, refl, sym, ap, _∙_}
+use mathlib.Core.Bool.{Bool, true, false, _||_, not}
+use mathlib.Core.List.{List, [], _∷_, _++_}
+use borrow.Author.Tests.{leb-true, ltb-true}
+use lib.Dec.{leb, ltb, eqb}
+use lib.ListN.{length}
+use Rattle.terms.specs.declared.Act.{Act}
+use Rattle.terms.specs.declared.Report.{Report}
+use Rattle.terms.specs.declared.Said.the-variants.{Slab, Ref}
+use Rattle.terms.specs.Sizes.{recordLength, slots, tableLength, roomLength, timeMost, tradesBefore, numbersMost}
+use Rattle.terms.proofs.Logic.{both, or-last}
+use Rattle.terms.proofs.Valid.{valid-facts}
+use Rattle.tables.specs.Tables.{decode, tableOf, Holds}
+use Rattle.tables.proofs.Whole.{After, cleared}
+use Rattle.book_law.specs.Matching.{reportAt}
+use Rattle.book_law.specs.Over.{Each}
+use Rattle.book_law.proofs.Over.{each-map}
+use Rattle.audit_law.specs.Sound.{OrderFits}
+use Rattle.audit_law.proofs.Facts.{book-fits, each-fits}
+use Rattle.state_law.specs.declared.Session.{Session}
+use Rattle.state_law.specs.Now.{Clocked, percentNow, bandNow}
+use Rattle.state_law.specs.Clock.{clockStep}
+use Rattle.state_law.specs.Trades.{TradesFit}
+use Rattle.state_law.specs.Day.{Day}
+use Rattle.soundness_law.specs.Sound.{sound, sessionSound, dayIn}
+use Rattle.soundness_law.proofs.Clocked.{session-clocked}
+use Rattle.soundness_law.proofs.Border.{sound-session}
+use Rattle.soundness_law.proofs.Parts.{Parts, parts-made}
+use Rattle.soundness_law.proofs.Kept.{Tradable}
+use Rattle.soundness_law.proofs.Days.{BookOf, each-tradable}
+use Rattle.refusal_law.proofs.Accepted.{Accepted, accepted}
+use Rattle.acts_law.specs.Acts.{only, clockReports}
+use Rattle.acts_law.specs.Written.{Written, Deals}
+use Rattle.acts_law.proofs.Stays as stays
+use Rattle.acts_law.proofs.Reports.{written-length}
+use Rattle.engine_law.specs.Calls.{eventAt, Ready}
+use Rattle.engine_law.specs.Steps.{Stepping, SteppedAs}
+
+two-few : (b c : Bool) (r q : Report) → length (only b r ++ only c q) ≤ 2
+two-few true true r q = omega arith
+two-few true false r q = omega arith
+two-few false true r q = omega arith
+two-few false false r q = omega arith
+
+pub clock-few : (s s′ : Session) → length (clockReports s s′) ≤ 2
+unfolding clockReports
+clock-few s s′ =
+    two-few (not (eqb (percentNow s) (percentNow s′))) (not (eqb (s .reckoning .reference) (s′ .reckoning .reference)))
+    (reportAt (s′ .time) (Slab (bandNow s′))) (reportAt (s′ .time) (Ref (s′ .reckoning .reference)))
+
+deals-of : (tick : ℕ) (os : List _) → Each (Tradable tick) os → Each Deals os
+deals-of tick os e = each-map (Tradable tick) Deals (λ o d. record { price-small = d .price-small; lots-some = d .lots-some; lots-small = d .lots-small }) os e
+
+module _ (s : Session) (t : ℕ) (a : Act) (buys sells room : List ℕ) (r : Ready s t a buys sells room) where
+  abbrev day : Day
+  day = dayIn s buys sells
+
+  pub accepts : Accepted day (eventAt t a)
+  accepts = accepted day (eventAt t a) (r .fine)
+
+  pub clocked-now : Clocked s
+  clocked-now = session-clocked s (sound-session day (accepts .whole))
+
+  forward : s .time ≤ t
+  forward = leb-true (s .time) t (accepts .forward)
+
+  pub step-asks : Clocked s × (s .time ≤ t)
+  step-asks = (clocked-now, forward)
+
+  module _ (u : ltb t (s .settings .length) ≡ true) where
+    pub start : stays.Ready (clockStep s t) day
+    start = stays.ready day t (accepts .whole) forward (leb-true t timeMost (both (accepts .ranged) .0)) (or-last (s .closed) (ltb t (s .settings .length)) (λ e. u))
+
+    pub clocked-after : Clocked (clockStep s t)
+    unfolding clockStep
+    clocked-after = session-clocked (clockStep s t) (parts-made (clockStep s t) (start .parts) (clocked-now .buys-few) (clocked-now .sells-few))
+
+    pub step-in-asks : (s′ : Session) → s′ ≡ clockStep s t → Stepping s s′ buys sells room
+    step-in-asks s′ e =
+        record {
+          clocked = rw e clocked-after;
+          buys-few = clocked-now .buys-few;
+          sells-few = clocked-now .sells-few;
+          buys-long = r .buys-long;
+          sells-long = r .sells-long;
+          room-long = omega (arith, r .room-long);
+        }
+
+    -- the trades that a sweep of one side can make
+    pub trades-fit : (k : ℕ) → k ≤ slots → s .tape .trades ≤ tradesBefore → TradesFit (clockStep s t) k
+    unfolding clockStep
+    trades-fit k h m =
+        let p = start .parts in
+        let c = clocked-after in
+        record {
+          long = c .valid .length-long;
+          time-small = c .time-small;
+          trades-few = omega arith;
+          half-few = omega (arith, p .halved .few);
+          minute-few = omega (arith, p .minuted .few);
+          half-fits = omega (arith, p .halved .few, p .halved .lots-some, p .halved .lots-small, p .halved .value-small);
+          minute-fits = omega (arith, p .minuted .few, p .minuted .sum-small);
+        }
+
+    pub buys-deal : Each Deals (decode (s .buys) buys)
+    unfolding clockStep
+    buys-deal =
+        let s′ : Session = clockStep s t in
+        let b = book-fits (s′ .given) (s′ .settings .tick) (bandNow s′) (day .buys) (day .sells) (start .book) in
+        deals-of (s .settings .tick) (day .buys) (each-tradable s′ (day .buys) (clocked-after .valid) (each-fits (s′ .given) (s′ .settings .tick) (bandNow s′) (day .buys) (b .each-buy)))
+
+    pub sells-deal : Each Deals (decode (s .sells) sells)
+    unfolding clockStep
+    sells-deal =
+        let s′ : Session = clockStep s t in
+        let b = book-fits (s′ .given) (s′ .settings .tick) (bandNow s′) (day .buys) (day .sells) (start .book) in
+        deals-of (s .settings .tick) (day .sells) (each-tradable s′ (day .sells) (clocked-after .valid) (each-fits (s′ .given) (s′ .settings .tick) (bandNow s′) (day .sells) (b .each-sell)))
+
+    -- the tables and the room behind the clock steps
+    module _ (s′ : Session) (buys₁ sells₁ room₁ : List ℕ) (at : ℕ) (k : SteppedAs s s′ buys sells room buys₁ sells₁ room₁ at) where
+      pub after-buys : After (s .buys) (decode (s .buys) buys) buys buys₁
+      after-buys = cleared (s .buys) buys buys₁ (k .bought) (clocked-now .buys-few) (r .buys-long)
+
+      pub after-sells : After (s .sells) (decode (s .sells) sells) sells sells₁
+      after-sells = cleared (s .sells) sells sells₁ (k .sold) (clocked-now .sells-few) (r .sells-long)
+
+      pub same-room : length room₁ ≡ length room
+      same-room = written-length room 0 (clockReports s s′) room₁ at (k .told) (omega (arith, clock-few s s′, r .room-long))
+
+      pub behind-clock : at ≤ recordLength * 2
+      behind-clock = omega (arith, k .told .behind, clock-few s s′)
+
+      pub clock-space : 0 + recordLength * length (clockReports s s′) ≤ length room
+      clock-space = omega (arith, clock-few s s′, r .room-long)

@@ -1,0 +1,312 @@
+-- The loop over the lines: what has been printed so far, and what is left to be fed, make up the whole. Assumes nothing.
+use Prim.Native.Nat.{ℕ, zero, suc, _+_, _-_, _≤_, _<_}
+use native.Mathlib.Omega.{arith}
+use native.Mathlib.Nat.{zero-add, add-assoc}
+use mathlib.Core.Path.{_≡_, refl, sym, ap, _∙_, subst}
+use mathlib.Core.Bool.{Bool, true, false, not}
+use mathlib.Core.List.{List, [], _∷_, _++_, append-assoc, append-nil}
+use lib.ListN.{length, take, drop, length-append, length-drop, length-take}
+use lib.Seq.{drop-drop, take-all}
+use lib.Dec.{ltb, leb, eqb}
+use borrow.Author.Tests.{lt-ltb, le-ltb, lt-leb, le-leb, eq-eqb, ne-eqb}
+use borrow.Rule.Slice.PartMut.{putMid, same-len-mid}
+use native.Mathlib.Nat.{le-of-eq}
+use Rattle.terms.specs.declared.Event.{Event}
+use Rattle.terms.specs.declared.Settings.{Settings}
+use Rattle.terms.specs.declared.Refusal.{Refusal}
+use Rattle.terms.specs.declared.Refusal.the-variants.{SmallRoom, SmallLineRoom}
+use Rattle.terms.specs.declared.Verdict.{Verdict}
+use Rattle.terms.specs.declared.Verdict.the-variants.{Fine, Refused}
+use Rattle.terms.specs.Refusals.{unless, firstFailed}
+use Rattle.terms.proofs.Cascade.{stops-here, goes-on}
+use Rattle.engine_law.specs.Calls.{roomy}
+use Rattle.text_law.specs.Grammar.{Answer, whole, unfinished, wrong}
+use Rattle.text_law.specs.Reading.{Right}
+use Rattle.reading.specs.Lines.{EventLine, SettingsLine}
+use Rattle.reading.specs.Answers.{readEvent, readSettings}
+use Rattle.reading.proofs.EventLines.{event-right}
+use Rattle.reading.proofs.SettingsLines.{settings-right}
+use Rattle.feed_law.specs.declared.Run.{Run}
+use Rattle.feed_law.specs.declared.Stage.{Stage}
+use Rattle.feed_law.specs.declared.Stop.{Stop}
+use Rattle.feed_law.specs.declared.Turned.{Turned}
+use Rattle.feed_law.specs.declared.Taken.{Taken}
+use Rattle.feed_law.specs.Texts.{textMost}
+use Rattle.feed_law.specs.Worlds.{World, Lent, lentOf, calls}
+use Rattle.feed_law.specs.Turns.{Turn, turnOf, stopAt, Fed, halted, lastly, ahead, fedIn, settingsTurn, eventTurn}
+use Rattle.feed_law.specs.Feeds.{Prints, turnBy, TurnedAs, TakenAs, takenTo, feedVerdict, fedBy, fedOf}
+use Rattle.feed_law.proofs.Prints.{prints-on, prints-within}
+
+-- ---- one line
+
+module _ {W : Type 0} (on : World W) where
+  -- no more bytes are taken than are there
+  settings-within : (w : W) (bytes : List ℕ) (o : Answer Settings) → Right SettingsLine bytes o → settingsTurn on w o .used ≤ length bytes
+  settings-within w bytes (whole g n) r = r .0
+  settings-within w bytes unfinished r = omega arith
+  settings-within w bytes (wrong n) r = omega arith
+
+  event-within : (w : W) (bytes : List ℕ) (o : Answer Event) → Right EventLine bytes o → eventTurn on w o .used ≤ length bytes
+  event-within w bytes (whole e n) r = r .0
+  event-within w bytes unfinished r = omega arith
+  event-within w bytes (wrong n) r = omega arith
+
+  pub turn-within : (stage : Stage) (w : W) (bytes : List ℕ) → turnOf on stage w bytes .used ≤ length bytes
+  turn-within Stage.Awaiting w bytes = settings-within w bytes (readSettings bytes) (settings-right bytes)
+  turn-within Stage.Trading w bytes = event-within w bytes (readEvent bytes) (event-right bytes)
+  turn-within Stage.Over w bytes = omega arith
+
+  -- ---- the turns of many
+
+  -- where there are no bytes, none are taken
+  pub fed-none : (n left : ℕ) (stage : Stage) (w : W) (bytes : List ℕ) → length bytes ≤ 0 → fedIn on n left stage w bytes ≡ halted on (stopAt stage) stage w
+  unfolding fedIn
+  fed-none zero left stage w bytes h = refl
+  fed-none (suc n) left stage w bytes h = rw (le-ltb 0 (length bytes) h)
+
+  module _ (n left : ℕ) (stage : Stage) (w : W) (bytes : List ℕ) (some : 0 < length bytes) where
+    abbrev t : Turn W
+    t = turnOf on stage w bytes
+
+    pub fed-full : left < textMost → fedIn on (suc n) left stage w bytes ≡ halted on Stop.Full stage w
+    unfolding fedIn
+    fed-full h = rw (lt-ltb 0 (length bytes) some, lt-ltb left textMost h)
+
+    pub fed-last : textMost ≤ left → t .used ≡ 0 → fedIn on (suc n) left stage w bytes ≡ lastly on t
+    unfolding fedIn
+    fed-last h e = rw (lt-ltb 0 (length bytes) some, le-ltb left textMost h, eq-eqb (t .used) 0 e)
+
+    pub fed-ahead : textMost ≤ left → (t .used ≡ 0 → ⊥) →
+        fedIn on (suc n) left stage w bytes ≡ ahead on t (fedIn on n (left - length (t .text)) (t .stage) (t .world) (drop (t .used) bytes))
+    unfolding fedIn
+    fed-ahead h e = rw (lt-ltb 0 (length bytes) some, le-ltb left textMost h, ne-eqb (t .used) 0 e)
+
+-- a turn on lent numbers takes no more bytes than there are, and prints no more than there is room for
+pub bounded : (run : Run) (buys sells room bytes : List ℕ) {out buys′ sells′ room′ out′ : List ℕ} {r : Turned} →
+    TurnedAs (turnBy run buys sells room bytes) out buys′ sells′ room′ out′ r → length out′ ≡ length out →
+    TurnedAs (turnBy run buys sells room bytes) out buys′ sells′ room′ out′ r × (r .used ≤ length bytes) × (r .wrote ≤ length out)
+bounded run buys sells room bytes k kept =
+    let w = turn-within calls (run .stage) (lentOf (run .session) buys sells room) bytes in
+    (k, rw (k .used) w, prints-within (k .printed) kept)
+
+-- ---- the loop
+
+-- what was taken and printed before, and then the rest
+abbrev pub onward : ℕ → List ℕ → Fed Lent → Fed Lent
+onward used text f = record { stage = f .stage; world = f .world; used = used + f .used; text = text ++ f .text; stop = f .stop }
+
+pub record Going (bytes out₀ : List ℕ) (f : Fed Lent) (now : Run) (buys sells room out : List ℕ) (at wrote : ℕ) : Type 0 where
+  pub fuel : ℕ
+  pub text : List ℕ
+  pub within : at ≤ length bytes
+  pub enough : length bytes ≤ at + fuel
+  pub same : length out ≡ length out₀
+  pub fits : wrote ≤ length out
+  pub printed : Prints out₀ text wrote out
+  pub rest : f ≡ onward at text (fedIn calls fuel (length out₀ - wrote) (now .stage) (lentOf (now .session) buys sells room) (drop at bytes))
+
+-- before the first line
+onward-none : (f : Fed Lent) → f ≡ onward 0 [] f
+onward-none f = λ i. record { stage = f .stage; world = f .world; used = sym (zero-add (f .used)) i; text = f .text; stop = f .stop }
+
+pub going-start : (bytes out : List ℕ) (now : Run) (buys sells room : List ℕ) →
+    Going bytes out (fedIn calls (length bytes) (length out) (now .stage) (lentOf (now .session) buys sells room) bytes) now buys sells room out 0 0
+going-start bytes out now buys sells room =
+    let l : length out - 0 ≡ length out = omega arith in
+    record {
+      fuel = length bytes;
+      text = [];
+      within = omega arith;
+      enough = omega arith;
+      same = refl;
+      fits = omega arith;
+      printed = record { count = refl; laid = refl };
+      rest = rw l (onward-none _);
+    }
+
+-- where a run stops
+taken-as : {f x : Fed Lent} {out₀ buys sells room out : List ℕ} {run : Run} {used wrote : ℕ} {stop : Stop} {r : Taken} → f ≡ x →
+    r ≡ takenTo run used wrote stop → run .stage ≡ x .stage → lentOf (run .session) buys sells room ≡ x .world → used ≡ x .used →
+    Prints out₀ (x .text) wrote out → stop ≡ x .stop → TakenAs f out₀ buys sells room out r
+taken-as {f} {x} {out₀} {buys} {sells} {room} {out} {run} {used} {wrote} {stop} {r} e q s w u p h =
+    subst (λ (y : Fed Lent). TakenAs y out₀ buys sells room out r) (sym e)
+    (record {
+      stage = ap (λ (y : Taken). y .run .stage) q ∙ s;
+      world = ap (λ (y : Taken). lentOf (y .run .session) buys sells room) q ∙ w;
+      used = ap (λ (y : Taken). y .used) q ∙ u;
+      printed = subst (λ (y : Taken). Prints out₀ (x .text) (y .wrote) out) (sym q) p;
+      stop = ap (λ (y : Taken). y .stop) q ∙ h;
+    })
+
+module _ {bytes out₀ : List ℕ} {f : Fed Lent} {now : Run} {buys sells room out : List ℕ} {at wrote : ℕ}
+    (g : Going bytes out₀ f now buys sells room out at wrote) where
+  abbrev lent : Lent
+  lent = lentOf (now .session) buys sells room
+
+  abbrev left : ℕ
+  left = length out₀ - wrote
+
+  abbrev further : Fed Lent
+  further = fedIn calls (g .fuel) left (now .stage) lent (drop at bytes)
+
+  here : {x : Fed Lent} → further ≡ x → f ≡ onward at (g .text) x
+  here e = g .rest ∙ ap (onward at (g .text)) e
+
+  -- no further line is begun
+  halts : {stop : Stop} {r : Taken} → further ≡ halted calls stop (now .stage) lent → r ≡ takenTo now at wrote stop →
+      TakenAs f out₀ buys sells room out r
+  halts e q =
+      let u : at ≡ at + 0 = omega arith in
+      taken-as (here e) q refl refl u (subst (λ (x : List ℕ). Prints out₀ x wrote out) (sym (append-nil (g .text))) (g .printed)) refl
+
+  -- at the end of the bytes
+  pub going-end : {r : Taken} {stop : Stop} → length bytes ≤ at → stop ≡ stopAt (now .stage) → r ≡ takenTo now at wrote stop → TakenAs f out₀ buys sells room out r
+  going-end {r} h s q =
+      let none : length (drop at bytes) ≤ 0 = rw (length-drop at bytes) (omega arith) in
+      halts (fed-none calls (g .fuel) left (now .stage) lent (drop at bytes) none) (rw s at q)
+
+  module _ (more : at < length bytes) where
+    some : 0 < length (drop at bytes)
+    some = rw (length-drop at bytes) (omega arith)
+
+    fuelled : g .fuel ≡ suc (g .fuel - 1)
+    fuelled = omega (arith, g .enough)
+
+    again : further ≡ fedIn calls (suc (g .fuel - 1)) left (now .stage) lent (drop at bytes)
+    again = ap (λ (n : ℕ). fedIn calls n left (now .stage) lent (drop at bytes)) fuelled
+
+    -- where the room is to be emptied first
+    pub going-full : {r : Taken} → length out - wrote < textMost → r ≡ takenTo now at wrote Stop.Full → TakenAs f out₀ buys sells room out r
+    going-full h q =
+        let l : left < textMost = omega (arith, g .same) in
+        halts (again ∙ fed-full calls (g .fuel - 1) left (now .stage) lent (drop at bytes) some l) q
+
+    module _ {part′ buys′ sells′ room′ : List ℕ} {r : Turned} (wide : textMost ≤ length out - wrote)
+        (k : TurnedAs (turnBy now buys sells room (take (length bytes - at) (drop at bytes))) (take (length out - wrote) (drop wrote out)) buys′ sells′ room′ part′ r) where
+      abbrev line : Turn Lent
+      line = turnOf calls (now .stage) lent (drop at bytes)
+
+      part : take (length bytes - at) (drop at bytes) ≡ drop at bytes
+      part = take-all (length bytes - at) (drop at bytes) (le-of-eq (length-drop at bytes))
+
+      turned : TurnedAs line (take (length out - wrote) (drop wrote out)) buys′ sells′ room′ part′ r
+      turned = rw part at k
+
+      wide-left : textMost ≤ left
+      wide-left = omega (arith, g .same)
+
+      abbrev out′ : List ℕ
+      out′ = putMid wrote (length out - wrote) out part′
+
+      pub line-printed : Prints out₀ (g .text ++ line .text) (wrote + r .wrote) out′
+      line-printed = prints-on out₀ (g .text) out part′ (line .text) wrote (r .wrote) (g .printed) (turned .printed)
+
+      -- what it prints fits, and the room keeps its length
+      pub line-fits : length part′ ≡ length (take (length out - wrote) (drop wrote out)) → wrote + r .wrote ≤ length out
+      line-fits kept =
+          let w = prints-within (turned .printed) kept in
+          let l : length (take (length out - wrote) (drop wrote out)) ≤ length out - wrote = rw (length-take (length out - wrote) (drop wrote out)) (omega arith) in
+          omega (arith, g .fits)
+
+      -- no more bytes are taken than are there
+      pub line-within : at + r .used ≤ length bytes
+      line-within =
+          let w = turn-within calls (now .stage) lent (drop at bytes) in
+          let l = length-drop at bytes in
+          omega (arith, turned .used, more)
+
+      -- where no whole line is left
+      pub going-last : {x : Taken} {stop : Stop} → r .used ≡ 0 → stop ≡ stopAt (r .run .stage) → x ≡ takenTo (r .run) at (wrote + r .wrote) stop →
+          TakenAs f out₀ buys′ sells′ room′ out′ x
+      going-last e s q =
+          let l = fed-last calls (g .fuel - 1) left (now .stage) lent (drop at bytes) some wide-left (sym (turned .used) ∙ e) in
+          let u : at ≡ at + 0 = omega arith in
+          taken-as (here (again ∙ l)) q (turned .stage) (turned .world) u line-printed (s ∙ ap stopAt (turned .stage))
+
+      -- the rest, as it was and as it is
+      abbrev after : Fed Lent
+      after = fedIn calls (g .fuel - 1) (left - length (line .text)) (line .stage) (line .world) (drop (line .used) (drop at bytes))
+
+      ahead-is : (r .used ≡ 0 → ⊥) → fedIn calls (suc (g .fuel - 1)) left (now .stage) lent (drop at bytes) ≡ ahead calls line after
+      ahead-is e = fed-ahead calls (g .fuel - 1) left (now .stage) lent (drop at bytes) some wide-left (λ z. e (turned .used ∙ z))
+
+      joined : onward at (g .text) (ahead calls line after) ≡ onward (at + line .used) (g .text ++ line .text) after
+      joined =
+          λ i.
+          record {
+            stage = after .stage;
+            world = after .world;
+            used = sym (add-assoc at (line .used) (after .used)) i;
+            text = sym (append-assoc (g .text) (line .text) (after .text)) i;
+            stop = after .stop;
+          }
+
+      lefts : left - length (line .text) ≡ length out₀ - (wrote + r .wrote)
+      lefts = let c = turned .printed .count in omega arith
+
+      drops : drop (line .used) (drop at bytes) ≡ drop (at + r .used) bytes
+      drops = drop-drop (line .used) at bytes ∙ ap (λ (n : ℕ). drop (at + n) bytes) (sym (turned .used))
+
+      moved : onward (at + line .used) (g .text ++ line .text) after ≡ onward (at + r .used) (g .text ++ line .text)
+          (fedIn calls (g .fuel - 1) (length out₀ - (wrote + r .wrote)) (r .run .stage) (lentOf (r .run .session) buys′ sells′ room′) (drop (at + r .used) bytes))
+      moved =
+          λ i.
+          onward (at + sym (turned .used) i) (g .text ++ line .text)
+          (fedIn calls (g .fuel - 1) (lefts i) (sym (turned .stage) i) (sym (turned .world) i) (drops i))
+
+      -- after a line
+      pub going-on : (r .used ≡ 0 → ⊥) → length part′ ≡ length (take (length out - wrote) (drop wrote out)) →
+          Going bytes out₀ f (r .run) buys′ sells′ room′ out′ (at + r .used) (wrote + r .wrote)
+      going-on e kept =
+          let same : length out′ ≡ length out = same-len-mid wrote (length out - wrote) out part′ kept in
+          record {
+            fuel = g .fuel - 1;
+            text = g .text ++ line .text;
+            within = line-within;
+            enough = omega (arith, g .enough, e);
+            same = same ∙ g .same;
+            fits = rw same (line-fits kept);
+            printed = line-printed;
+            rest = here (again ∙ ahead-is e) ∙ joined ∙ moved;
+          }
+
+-- ---- the call
+
+module _ (run : Run) (buys sells room bytes out : List ℕ) where
+  abbrev whole-run : Fed Lent
+  whole-run = fedIn calls (length bytes) (length out) (run .stage) (lentOf (run .session) buys sells room) bytes
+
+  judged : (v : Verdict) → feedVerdict buys sells room out ≡ v →
+      fedOf run buys sells room bytes out ≡ fedBy v run (lentOf (run .session) buys sells room) bytes (length out)
+  unfolding fedOf
+  judged v e = ap (λ (x : Verdict). fedBy x run (lentOf (run .session) buys sells room) bytes (length out)) e
+
+  -- something lent is too short: nothing is taken
+  short-room : (found : Bool) → found ≡ roomy buys sells room → not found ≡ true → feedVerdict buys sells room out ≡ Refused SmallRoom
+  unfolding feedVerdict
+  short-room found e n = sym (stops-here SmallRoom found _ _ e n)
+
+  past-room : (found : Bool) → found ≡ roomy buys sells room → not found ≡ false → feedVerdict buys sells room out ≡ firstFailed (unless SmallLineRoom (leb textMost (length out)) ∷ [])
+  unfolding feedVerdict
+  past-room found e n = sym (goes-on _ SmallRoom found _ _ e n refl)
+
+  refused : {r : Taken} (q : Refusal) → feedVerdict buys sells room out ≡ Refused q → r ≡ takenTo run 0 0 (Stop.Refused q) →
+      TakenAs (fedOf run buys sells room bytes out) out buys sells room out r
+  refused q v e = taken-as (judged (Refused q) v) e refl refl refl (record { count = refl; laid = refl }) refl
+
+  pub refused-room : {r : Taken} (found : Bool) → found ≡ roomy buys sells room → not found ≡ true → r ≡ takenTo run 0 0 (Stop.Refused SmallRoom) →
+      TakenAs (fedOf run buys sells room bytes out) out buys sells room out r
+  refused-room found f n e = refused SmallRoom (short-room found f n) e
+
+  pub refused-out : {r : Taken} (found : Bool) → found ≡ roomy buys sells room → not found ≡ false → length out < textMost →
+      r ≡ takenTo run 0 0 (Stop.Refused SmallLineRoom) → TakenAs (fedOf run buys sells room bytes out) out buys sells room out r
+  unfolding firstFailed
+  refused-out found f n h e = refused SmallLineRoom (past-room found f n ∙ rw (lt-leb textMost (length out) h)) e
+
+  -- or all is long enough
+  pub taken-fine : {buys′ sells′ room′ out′ : List ℕ} {r : Taken} (found : Bool) → found ≡ roomy buys sells room → not found ≡ false →
+      textMost ≤ length out → TakenAs whole-run out buys′ sells′ room′ out′ r → TakenAs (fedOf run buys sells room bytes out) out buys′ sells′ room′ out′ r
+  unfolding firstFailed
+  taken-fine {buys′} {sells′} {room′} {out′} {r} found f n h k =
+      subst (λ (x : Fed Lent). TakenAs x out buys′ sells′ room′ out′ r)
+      (sym (judged Fine (past-room found f n ∙ rw (le-leb textMost (length out) h)))) k

@@ -1,0 +1,251 @@
+-- Feeding bytes in pieces prints what feeding them whole prints. Assumes nothing.
+use Prim.Native.Nat.{ℕ, zero, suc, _+_, _-_, _≤_, _<_}
+use native.Mathlib.Omega.{arith}
+use mathlib.Core.Path.{_≡_, refl, sym, ap, _∙_, subst}
+use mathlib.Core.Bool.{Bool, true, false, cond}
+use mathlib.Core.List.{List, [], _∷_, _++_, append-assoc, append-nil}
+use lib.ListN.{length, take, drop, length-append, length-drop}
+use lib.Seq.{drop-drop, drop-append-le}
+use lib.Dec.{ltb, eqb}
+use borrow.Author.Tests.{ltb-true, ltb-false, lt-ltb, eqb-true, eqb-false, eq-eqb, ne-eqb}
+use Rattle.terms.specs.declared.Event.{Event}
+use Rattle.terms.specs.declared.Settings.{Settings}
+use Rattle.terms.proofs.Logic.{cases}
+use Rattle.text_law.specs.Text.{bytes}
+use Rattle.text_law.specs.Grammar.{Answer, whole, unfinished, wrong, word}
+use Rattle.text_law.specs.Pieces.{at}
+use Rattle.text_law.specs.Reading.{Right}
+use Rattle.reading.specs.Lines.{EventLine, SettingsLine}
+use Rattle.reading.specs.Grammars.{eventGrammar, settingsGrammar}
+use Rattle.reading.specs.Answers.{readEvent, readSettings}
+use Rattle.reading.proofs.EventLines.{event-right, event-only}
+use Rattle.reading.proofs.SettingsLines.{settings-right, settings-only}
+use Rattle.feed_law.specs.declared.Stage.{Stage}
+use Rattle.feed_law.specs.declared.Stop.{Stop}
+use Rattle.feed_law.specs.Texts.{textMost, endText}
+use Rattle.feed_law.specs.Worlds.{World}
+use Rattle.feed_law.specs.Turns.{Turn, Fed, waits, ends, settingsTurn, eventTurn, turnOf, stopAt, printedIn, printedFrom, halted, lastly, ahead, fedIn}
+use Rattle.feed_law.specs.Pieces.{PiecesPrintTheWhole, EndPrintsTheRest}
+use Rattle.feed_law.proofs.Longer.{right-longer}
+use Rattle.feed_law.proofs.Going.{turn-within, fed-none, fed-full, fed-last, fed-ahead}
+
+-- ---- reading: no bytes are the start of a line, so no line has no bytes
+
+no-settings : readSettings [] ≡ unfinished
+unfolding readSettings at settingsGrammar word
+no-settings = refl
+
+no-event : readEvent [] ≡ unfinished
+unfolding readEvent at eventGrammar word
+no-event = refl
+
+not-whole : {E : Type 0} {o : Answer E} {e : E} {n : ℕ} → o ≡ whole e n → o ≡ unfinished → ⊥
+not-whole p q = let z : _≡_ {A = ℕ} 0 1 = cc in omega arith
+
+not-wrong : {E : Type 0} {o : Answer E} {n : ℕ} → o ≡ wrong n → o ≡ unfinished → ⊥
+not-wrong p q = let z : _≡_ {A = ℕ} 0 1 = cc in omega arith
+
+pub settings-some : (s : List ℕ) (g : Settings) (n : ℕ) → Right SettingsLine s (whole g n) → n ≡ 0 → ⊥
+settings-some s g n r z = not-whole (settings-only [] (readSettings []) (whole g 0) (settings-right []) (omega arith, rw z at (r .1))) no-settings
+
+pub event-some : (s : List ℕ) (e : Event) (n : ℕ) → Right EventLine s (whole e n) → n ≡ 0 → ⊥
+event-some s e n r z = not-whole (event-only [] (readEvent []) (whole e 0) (event-right []) (omega arith, rw z at (r .1))) no-event
+
+module _ {W : Type 0} (on : World W) where
+  -- ---- the first line of some bytes, and of the same bytes with more behind them
+
+  data Sort (stage : Stage) (w : W) (xs ys : List ℕ) : Type 0 where
+    waiting : turnOf on stage w xs ≡ waits on stage w → Sort stage w xs ys
+    ending : (place : ℕ) → turnOf on stage w xs ≡ ends on w place → turnOf on stage w (xs ++ ys) ≡ ends on w place → Sort stage w xs ys
+    going : (turnOf on stage w xs .used ≡ 0 → ⊥) → turnOf on stage w (xs ++ ys) ≡ turnOf on stage w xs → Sort stage w xs ys
+
+  module _ (w : W) (xs ys : List ℕ) where
+    settings-sort : (o : Answer Settings) → readSettings xs ≡ o → Right SettingsLine xs o → Sort Stage.Awaiting w xs ys
+    settings-sort (whole g n) e r =
+        let l : readSettings (xs ++ ys) ≡ whole g n = settings-only (xs ++ ys) _ _ (settings-right (xs ++ ys)) (right-longer SettingsLine xs ys (whole g n) (not-whole refl) r) in
+        going (λ z. settings-some xs g n r (ap (λ (x : Answer Settings). settingsTurn on w x .used) (sym e) ∙ z)) (ap (settingsTurn on w) (l ∙ sym e))
+    settings-sort unfinished e r = waiting (ap (settingsTurn on w) e)
+    settings-sort (wrong n) e r =
+        let l : readSettings (xs ++ ys) ≡ wrong n = settings-only (xs ++ ys) _ _ (settings-right (xs ++ ys)) (right-longer SettingsLine xs ys (wrong n) (not-wrong refl) r) in
+        ending n (ap (settingsTurn on w) e) (ap (settingsTurn on w) l)
+
+    event-sort : (o : Answer Event) → readEvent xs ≡ o → Right EventLine xs o → Sort Stage.Trading w xs ys
+    event-sort (whole f n) e r =
+        let l : readEvent (xs ++ ys) ≡ whole f n = event-only (xs ++ ys) _ _ (event-right (xs ++ ys)) (right-longer EventLine xs ys (whole f n) (not-whole refl) r) in
+        going (λ z. event-some xs f n r (ap (λ (x : Answer Event). eventTurn on w x .used) (sym e) ∙ z)) (ap (eventTurn on w) (l ∙ sym e))
+    event-sort unfinished e r = waiting (ap (eventTurn on w) e)
+    event-sort (wrong n) e r =
+        let l : readEvent (xs ++ ys) ≡ wrong n = event-only (xs ++ ys) _ _ (event-right (xs ++ ys)) (right-longer EventLine xs ys (wrong n) (not-wrong refl) r) in
+        ending n (ap (eventTurn on w) e) (ap (eventTurn on w) l)
+
+    sort : (stage : Stage) → Sort stage w xs ys
+    sort Stage.Awaiting = settings-sort (readSettings xs) refl (settings-right xs)
+    sort Stage.Trading = event-sort (readEvent xs) refl (event-right xs)
+    sort Stage.Over = waiting refl
+
+  -- ---- no bytes, no line
+
+  turn-none : (stage : Stage) (w : W) → turnOf on stage w [] ≡ waits on stage w
+  turn-none Stage.Awaiting w = ap (settingsTurn on w) no-settings
+  turn-none Stage.Trading w = ap (eventTurn on w) no-event
+  turn-none Stage.Over w = refl
+
+  -- ---- what is printed, a line at a time
+
+  abbrev after : Turn W → List ℕ → List ℕ → List ℕ
+  after t s rest = t .text ++ cond (eqb (t .used) 0) (endText (t .stage) (length s)) rest
+
+  none-printed : (m : ℕ) (stage : Stage) (w : W) (s : List ℕ) → length s ≤ 0 → printedIn on m stage w s ≡ endText stage (length s)
+  unfolding printedIn
+  none-printed zero stage w s h = refl
+  none-printed (suc m) stage w [] h = rw (turn-none stage w)
+  none-printed (suc m) stage w (x ∷ s) h = absurd (let z : suc (length s) ≤ 0 = h in omega arith)
+
+  -- as many lines as there are bytes are enough
+  enough : (n m : ℕ) (stage : Stage) (w : W) (s : List ℕ) → length s ≤ n → length s ≤ m → printedIn on n stage w s ≡ printedIn on m stage w s
+  unfolding printedIn
+  enough zero m stage w s h k = sym (none-printed m stage w s h)
+  enough (suc n) zero stage w s h k = none-printed (suc n) stage w s k
+  enough (suc n) (suc m) stage w s h k =
+      let t : Turn W = turnOf on stage w s in
+      cases (eqb (t .used) 0) (λ e. rw e)
+      (λ e.
+      let l = length-drop (t .used) s in
+      let u = eqb-false (t .used) 0 e in
+      let a : length (drop (t .used) s) ≤ n = omega (arith, u) in
+      let b : length (drop (t .used) s) ≤ m = omega (arith, u) in
+      rw e (ap (λ (x : List ℕ). t .text ++ x) (enough n m (t .stage) (t .world) (drop (t .used) s) a b)))
+
+  printed-turn : (stage : Stage) (w : W) (s : List ℕ) →
+      let t : Turn W = turnOf on stage w s in printedFrom on stage w s ≡ after t s (printedFrom on (t .stage) (t .world) (drop (t .used) s))
+  unfolding printedIn
+  printed-turn stage w [] = rw (turn-none stage w)
+  printed-turn stage w (x ∷ l) =
+      let s : List ℕ = x ∷ l in
+      let t : Turn W = turnOf on stage w s in
+      cases (eqb (t .used) 0) (λ e. rw e)
+      (λ e.
+      let d = length-drop (t .used) s in
+      let u = eqb-false (t .used) 0 e in
+      let a : length (drop (t .used) s) ≤ length l = omega (arith, u) in
+      rw e (ap (λ (y : List ℕ). t .text ++ y) (enough (length l) (length (drop (t .used) s)) (t .stage) (t .world) (drop (t .used) s) a (omega arith))))
+
+  -- after the end nothing
+  over-silent : (w : W) (s : List ℕ) → printedFrom on Stage.Over w s ≡ []
+  over-silent w s = printed-turn Stage.Over w s
+
+  -- ---- so
+
+  -- what is printed for the whole, as a feed of its first bytes and what is left
+  abbrev Whole : Stage → W → List ℕ → List ℕ → Fed W → Type 0
+  Whole stage w xs ys f = printedFrom on stage w (xs ++ ys) ≡ f .text ++ printedFrom on (f .stage) (f .world) (drop (f .used) xs ++ ys)
+
+  module _ (stage : Stage) (w : W) (xs ys : List ℕ) where
+    abbrev t : Turn W
+    t = turnOf on stage w xs
+
+    by : {f x : Fed W} → f ≡ x → Whole stage w xs ys x → Whole stage w xs ys f
+    by e k = subst (Whole stage w xs ys) (sym e) k
+
+    -- a bad line: it is told, and then nothing
+    bad : (place : ℕ) → t ≡ ends on w place → turnOf on stage w (xs ++ ys) ≡ ends on w place → Whole stage w xs ys (lastly on t)
+    bad place e l =
+        printed-turn stage w (xs ++ ys)
+        ∙ ap (λ (x : Turn W). after x (xs ++ ys) (printedFrom on (x .stage) (x .world) (drop (x .used) (xs ++ ys)))) l
+        ∙ ap (λ (x : List ℕ). ends on w place .text ++ x) (sym (over-silent w (xs ++ ys)))
+        ∙ ap (λ (x : Turn W). x .text ++ printedFrom on (x .stage) (x .world) (xs ++ ys)) (sym e)
+
+    -- a line: it is the same with more behind it
+    on-with : (f : Fed W) → (t .used ≡ 0 → ⊥) → turnOf on stage w (xs ++ ys) ≡ t → Whole (t .stage) (t .world) (drop (t .used) xs) ys f →
+        Whole stage w xs ys (ahead on t f)
+    on-with f u l k =
+        let rest : drop (t .used) (xs ++ ys) ≡ drop (t .used) xs ++ ys = drop-append-le (t .used) xs ys (turn-within on stage w xs) in
+        printed-turn stage w (xs ++ ys)
+        ∙ ap (λ (x : Turn W). after x (xs ++ ys) (printedFrom on (x .stage) (x .world) (drop (x .used) (xs ++ ys)))) l
+        ∙ rw (ne-eqb (t .used) 0 u, rest)
+        (ap (λ (x : List ℕ). t .text ++ x) k
+        ∙ sym (append-assoc (t .text) (f .text) (printedFrom on (f .stage) (f .world) (drop (f .used) (drop (t .used) xs) ++ ys)))
+        ∙ rw (drop-drop (f .used) (t .used) xs))
+
+    none-used : t ≡ waits on stage w → t .used ≡ 0
+    none-used e = ap (λ (x : Turn W). x .used) e
+
+    module _ (n left : ℕ) (some : 0 < length xs) (wide : textMost ≤ left)
+        (k : Whole (t .stage) (t .world) (drop (t .used) xs) ys (fedIn on n (left - length (t .text)) (t .stage) (t .world) (drop (t .used) xs))) where
+      by-sort : Sort stage w xs ys → Whole stage w xs ys (fedIn on (suc n) left stage w xs)
+      by-sort (waiting e) =
+          by (fed-last on n left stage w xs some wide (none-used e))
+          (ap (λ (x : Turn W). x .text ++ printedFrom on (x .stage) (x .world) (xs ++ ys)) (sym e))
+      by-sort (ending place e l) =
+          by (fed-last on n left stage w xs some wide (ap (λ (x : Turn W). x .used) e)) (bad place e l)
+      by-sort (going u l) = by (fed-ahead on n left stage w xs some wide u) (on-with (fedIn on n (left - length (t .text)) (t .stage) (t .world) (drop (t .used) xs)) u l k)
+
+  pub pieces : PiecesPrintTheWhole on
+  unfolding fedIn
+  pieces zero left stage w xs ys = refl
+  pieces (suc n) left stage w xs ys =
+      let t : Turn W = turnOf on stage w xs in
+      cases (ltb 0 (length xs))
+      (λ e.
+      let some = ltb-true 0 (length xs) e in
+      cases (ltb left textMost)
+      (λ h. by stage w xs ys (fed-full on n left stage w xs some (ltb-true left textMost h)) refl)
+      (λ h.
+      by-sort stage w xs ys n left some (ltb-false left textMost h)
+      (pieces n (left - length (t .text)) (t .stage) (t .world) (drop (t .used) xs) ys) (sort w xs ys stage)))
+      (λ e. by stage w xs ys (fed-none on (suc n) left stage w xs (ltb-false 0 (length xs) e)) refl)
+
+  -- ---- the end
+
+  abbrev Rest : List ℕ → Fed W → Type 0
+  Rest xs f = (f .stop ≡ Stop.Full → ⊥) → printedFrom on (f .stage) (f .world) (drop (f .used) xs) ≡ endText (f .stage) (length (drop (f .used) xs))
+
+  module _ (stage : Stage) (w : W) (xs : List ℕ) where
+    abbrev t₁ : Turn W
+    t₁ = turnOf on stage w xs
+
+    by-rest : {f x : Fed W} → f ≡ x → Rest xs x → Rest xs f
+    by-rest e k = subst (Rest xs) (sym e) k
+
+    -- no whole line is left
+    last-rest : Sort stage w xs [] → t₁ .used ≡ 0 → printedFrom on (t₁ .stage) (t₁ .world) xs ≡ endText (t₁ .stage) (length xs)
+    last-rest (waiting e) u =
+        subst (λ (x : Turn W). printedFrom on (x .stage) (x .world) xs ≡ endText (x .stage) (length xs)) (sym e)
+        (printed-turn stage w xs
+        ∙ ap (λ (x : Turn W). after x xs (printedFrom on (x .stage) (x .world) (drop (x .used) xs))) e)
+    last-rest (ending place e l) u =
+        subst (λ (x : Turn W). printedFrom on (x .stage) (x .world) xs ≡ endText (x .stage) (length xs)) (sym e) (over-silent w xs)
+    last-rest (going n l) u = absurd (n u)
+
+    ahead-rest : (f : Fed W) → Rest (drop (t₁ .used) xs) f → Rest xs (ahead on t₁ f)
+    ahead-rest f k = rw (← drop-drop (f .used) (t₁ .used) xs) k
+
+  none-rest : (n left : ℕ) (stage : Stage) (w : W) (xs : List ℕ) → length xs ≤ 0 → Rest xs (fedIn on n left stage w xs)
+  none-rest n left stage w xs h = by-rest stage w xs (fed-none on n left stage w xs h) (λ _. none-printed (length xs) stage w xs h)
+
+  rest : (n left : ℕ) (stage : Stage) (w : W) (xs : List ℕ) → length xs ≤ n → Rest xs (fedIn on n left stage w xs)
+  rest zero left stage w xs h = none-rest zero left stage w xs h
+  rest (suc n) left stage w xs h =
+      let t : Turn W = turnOf on stage w xs in
+      cases (ltb 0 (length xs))
+      (λ e.
+      let some = ltb-true 0 (length xs) e in
+      cases (ltb left textMost)
+      (λ f. by-rest stage w xs (fed-full on n left stage w xs some (ltb-true left textMost f)) (λ no. absurd (no refl)))
+      (λ f.
+      let wide = ltb-false left textMost f in
+      cases (eqb (t .used) 0)
+      (λ u.
+      let z = eqb-true (t .used) 0 u in
+      by-rest stage w xs (fed-last on n left stage w xs some wide z) (λ _. last-rest stage w xs (sort w xs [] stage) z))
+      (λ u.
+      let z = eqb-false (t .used) 0 u in
+      let l = length-drop (t .used) xs in
+      let a : length (drop (t .used) xs) ≤ n = omega (arith, z) in
+      by-rest stage w xs (fed-ahead on n left stage w xs some wide z)
+      (ahead-rest stage w xs (fedIn on n (left - length (t .text)) (t .stage) (t .world) (drop (t .used) xs))
+      (rest n (left - length (t .text)) (t .stage) (t .world) (drop (t .used) xs) a)))))
+      (λ e. none-rest (suc n) left stage w xs (ltb-false 0 (length xs) e))
+
+  pub end-prints-rest : EndPrintsTheRest on
+  end-prints-rest left stage w xs = rest (length xs) left stage w xs (omega arith)

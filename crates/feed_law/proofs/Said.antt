@@ -1,0 +1,48 @@
+-- What the program says of refused events and bad lines is always said: the numbers can be written. (Reports: `promises`, `calls-writable`.)
+-- Assumes nothing.
+use Prim.Native.Nat.{ℕ, _≤_}
+use native.Mathlib.Omega.{arith}
+use mathlib.Core.Path.{_≡_}
+use mathlib.Core.List.{List}
+use Rattle.terms.specs.declared.Event.{Event}
+use Rattle.terms.specs.declared.Refusal.{Refusal}
+use Rattle.terms.specs.declared.Refusal.the-variants.{SmallRoom, Unsound, Closed, NumberRange, TimeBack, OutOfHours, OffTick, OutsideBand, NotResting, SideFull, DayFull, SettingsRange, SettingsOffTick, LineUnfinished, LineWrong, SmallLineRoom, NumberLong}
+use Rattle.terms.specs.Sizes.{writtenMost}
+use Rattle.terms.specs.Refusals.{numberOf}
+use Rattle.text_law.specs.Grammar.{whole}
+use Rattle.text_law.proofs.Fills.{writable-tested}
+use Rattle.reading.specs.Answers.{readEvent}
+use Rattle.reading.proofs.EventLines.{event-right}
+use Rattle.writing.specs.Lines.{refusedNumbers, renderRefused, badNumbers, renderBad}
+use Rattle.feed_law.specs.Texts.{refusedText, badText}
+
+number-small : (r : Refusal) → numberOf r ≤ writtenMost
+number-small SmallRoom = omega arith
+number-small Unsound = omega arith
+number-small Closed = omega arith
+number-small NumberRange = omega arith
+number-small TimeBack = omega arith
+number-small OutOfHours = omega arith
+number-small OffTick = omega arith
+number-small OutsideBand = omega arith
+number-small NotResting = omega arith
+number-small SideFull = omega arith
+number-small DayFull = omega arith
+number-small SettingsRange = omega arith
+number-small SettingsOffTick = omega arith
+number-small LineUnfinished = omega arith
+number-small LineWrong = omega arith
+number-small SmallLineRoom = omega arith
+number-small NumberLong = omega arith
+
+-- an event that was read has a time that can be written
+pub refused-said : (s : List ℕ) (e : Event) (n : ℕ) (r : Refusal) → readEvent s ≡ whole e n → refusedText (e .time) r ≡ renderRefused (e .time) r
+unfolding refusedText
+refused-said s e n r q =
+    let w = (rw q at (event-right s)) .1 .1 in
+    rw (writable-tested (refusedNumbers (e .time) r) (w .0, (number-small r, tt)))
+
+-- so has a place within nine digits
+pub bad-said : (r : Refusal) (place : ℕ) → place ≤ writtenMost → badText r place ≡ renderBad r place
+unfolding badText
+bad-said r place h = rw (writable-tested (badNumbers r place) (number-small r, (h, tt)))

@@ -1,0 +1,206 @@
+-- What the functions of a line leave, by what the line was read as. Assumes nothing.
+use Prim.Native.Nat.{ℕ, _+_, _*_, _≤_}
+use native.Mathlib.Omega.{arith}
+use mathlib.Core.Path.{_≡_, refl, sym, ap, _∙_, subst}
+use mathlib.Core.Bool.{true}
+use mathlib.Core.List.{List, [], _∷_, _++_}
+use lib.ListN.{length, drop}
+use borrow.Author.Tests.{leb-true}
+use Rattle.terms.specs.declared.Event.{Event}
+use Rattle.terms.specs.declared.Settings.{Settings}
+use Rattle.terms.specs.declared.Report.{Report}
+use Rattle.terms.specs.declared.Refusal.{Refusal}
+use Rattle.terms.specs.declared.Refusal.the-variants.{LineWrong}
+use Rattle.terms.specs.declared.Verdict.{Verdict}
+use Rattle.terms.specs.declared.Verdict.the-variants.{Fine, Refused}
+use Rattle.terms.specs.Sizes.{lineRoom, recordLength, reportsMost, roomLength}
+use Rattle.terms.specs.Records.{recordOf, recordsOf}
+use Rattle.terms.proofs.Logic.{both}
+use Rattle.tables.specs.Put.{put}
+use Rattle.text_law.specs.Grammar.{Answer, whole, unfinished, wrong}
+use Rattle.reading.specs.declared.ReadEvent.{ReadEvent}
+use Rattle.reading.specs.declared.ReadSettings.{ReadSettings}
+use Rattle.reading.specs.Answers.{EventRead, SettingsRead, eventAnswer, settingsAnswer, readEvent, readSettings}
+use Rattle.reading.proofs.EventLines.{event-told}
+use Rattle.reading.proofs.SettingsLines.{settings-told}
+use Rattle.state_law.specs.declared.Session.{Session}
+use Rattle.state_law.specs.declared.Opened.{Opened}
+use Rattle.state_law.specs.Opening.{openingOf, fixedSession}
+use Rattle.engine_law.specs.declared.Answer.{Answer as Reply}
+use Rattle.engine_law.specs.declared.Applied.{Applied}
+use Rattle.engine_law.specs.Calls.{roomy, called, answerBy, AppliedAs}
+use Rattle.engine_law.proofs.Called.{called-few, fine-roomy}
+use Rattle.feed_law.specs.declared.Run.{Run}
+use Rattle.feed_law.specs.declared.Stage.{Stage}
+use Rattle.feed_law.specs.declared.Turned.{Turned}
+use Rattle.feed_law.specs.Texts.{textMost, reportsText, recordsText, refusedText, eventText, settingsText, badText}
+use Rattle.feed_law.specs.Worlds.{Lent, lentOf, calls}
+use Rattle.feed_law.specs.Turns.{Turn, stageBy, ends, openTurn, settingsTurn, eventTurn, turnOf}
+use Rattle.feed_law.specs.Feeds.{Prints, turnBy, turnedTo, TurnedAs, TablesAside}
+use Rattle.feed_law.proofs.Prints.{records-line}
+
+-- ---- a turn's parts, each as it has to be
+
+turned-as : {t : Turn Lent} {out buys sells room out′ : List ℕ} {r : Turned} {stage : Stage} {session : Session} {used wrote : ℕ} →
+    r ≡ turnedTo stage session used wrote → stage ≡ t .stage → lentOf session buys sells room ≡ t .world → used ≡ t .used → Prints out (t .text) wrote out′ →
+    TurnedAs t out buys sells room out′ r
+turned-as {t} {out} {buys} {sells} {room} {out′} e s w u p =
+    record {
+      stage = ap (λ (x : Turned). x .run .stage) e ∙ s;
+      world = ap (λ (x : Turned). lentOf (x .run .session) buys sells room) e ∙ w;
+      used = ap (λ (x : Turned). x .used) e ∙ u;
+      printed = subst (λ (x : Turned). Prints out (t .text) (x .wrote) out′) (sym e) p;
+    }
+
+-- nothing printed leaves the room as it was
+nothing : (out : List ℕ) → Prints out [] 0 out
+nothing out = record { count = refl; laid = refl }
+
+-- ---- settings
+
+-- a bad line
+pub ends-here : {session : Session} (place : ℕ) {wrote : ℕ} {out out′ : List ℕ} {r : Turned} →
+    Prints out (badText LineWrong place) wrote out′ → r ≡ turnedTo Stage.Over session 0 wrote → TablesAside session (λ l. ends calls l place) out out′ r
+ends-here place p e buys sells room = turned-as e refl refl refl p
+
+-- an opening
+module _ (g : Settings) (o : Opened) (used : ℕ) (opened : o ≡ openingOf g) where
+  abbrev Opens : List ℕ → List ℕ → Turned → Type 0
+  Opens out out′ r = TablesAside fixedSession (λ l. openTurn calls l used (openingOf g)) out out′ r
+
+  judged : {v : Verdict} → o .verdict ≡ v → openingOf g .verdict ≡ v
+  judged e = ap (λ (x : Opened). x .verdict) (sym opened) ∙ e
+
+  kept : (buys sells room : List ℕ) → lentOf (o .session) buys sells room ≡ lentOf (openingOf g .session) buys sells room
+  kept buys sells room = ap (λ (x : Opened). lentOf (x .session) buys sells room) opened
+
+  pub opens-fine : {out : List ℕ} {r : Turned} → o .verdict ≡ Fine → r ≡ turnedTo Stage.Trading (o .session) used 0 → Opens out out r
+  unfolding calls
+  opens-fine {out} v e buys sells room =
+      turned-as e (sym (ap stageBy (judged v))) (kept buys sells room) refl (rw (judged v) (nothing out))
+
+  pub opens-refused : {out out′ : List ℕ} {r : Turned} {wrote : ℕ} (q : Refusal) → o .verdict ≡ Refused q → Prints out (badText q 0) wrote out′ →
+      r ≡ turnedTo Stage.Over (o .session) used wrote → Opens out out′ r
+  unfolding calls
+  opens-refused q v p e buys sells room = turned-as e (sym (ap stageBy (judged v))) (kept buys sells room) refl (rw (judged v) p)
+
+-- what the reader answers decides
+module _ (session : Session) (bytes : List ℕ) (a : ReadSettings) (read : SettingsRead bytes a) where
+  abbrev First : List ℕ → List ℕ → Turned → Type 0
+  First out out′ r = TablesAside session (λ l. settingsTurn calls l (readSettings bytes)) out out′ r
+
+  by-settings : {out out′ : List ℕ} {r : Turned} (o : Answer Settings) → settingsAnswer a ≡ o →
+      TablesAside session (λ l. settingsTurn calls l o) out out′ r → First out out′ r
+  by-settings {out} {out′} {r} o e k buys sells room =
+      subst (λ (x : Answer Settings). TurnedAs (settingsTurn calls (lentOf session buys sells room) x) out buys sells room out′ r)
+      (sym e ∙ settings-told bytes a read) (k buys sells room)
+
+  pub settings-whole : {out out′ : List ℕ} {r : Turned} (g : Settings) (n : ℕ) → a ≡ ReadSettings.Whole g n →
+      TablesAside fixedSession (λ l. openTurn calls l n (openingOf g)) out out′ r → First out out′ r
+  unfolding calls
+  settings-whole g n e k = by-settings (whole g n) (ap settingsAnswer e) k
+
+  pub settings-unfinished : {out : List ℕ} {r : Turned} → a ≡ ReadSettings.Unfinished → r ≡ turnedTo Stage.Awaiting session 0 0 → First out out r
+  settings-unfinished {out} e q = by-settings unfinished (ap settingsAnswer e) (λ buys sells room. turned-as q refl refl refl (nothing out))
+
+  pub settings-wrong : {out out′ : List ℕ} {r : Turned} (n : ℕ) → a ≡ ReadSettings.Wrong n → TablesAside session (λ l. ends calls l n) out out′ r → First out out′ r
+  settings-wrong n e k = by-settings (wrong n) (ap settingsAnswer e) k
+
+-- ---- events
+
+module _ (session : Session) (bytes buys sells room : List ℕ) (a : ReadEvent) (read : EventRead bytes a) where
+  abbrev l : Lent
+  l = lentOf session buys sells room
+
+  abbrev Later : List ℕ → List ℕ → List ℕ → List ℕ → List ℕ → Turned → Type 0
+  Later out buys′ sells′ room′ out′ r = TurnedAs (eventTurn calls l (readEvent bytes)) out buys′ sells′ room′ out′ r
+
+  by-event : {out buys′ sells′ room′ out′ : List ℕ} {r : Turned} (o : Answer Event) → eventAnswer a ≡ o →
+      TurnedAs (eventTurn calls l o) out buys′ sells′ room′ out′ r → Later out buys′ sells′ room′ out′ r
+  by-event {out} {buys′} {sells′} {room′} {out′} {r} o e k =
+      subst (λ (x : Answer Event). TurnedAs (eventTurn calls l x) out buys′ sells′ room′ out′ r) (sym e ∙ event-told bytes a read) k
+
+  pub event-whole : {out buys′ sells′ room′ out′ : List ℕ} {r : Turned} (e : Event) (n : ℕ) → a ≡ ReadEvent.Whole e n →
+      TurnedAs (eventTurn calls l (whole e n)) out buys′ sells′ room′ out′ r → Later out buys′ sells′ room′ out′ r
+  event-whole e n q k = by-event (whole e n) (ap eventAnswer q) k
+
+  pub event-unfinished : {out : List ℕ} {r : Turned} → a ≡ ReadEvent.Unfinished → r ≡ turnedTo Stage.Trading session 0 0 → Later out buys sells room out r
+  event-unfinished {out} q e = by-event unfinished (ap eventAnswer q) (turned-as e refl refl refl (nothing out))
+
+  pub event-wrong : {out out′ : List ℕ} {r : Turned} (n : ℕ) → a ≡ ReadEvent.Wrong n → TablesAside session (λ l. ends calls l n) out out′ r →
+      Later out buys sells room out′ r
+  event-wrong n q k = by-event (wrong n) (ap eventAnswer q) (k buys sells room)
+
+-- ---- an event that a call answers
+
+module _ {s : Session} {e : Event} {buys sells room buys′ sells′ room′ : List ℕ} {p : Applied} (k : AppliedAs s e buys sells room buys′ sells′ room′ p) where
+  abbrev reports : List Report
+  reports = called s e buys sells room .reports
+
+  abbrev verdict : Verdict
+  verdict = called s e buys sells room .verdict
+
+  -- a count is that of the reports of an event that is not refused
+  counted : (v : Verdict) (n count : ℕ) → answerBy v n ≡ Reply.Reported count → (v ≡ Fine) × (count ≡ n)
+  counted Fine n count q = (refl, (cc))
+  counted (Refused r) n count q = absurd (let z : _≡_ {A = ℕ} 0 1 = cc in omega arith)
+
+  refused : (v : Verdict) (n : ℕ) (r : Refusal) → answerBy v n ≡ Reply.Refused r → v ≡ Refused r
+  refused Fine n r q = absurd (let z : _≡_ {A = ℕ} 0 1 = cc in omega arith)
+  refused (Refused r′) n r q = cc
+
+  by-count : {count : ℕ} → p .answer ≡ Reply.Reported count → (verdict ≡ Fine) × (count ≡ length reports)
+  by-count q = counted verdict (length reports) _ (sym (k .answer) ∙ q)
+
+  -- the room holds the records, and the output room their lines
+  pub reports-held : {count : ℕ} → p .answer ≡ Reply.Reported count → length room′ ≡ length room → recordLength * count ≤ length room′
+  unfolding roomy
+  reports-held q h =
+      let c = by-count q in
+      let few = called-few s e buys sells room in
+      let long : roomLength ≤ length room = leb-true roomLength (length room) (both (fine-roomy s e buys sells room (c .0)) .1) in
+      omega (arith, c .1)
+
+  pub lines-held : {count : ℕ} (out : List ℕ) → p .answer ≡ Reply.Reported count → textMost ≤ length out → lineRoom * count ≤ length out
+  lines-held out q h =
+      let c = by-count q in
+      let few = called-few s e buys sells room in
+      omega (arith, c .1)
+
+  left : {after : Session} → after ≡ p .session → lentOf after buys′ sells′ room′ ≡ calls .next (lentOf s buys sells room) e
+  unfolding calls
+  left q = λ i. lentOf ((q ∙ k .session) i) (k .bought i) (k .sold i) (k .told i)
+
+  -- its reports are told
+  pub goes-told : (count : ℕ) {used wrote : ℕ} {after : Session} {out out′ : List ℕ} {r : Turned} → p .answer ≡ Reply.Reported count → after ≡ p .session →
+      Prints out (recordsText count room′) wrote out′ → r ≡ turnedTo Stage.Trading after used wrote →
+      TurnedAs (eventTurn calls (lentOf s buys sells room) (whole e used)) out buys′ sells′ room′ out′ r
+  unfolding calls
+  goes-told count {used} {wrote} {after} {out} {out′} q f t h =
+      let c = by-count q in
+      let text : recordsText count room′ ≡ eventText e verdict reports =
+      (λ i. recordsText (c .1 i) (k .told i)) ∙ records-line reports room ∙ ap (λ (v : Verdict). eventText e v reports) (sym (c .0)) in
+      turned-as h refl (left f) refl (subst (λ (x : List ℕ). Prints out x wrote out′) text t)
+
+  -- or its refusal
+  pub goes-refused : (time : ℕ) {used wrote : ℕ} {after : Session} {out out′ : List ℕ} {r : Turned} (n : Refusal) → p .answer ≡ Reply.Refused n → after ≡ p .session →
+      time ≡ e .time → Prints out (refusedText time n) wrote out′ → r ≡ turnedTo Stage.Trading after used wrote →
+      TurnedAs (eventTurn calls (lentOf s buys sells room) (whole e used)) out buys′ sells′ room′ out′ r
+  unfolding calls
+  goes-refused time {used} {wrote} {after} {out} {out′} n q f g t h =
+      let v : verdict ≡ Refused n = refused verdict (length reports) n (sym (k .answer) ∙ q) in
+      let text : refusedText time n ≡ eventText e verdict reports = ap (λ (x : ℕ). refusedText x n) g ∙ ap (λ (x : Verdict). eventText e x reports) (sym v) in
+      turned-as h refl (left f) refl (subst (λ (x : List ℕ). Prints out x wrote out′) text t)
+
+-- ---- by where the run stands
+
+module _ (run : Run) (buys sells room bytes : List ℕ) where
+  pub in-stage : {out buys′ sells′ room′ out′ : List ℕ} {r : Turned} (stage : Stage) → run .stage ≡ stage →
+      TurnedAs (turnOf calls stage (lentOf (run .session) buys sells room) bytes) out buys′ sells′ room′ out′ r →
+      TurnedAs (turnBy run buys sells room bytes) out buys′ sells′ room′ out′ r
+  in-stage {out} {buys′} {sells′} {room′} {out′} {r} stage e k =
+      subst (λ (x : Stage). TurnedAs (turnOf calls x (lentOf (run .session) buys sells room) bytes) out buys′ sells′ room′ out′ r) (sym e) k
+
+  pub stays-over : {out : List ℕ} {r : Turned} → run .stage ≡ Stage.Over → r ≡ turnedTo Stage.Over (run .session) 0 0 →
+      TurnedAs (turnBy run buys sells room bytes) out buys sells room out r
+  stays-over {out} e q = in-stage Stage.Over e (turned-as q refl refl refl (nothing out))

@@ -1,0 +1,82 @@
+-- Document 01, "Session lines": what the program prints.
+use Prim.Native.Nat.{ℕ, zero, suc, _*_}
+use mathlib.Core.Bool.{cond}
+use mathlib.Core.List.{List, [], _∷_, _++_}
+use lib.ListN.{getD, drop}
+use lib.Dec.{eqb}
+use Rattle.terms.specs.declared.Event.{Event}
+use Rattle.terms.specs.declared.Report.{Report}
+use Rattle.terms.specs.declared.Refusal.{Refusal}
+use Rattle.terms.specs.declared.Refusal.the-variants.{LineUnfinished}
+use Rattle.terms.specs.declared.Verdict.{Verdict}
+use Rattle.terms.specs.declared.Verdict.the-variants.{Fine, Refused}
+use Rattle.terms.specs.Sizes.{lineRoom, reportsMost, recordLength}
+use Rattle.text_law.specs.Numerals.{allWritable}
+use Rattle.writing.specs.Lines.{reportNumbers, renderReport, refusedNumbers, renderRefused, badNumbers, renderBad}
+use Rattle.records.specs.declared.ReadRecord.{ReadRecord}
+use Rattle.records.specs.Back.{reportFrom}
+use Rattle.feed_law.specs.declared.Stage.{Stage}
+
+-- the most that one line of input can print: a line for each of an event's reports
+abbrev pub textMost : ℕ
+textMost = reportsMost * lineRoom
+
+-- a line, where each of its numbers can be written
+abbrev pub written : List ℕ → List ℕ → List ℕ
+written numbers line = cond (allWritable numbers) line []
+
+-- ---- reports
+
+unfoldable pub reportText : Report → List ℕ
+reportText r = written (reportNumbers r) (renderReport r)
+
+unfoldable pub reportsText : List Report → List ℕ
+reportsText [] = []
+reportsText (r ∷ rs) = reportText r ++ reportsText rs
+
+-- ---- what is refused, and what is bad
+
+-- "A refused event prints `t=5 say=refuse code=8` with its own time"
+unfoldable pub refusedText : ℕ → Refusal → List ℕ
+refusedText time r = written (refusedNumbers time r) (renderRefused time r)
+
+-- "a bad line prints `say=bad code=15 at=3`, the place counted from that line's start"
+unfoldable pub badText : Refusal → ℕ → List ℕ
+badText r place = written (badNumbers r place) (renderBad r place)
+
+-- ---- by what a line of input is answered
+
+-- an event: its reports, or its refusal
+abbrev pub eventText : Event → Verdict → List Report → List ℕ
+eventText e Fine rs = reportsText rs
+eventText e (Refused r) rs = refusedText (e .time) r
+
+-- settings: nothing; "refused settings print 12 or 13 with at=0"
+abbrev pub settingsText : Verdict → List ℕ
+settingsText Fine = []
+settingsText (Refused r) = badText r 0
+
+-- the end of the input, with so many bytes behind the last line: "Bytes after the last newline that begin a line print code=14 with
+-- their count; so does input with no settings line. Input that ends after a whole line prints nothing more."
+abbrev pub endText : Stage → ℕ → List ℕ
+endText Stage.Awaiting n = badText LineUnfinished n
+endText Stage.Trading n = cond (eqb n 0) [] (badText LineUnfinished n)
+endText Stage.Over n = []
+
+-- ---- records: the lines of the first so many in a room
+
+abbrev pub toldText : ReadRecord → List ℕ
+toldText (ReadRecord.Told r) = reportText r
+toldText ReadRecord.Nothing = []
+
+-- what the first six of some numbers tell
+abbrev pub firstRecord : List ℕ → ReadRecord
+firstRecord ns = reportFrom (getD ns 0 0) (getD ns 1 0) (getD ns 2 0) (getD ns 3 0) (getD ns 4 0) (getD ns 5 0)
+
+-- the line of that record; of numbers that are no report's, none
+unfoldable pub recordText : List ℕ → List ℕ
+recordText ns = toldText (firstRecord ns)
+
+unfoldable pub recordsText : ℕ → List ℕ → List ℕ
+recordsText zero room = []
+recordsText (suc n) room = recordText room ++ recordsText n (drop recordLength room)

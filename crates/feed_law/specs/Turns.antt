@@ -1,0 +1,115 @@
+-- Document 01, "Session lines": a run of the program, a line at a time. "After each line the rest of the bytes is handed on from there".
+use Prim.Native.Nat.{ℕ, zero, suc, _+_, _-_}
+use mathlib.Core.Bool.{Bool, cond}
+use mathlib.Core.List.{List, [], _∷_, _++_}
+use lib.ListN.{length, drop}
+use lib.Dec.{ltb, eqb}
+use Rattle.terms.specs.declared.Event.{Event}
+use Rattle.terms.specs.declared.Settings.{Settings}
+use Rattle.terms.specs.declared.Refusal.the-variants.{LineWrong}
+use Rattle.terms.specs.declared.Verdict.{Verdict}
+use Rattle.terms.specs.declared.Verdict.the-variants.{Fine, Refused}
+use Rattle.text_law.specs.Grammar.{Answer, whole, unfinished, wrong}
+use Rattle.reading.specs.Answers.{readEvent, readSettings}
+use Rattle.state_law.specs.declared.Opened.{Opened}
+use Rattle.state_law.specs.Opening.{openingOf, fixedSession}
+use Rattle.state_law.specs.Day.{Day}
+use Rattle.feed_law.specs.declared.Stage.{Stage}
+use Rattle.feed_law.specs.declared.Stop.{Stop}
+use Rattle.feed_law.specs.Texts.{textMost, eventText, settingsText, badText, endText}
+use Rattle.feed_law.specs.Worlds.{World, days}
+
+-- where a run stands after the first line of some bytes: how many bytes that line has, 0 where none was taken; and what it prints
+pub record Turn (W : Type 0) : Type 0 where
+  pub stage : Stage
+  pub world : W
+  pub used : ℕ
+  pub text : List ℕ
+
+-- where a run stands after many lines, and why it stopped
+pub record Fed (W : Type 0) : Type 0 where
+  pub stage : Stage
+  pub world : W
+  pub used : ℕ
+  pub text : List ℕ
+  pub stop : Stop
+
+-- "a bad line and refused settings end the run, a refused event doesn't"
+abbrev pub stageBy : Verdict → Stage
+stageBy Fine = Stage.Trading
+stageBy (Refused r) = Stage.Over
+
+abbrev pub stopAt : Stage → Stop
+stopAt Stage.Awaiting = Stop.Waits
+stopAt Stage.Trading = Stop.Waits
+stopAt Stage.Over = Stop.Over
+
+module _ {W : Type 0} (on : World W) where
+  -- ---- one line
+
+  -- no whole line is there yet
+  abbrev pub waits : Stage → W → Turn W
+  waits stage w = record { stage = stage; world = w; used = 0; text = [] }
+
+  -- a line that is wrong ends the run
+  abbrev pub ends : W → ℕ → Turn W
+  ends w place = record { stage = Stage.Over; world = w; used = 0; text = badText LineWrong place }
+
+  abbrev pub openTurn : W → ℕ → Opened → Turn W
+  openTurn w n o = record { stage = stageBy (o .verdict); world = on .opened w (o .session); used = n; text = settingsText (o .verdict) }
+
+  abbrev pub settingsTurn : W → Answer Settings → Turn W
+  settingsTurn w (whole g n) = openTurn w n (openingOf g)
+  settingsTurn w unfinished = waits Stage.Awaiting w
+  settingsTurn w (wrong n) = ends w n
+
+  abbrev pub eventTurn : W → Answer Event → Turn W
+  eventTurn w (whole e n) =
+      record { stage = Stage.Trading; world = on .next w e; used = n; text = eventText e (on .verdict w e) (on .reports w e) }
+  eventTurn w unfinished = waits Stage.Trading w
+  eventTurn w (wrong n) = ends w n
+
+  -- settings first, then events; after a bad line nothing
+  abbrev pub turnOf : Stage → W → List ℕ → Turn W
+  turnOf Stage.Awaiting w bytes = settingsTurn w (readSettings bytes)
+  turnOf Stage.Trading w bytes = eventTurn w (readEvent bytes)
+  turnOf Stage.Over w bytes = waits Stage.Over w
+
+  -- ---- all of them
+
+  -- what is printed for all the bytes that are left, up to n lines of them
+  unfoldable pub printedIn : ℕ → Stage → W → List ℕ → List ℕ
+  printedIn zero stage w bytes = endText stage (length bytes)
+  printedIn (suc n) stage w bytes =
+      let t : Turn W = turnOf stage w bytes in
+      t .text
+      ++ cond (eqb (t .used) 0) (endText (t .stage) (length bytes)) (printedIn n (t .stage) (t .world) (drop (t .used) bytes))
+
+  -- a line has a byte at least
+  abbrev pub printedFrom : Stage → W → List ℕ → List ℕ
+  printedFrom stage w bytes = printedIn (length bytes) stage w bytes
+
+  -- ---- as many as there is room for: a line is taken only where whatever it prints fits in what is left
+
+  abbrev pub halted : Stop → Stage → W → Fed W
+  halted stop stage w = record { stage = stage; world = w; used = 0; text = []; stop = stop }
+
+  -- a turn, and what follows it
+  abbrev pub lastly : Turn W → Fed W
+  lastly t = record { stage = t .stage; world = t .world; used = 0; text = t .text; stop = stopAt (t .stage) }
+
+  abbrev pub ahead : Turn W → Fed W → Fed W
+  ahead t f = record { stage = f .stage; world = f .world; used = t .used + f .used; text = t .text ++ f .text; stop = f .stop }
+
+  unfoldable pub fedIn : ℕ → ℕ → Stage → W → List ℕ → Fed W
+  fedIn zero left stage w bytes = halted (stopAt stage) stage w
+  fedIn (suc n) left stage w bytes =
+      let t : Turn W = turnOf stage w bytes in
+      let more : Fed W = fedIn n (left - length (t .text)) (t .stage) (t .world) (drop (t .used) bytes) in
+      cond (ltb 0 (length bytes))
+      (cond (ltb left textMost) (halted Stop.Full stage w) (cond (eqb (t .used) 0) (lastly t) (ahead t more)))
+      (halted (stopAt stage) stage w)
+
+-- THE PROGRAM: its input, and all that it prints
+unfoldable pub printed : List ℕ → List ℕ
+printed bytes = printedFrom days Stage.Awaiting (record { session = fixedSession; buys = []; sells = [] }) bytes

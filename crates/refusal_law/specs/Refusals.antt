@@ -1,0 +1,117 @@
+-- Document 01, "Refusal numbers, first that applies": 2 to 11, those of an event on a day.
+use Prim.Native.Nat.{ℕ}
+use mathlib.Core.Bool.{Bool, true, _||_, not}
+use mathlib.Core.List.{List, [], _∷_}
+use lib.Dec.{leb, ltb}
+use lib.ListN.{length}
+use Rattle.terms.specs.declared.Event.{Event}
+use Rattle.terms.specs.declared.Act.{Act}
+use Rattle.terms.specs.declared.Act.the-variants.{Enter, Withdraw, Under, Clock, Finish}
+use Rattle.terms.specs.declared.Kind.{Kind}
+use Rattle.terms.specs.declared.Kind.the-variants.{Limit, Market}
+use Rattle.terms.specs.declared.Life.{Life}
+use Rattle.terms.specs.declared.Life.the-variants.{AllDay, Ioc}
+use Rattle.terms.specs.declared.Band.{Band}
+use Rattle.terms.specs.declared.Refusal.the-variants.{Unsound, Closed, NumberRange, TimeBack, OutOfHours, OffTick, OutsideBand, NotResting, SideFull, DayFull}
+use Rattle.terms.specs.declared.Verdict.{Verdict}
+use Rattle.terms.specs.Truth.{_⊓_}
+use Rattle.terms.specs.Sizes.{slots, numbersMost, tradesBefore}
+use Rattle.terms.specs.Numbers.{isPrice, isLots, isTime, isNumber, onTick}
+use Rattle.terms.specs.Refusals.{Rule, unless, firstFailed}
+use Rattle.rules_law.specs.Slabs.{inBand}
+use Rattle.book_law.specs.Priority.{rests}
+use Rattle.state_law.specs.Now.{bandNow}
+use Rattle.state_law.specs.Clock.{clockStep}
+use Rattle.state_law.specs.Day.{Day, own}
+use Rattle.soundness_law.specs.Sound.{sound}
+
+-- a test of the limit price; a market order has none
+abbrev pub ofLimit : (ℕ → Bool) → Kind → Bool
+ofLimit test (Limit price) = test price
+ofLimit test Market = true
+
+-- 4: "a number of the event out of its range"
+unfoldable pub numbersRight : Act → Bool
+numbersRight (Enter n) = isLots (n .lots) ⊓ ofLimit isPrice (n .kind)
+numbersRight (Withdraw number) = isNumber number
+numbersRight (Under price) = isPrice price
+numbersRight Clock = true
+numbersRight (Finish settle) = isPrice settle
+
+-- 6: "close before the length, any other at or after it"
+unfoldable pub inHours : Act → ℕ → ℕ → Bool
+inHours (Enter n) t length = ltb t length
+inHours (Withdraw number) t length = ltb t length
+inHours (Under price) t length = ltb t length
+inHours Clock t length = ltb t length
+inHours (Finish settle) t length = leb length t
+
+-- 7: "limit or settlement not a tick multiple"
+unfoldable pub ticksRight : ℕ → Act → Bool
+ticksRight tick (Enter n) = ofLimit (onTick tick) (n .kind)
+ticksRight tick (Withdraw number) = true
+ticksRight tick (Under price) = true
+ticksRight tick Clock = true
+ticksRight tick (Finish settle) = onTick tick settle
+
+-- 8: "limit outside the band"
+unfoldable pub bandRight : Band → Act → Bool
+bandRight band (Enter n) = ofLimit (inBand band) (n .kind)
+bandRight band (Withdraw number) = true
+bandRight band (Under price) = true
+bandRight band Clock = true
+bandRight band (Finish settle) = true
+
+-- 9: "cancel: no such resting order"
+unfoldable pub finds : Day → Act → Bool
+finds d (Enter n) = true
+finds d (Withdraw number) = rests number (d .buys) || rests number (d .sells)
+finds d (Under price) = true
+finds d Clock = true
+finds d (Finish settle) = true
+
+abbrev pub lifeHasPlace : Life → ℕ → Bool
+lifeHasPlace AllDay held = ltb held slots
+lifeHasPlace Ioc held = true
+
+-- 10: "day order, its own side holds 256"
+unfoldable pub hasPlace : Day → Act → Bool
+hasPlace d (Enter n) = lifeHasPlace (n .life) (length (own (n .side) d))
+hasPlace d (Withdraw number) = true
+hasPlace d (Under price) = true
+hasPlace d Clock = true
+hasPlace d (Finish settle) = true
+
+-- 11: "order, and 60,000 orders given or over 59,744 trades made"
+unfoldable pub hasNumbers : ℕ → ℕ → Act → Bool
+hasNumbers given trades (Enter n) = ltb given numbersMost ⊓ leb trades tradesBefore
+hasNumbers given trades (Withdraw number) = true
+hasNumbers given trades (Under price) = true
+hasNumbers given trades Clock = true
+hasNumbers given trades (Finish settle) = true
+
+-- rows 8 to 11; "bands are judged after the clock steps"
+abbrev pub bookRules : Day → Event → List Rule
+bookRules d e =
+    unless OutsideBand (bandRight (bandNow (clockStep (d .session) (e .time))) (e .act))
+    ∷ unless NotResting (finds d (e .act))
+    ∷ unless SideFull (hasPlace d (e .act))
+    ∷ unless DayFull (hasNumbers (d .session .given) (d .session .tape .trades) (e .act))
+    ∷ []
+
+-- rows 3 to 11
+abbrev pub laterRules : Day → Event → List Rule
+laterRules d e =
+    unless Closed (not (d .session .closed))
+    ∷ unless NumberRange (isTime (e .time) ⊓ numbersRight (e .act))
+    ∷ unless TimeBack (leb (d .session .time) (e .time))
+    ∷ unless OutOfHours (inHours (e .act) (e .time) (d .session .settings .length))
+    ∷ unless OffTick (ticksRight (d .session .settings .tick) (e .act))
+    ∷ bookRules d e
+
+-- the table's rows 2 to 11, in its order
+abbrev pub rules : Day → Event → List Rule
+rules d e = unless Unsound (sound d) ∷ laterRules d e
+
+unfoldable pub refusalOf : Day → Event → Verdict
+refusalOf d e = firstFailed (rules d e)

@@ -1,0 +1,32 @@
+-- What code knows of a session and the tables that are lent with it, before it looks into them.
+use Prim.Native.Nat.{ℕ, _≤_}
+use mathlib.Core.Bool.{Bool, true}
+use mathlib.Core.List.{List}
+use lib.ListN.{length}
+use Rattle.terms.specs.declared.Side.{Side}
+use Rattle.terms.specs.declared.Side.the-variants.{Buy, Sell}
+use Rattle.terms.specs.declared.Act.{Act}
+use Rattle.terms.specs.declared.Act.the-variants.{Enter, Withdraw, Under, Clock, Finish}
+use Rattle.terms.specs.Sizes.{slots, tableLength}
+use Rattle.state_law.specs.declared.Session.{Session}
+use Rattle.refusal_law.specs.Refusals.{lifeHasPlace}
+
+-- the tables are long enough, and the live counts are no more than they have slots for
+pub record Tabled (s : Session) (buys sells : List ℕ) : Type 0 where
+  pub buys-few : s .buys ≤ slots
+  pub sells-few : s .sells ≤ slots
+  pub buys-long : tableLength ≤ length buys
+  pub sells-long : tableLength ≤ length sells
+
+-- the live count of a side
+abbrev pub liveOn : Side → Session → ℕ
+liveOn Buy s = s .buys
+liveOn Sell s = s .sells
+
+-- row 10, by the live counts
+unfoldable pub placeFor : Session → Act → Bool
+placeFor s (Enter n) = lifeHasPlace (n .life) (liveOn (n .side) s)
+placeFor s (Withdraw number) = true
+placeFor s (Under price) = true
+placeFor s Clock = true
+placeFor s (Finish settle) = true

@@ -1,9 +1,0 @@
-pub mod Bands
-pub mod Rows
-pub mod Table
-pub mod Factors
-pub mod Minutes
-pub mod Ranges
-pub mod Averages
-pub mod Worked
-pub mod Tapes

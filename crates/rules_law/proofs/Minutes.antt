@@ -1,0 +1,80 @@
+-- The boundaries of minutes: two steps of time are one, and a second boundary without trades settles the reference. Assumes nothing.
+use Prim.Native.Nat.{ℕ, zero, suc, _+_, _-_, _/_, _≤_}
+use native.Mathlib.Omega.{arith}
+use native.Mathlib.Nat.{zero-add, suc-add}
+use mathlib.Core.Path.{_≡_, refl, sym, ap, _∙_}
+use borrow.Author.Tests.{eq-eqb, ne-eqb}
+use lib.Dec.{eqb}
+use Rattle.terms.proofs.Logic.{cases}
+use Rattle.rules_law.specs.declared.Reckoning.{Reckoning}
+use Rattle.rules_law.specs.Reference.{theoreticalOr, quiet, boundary, boundaries, crossed, reckoned}
+
+-- boundaries one after the other
+pub boundaries-add : (j k under days : ℕ) (r : Reckoning) → boundaries k under days (boundaries j under days r) ≡ boundaries (j + k) under days r
+unfolding boundaries
+boundaries-add zero k under days r = rw (zero-add k)
+boundaries-add (suc j) k under days r = rw (suc-add j k) (boundaries-add j k under days (boundary under days r))
+
+crossed-add : (s t u : ℕ) → s ≤ t → t ≤ u → crossed s t + crossed t u ≡ crossed s u
+crossed-add s t u h k = omega arith
+
+-- TWO STEPS OF TIME ARE ONE: up to t and then up to u is up to u
+pub reckoned-twice : (r : Reckoning) (under days s t u : ℕ) → s ≤ t → t ≤ u → reckoned (reckoned r under days s t) under days t u ≡ reckoned r under days s u
+unfolding reckoned
+reckoned-twice r under days s t u h k =
+    boundaries-add (crossed s t) (crossed t u) under days r
+    ∙ ap (λ (n : ℕ). boundaries n under days r) (crossed-add s t u h k)
+
+-- ---- for the code, which reckons at most two boundaries
+
+or-settles : (x u d : ℕ) → theoreticalOr (theoreticalOr x u d) u d ≡ theoreticalOr x u d
+unfolding theoreticalOr
+or-settles x u d = cases (eqb u 0) (λ e. rw e) (λ e. rw e)
+
+boundary-settles : (u d : ℕ) (r : Reckoning) → boundary u d (boundary u d (boundary u d r)) ≡ boundary u d (boundary u d r)
+boundary-settles u d r = ap quiet (or-settles (boundary u d r .reference) u d)
+
+-- a second boundary is as good as any number of them
+boundaries-settle : (k u d : ℕ) (r : Reckoning) → boundaries (suc (suc k)) u d r ≡ boundary u d (boundary u d r)
+unfolding boundaries
+boundaries-settle zero u d r = refl
+boundaries-settle (suc k) u d r = boundaries-settle k u d (boundary u d r) ∙ boundary-settles u d r
+
+boundary-quiet : (u d : ℕ) (r : Reckoning) → r .minute .count ≡ 0 → boundary u d r ≡ quiet (theoreticalOr (r .reference) u d)
+boundary-quiet u d r e = rw (eq-eqb (r .minute .count) 0 e)
+
+boundary-busy : (u d : ℕ) (r : Reckoning) → (r .minute .count ≡ 0 → ⊥) → boundary u d r ≡ quiet (r .minute .sum / r .minute .count)
+boundary-busy u d r n = rw (ne-eqb (r .minute .count) 0 n)
+
+quiet-at : (k u d : ℕ) (r : Reckoning) → (k ≡ 0 → ⊥) → r .minute .count ≡ 0 → boundaries k u d r ≡ quiet (theoreticalOr (r .reference) u d)
+unfolding boundaries
+quiet-at zero u d r n e = absurd (n refl)
+quiet-at (suc zero) u d r n e = boundary-quiet u d r e
+quiet-at (suc (suc k)) u d r n e =
+    boundaries-settle k u d r
+    ∙ (ap (boundary u d) (boundary-quiet u d r e) ∙ ap quiet (or-settles (r .reference) u d))
+
+busy-at : (k u d : ℕ) (r : Reckoning) → (k ≡ 0 → ⊥) → (k ≡ 1 → ⊥) → (r .minute .count ≡ 0 → ⊥) → boundaries k u d r ≡ quiet (theoreticalOr (r .minute .sum / r .minute .count) u d)
+busy-at zero u d r n m e = absurd (n refl)
+busy-at (suc zero) u d r n m e = absurd (m refl)
+busy-at (suc (suc k)) u d r n m e = boundaries-settle k u d r ∙ ap (boundary u d) (boundary-busy u d r e)
+
+-- the four answers of the code
+module _ (r : Reckoning) (u d s t : ℕ) where
+  pub reckon-none : crossed s t ≡ 0 → r ≡ reckoned r u d s t
+  unfolding reckoned boundaries
+  reckon-none e = rw e
+
+  pub reckon-quiet : (x : Reckoning) (p : ℕ) → x ≡ quiet p → p ≡ theoreticalOr (r .reference) u d → (crossed s t ≡ 0 → ⊥) → r .minute .count ≡ 0 → x ≡ reckoned r u d s t
+  unfolding reckoned
+  reckon-quiet x p q h n e = q ∙ (ap quiet h ∙ sym (quiet-at (crossed s t) u d r n e))
+
+  pub reckon-once : (x : Reckoning) → x ≡ quiet (r .minute .sum / r .minute .count) → crossed s t ≡ 1 → (r .minute .count ≡ 0 → ⊥) → x ≡ reckoned r u d s t
+  unfolding reckoned boundaries
+  reckon-once x q e n = q ∙ rw e (sym (boundary-busy u d r n))
+
+  pub reckon-busy : (x : Reckoning) (p : ℕ) → x ≡ quiet p → p ≡ theoreticalOr (r .minute .sum / r .minute .count) u d → (crossed s t ≡ 0 → ⊥) → (crossed s t ≡ 1 → ⊥) → (r .minute .count ≡ 0 → ⊥) → x ≡ reckoned r u d s t
+  unfolding reckoned
+  reckon-busy x p q h n m e = q ∙ (ap quiet h ∙ sym (busy-at (crossed s t) u d r n m e))
+
+pub ruleset reckonings = (reckon-none, reckon-quiet, reckon-once, reckon-busy)

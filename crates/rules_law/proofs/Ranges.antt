@@ -1,0 +1,57 @@
+-- The range and the mark as code tests them, by whole paise: for any price, without a product that could wrap. Assumes nothing.
+use Prim.Native.Nat.{ℕ, _+_, _-_, _*_, _/_, _≤_, _<_}
+use native.Mathlib.Omega.{arith}
+use native.Mathlib.Nat.{mul-le-mul}
+use mathlib.Core.Path.{_≡_, refl}
+use mathlib.Core.Bool.{Bool, true}
+use borrow.Author.Tests.{leb-true, ltb-true, le-leb, lt-ltb}
+use lib.Dec.{leb, ltb}
+use Rattle.terms.specs.declared.Side.{Side}
+use Rattle.terms.specs.declared.Side.the-variants.{Buy, Sell}
+use Rattle.terms.proofs.Logic.{same}
+use Rattle.rules_law.specs.declared.Range.{Range}
+use Rattle.rules_law.specs.Reference.{inRange, RangeFits, referenceMost}
+use Rattle.rules_law.specs.Mark.{beyondMark, markMost}
+
+-- ---- the range
+
+-- a whole distance k is within the reach n/200 when 200×k is at most n
+reach : (k n : ℕ) → leb k (n / 200) ≡ leb (200 * k) n
+reach k n =
+    same (leb k (n / 200)) (leb (200 * k) n)
+    (λ e. le-leb (200 * k) n (omega (arith, leb-true k (n / 200) e)))
+    (λ e. le-leb k (n / 200) (omega (arith, leb-true (200 * k) n e)))
+
+pub range-below : (r : Range) (x : ℕ) → x < r .reference → leb (r .reference - x) (r .percent * r .reference / 200) ≡ inRange r x
+unfolding inRange
+range-below r x h =
+    let e : x - r .reference + (r .reference - x) ≡ r .reference - x = omega arith in
+    rw e (reach (r .reference - x) (r .percent * r .reference))
+
+pub range-above : (r : Range) (x : ℕ) → r .reference ≤ x → leb (x - r .reference) (r .percent * r .reference / 200) ≡ inRange r x
+unfolding inRange
+range-above r x h =
+    let e : x - r .reference + (r .reference - x) ≡ x - r .reference = omega arith in
+    rw e (reach (x - r .reference) (r .percent * r .reference))
+
+pub range-product : (r : Range) → RangeFits r → r .percent * r .reference ≤ 100 * referenceMost
+range-product r f = mul-le-mul (f .percent-small) (f .reference-small)
+
+-- a price in range is not far above the reference, so a first trade's mark fits
+pub in-range-small : (r : Range) (x : ℕ) → RangeFits r → inRange r x ≡ true → x ≤ markMost
+unfolding inRange
+in-range-small r x f e = omega (arith, range-product r f, leb-true (200 * (x - r .reference + (r .reference - x))) (r .percent * r .reference) e)
+
+-- ---- the mark
+
+pub mark-buy : (m x : ℕ) → ltb (102 * m / 100) x ≡ beyondMark Buy m x
+mark-buy m x =
+    same (ltb (102 * m / 100) x) (ltb (102 * m) (100 * x))
+    (λ e. lt-ltb (102 * m) (100 * x) (omega (arith, ltb-true (102 * m / 100) x e)))
+    (λ e. lt-ltb (102 * m / 100) x (omega (arith, ltb-true (102 * m) (100 * x) e)))
+
+pub mark-sell : (m x : ℕ) → ltb x ((98 * m + 99) / 100) ≡ beyondMark Sell m x
+mark-sell m x =
+    same (ltb x ((98 * m + 99) / 100)) (ltb (100 * x) (98 * m))
+    (λ e. lt-ltb (100 * x) (98 * m) (omega (arith, ltb-true x ((98 * m + 99) / 100) e)))
+    (λ e. lt-ltb x ((98 * m + 99) / 100) (omega (arith, ltb-true (100 * x) (98 * m) e)))

@@ -1,0 +1,98 @@
+-- Document 01, "A session is sound when". A part of the paragraph a definition.
+use Prim.Native.Nat.{ℕ, _+_, _*_}
+use mathlib.Core.Bool.{Bool, true, _||_}
+use mathlib.Core.List.{List, [], _∷_}
+use lib.Dec.{leb, ltb, eqb}
+use lib.ListN.{length, take}
+use Rattle.terms.specs.Truth.{_⊓_, between}
+use Rattle.terms.specs.Sizes.{slots, priceMost, lotsMost, numbersMost, tradesMost}
+use Rattle.terms.specs.Numbers.{isPrice, isLots, isTime, onTick}
+use Rattle.terms.specs.Settings.{settingsValid}
+use Rattle.rules_law.specs.declared.Minute.{Minute}
+use Rattle.rules_law.specs.declared.Tally.{Tally}
+use Rattle.rules_law.specs.declared.Tape.{Tape}
+use Rattle.rules_law.specs.Slabs.{coolingLength}
+use Rattle.rules_law.specs.Reference.{referenceMost}
+use Rattle.rules_law.specs.Close.{kept}
+use Rattle.tables.specs.Tables.{decode}
+use Rattle.audit_law.specs.Sound.{bookSound}
+use Rattle.state_law.specs.declared.Session.{Session}
+use Rattle.state_law.specs.Now.{bandNow}
+use Rattle.state_law.specs.Day.{Day}
+
+-- "its time is at most 86,400,000, and below the length until closed"
+unfoldable pub timeSound : Session → Bool
+timeSound s = isTime (s .time) ⊓ (s .closed || ltb (s .time) (s .settings .length))
+
+-- "live counts are at most 256"
+unfoldable pub countsSound : Session → Bool
+countsSound s = leb (s .buys) slots ⊓ leb (s .sells) slots
+
+-- "the slab is initial or enhanced, with a cooling-off only in the initial, its end at most 900,000 after the session's time"
+unfoldable pub slabSound : Session → Bool
+slabSound s = leb (s .widened) 1 ⊓ (eqb (s .widened) 0 || eqb (s .cooling) 0) ⊓ leb (s .cooling) (s .time + coolingLength)
+
+-- "reference is 1 to 110,600,000, underlying 0 to 100,000,000; orders given and trades at most 60,000"
+unfoldable pub numbersSound : Session → Bool
+numbersSound s =
+    between 1 (s .reckoning .reference) referenceMost
+    ⊓ leb (s .under) priceMost
+    ⊓ leb (s .given) numbersMost
+    ⊓ leb (s .tape .trades) tradesMost
+
+-- each passes a test
+unfoldable pub every : (ℕ → Bool) → List ℕ → Bool
+every test [] = true
+every test (x ∷ xs) = test x ⊓ every test xs
+
+-- "a price that is a positive tick multiple up to 100,000,000"
+abbrev pub priceSound : ℕ → ℕ → Bool
+priceSound tick price = isPrice price ⊓ onTick tick price
+
+-- "the remembered trades number the smaller of ten and all; .. each remembered trade has 1 to 10,000 lots and a price that is a
+-- positive tick multiple up to 100,000,000"
+unfoldable pub rememberedSound : ℕ → Tape → Bool
+rememberedSound tick t = every (priceSound tick) (take (kept (t .trades)) (t .prices)) ⊓ every isLots (take (kept (t .trades)) (t .sizes))
+
+-- "half-hour .. counts are at most all trades; .. half-hour lots lie between the count and 10,000 times it, their price×lots sum
+-- between lots×tick and lots×100,000,000"
+unfoldable pub halfSound : ℕ → ℕ → Tally → Bool
+halfSound tick trades h =
+    leb (h .count) trades
+    ⊓ between (h .count) (h .lots) (lotsMost * h .count)
+    ⊓ between (h .lots * tick) (h .value) (h .lots * priceMost)
+
+-- "minute counts are at most all trades; .. the minute's price sum lies between its count and 100,000,000 times it"
+unfoldable pub minuteSound : ℕ → Minute → Bool
+minuteSound trades m = leb (m .count) trades ⊓ between (m .count) (m .sum) (priceMost * m .count)
+
+-- the numbers of a session that are no trades
+unfoldable pub clockSound : Session → Bool
+clockSound s = settingsValid (s .settings) ⊓ timeSound s ⊓ countsSound s ⊓ slabSound s ⊓ numbersSound s
+
+-- what it remembers of trades
+unfoldable pub tapeSound : Session → Bool
+tapeSound s =
+    halfSound (s .settings .tick) (s .tape .trades) (s .tape .half)
+    ⊓ minuteSound (s .tape .trades) (s .reckoning .minute)
+    ⊓ rememberedSound (s .settings .tick) (s .tape)
+
+-- the numbers of a session, but for its live orders
+unfoldable pub sessionSound : Session → Bool
+sessionSound s = clockSound s ⊓ tapeSound s
+
+-- the live counts are those of the orders
+unfoldable pub counted : Day → Bool
+counted d = eqb (d .session .buys) (length (d .buys)) ⊓ eqb (d .session .sells) (length (d .sells))
+
+-- A SESSION IS SOUND, with its orders
+unfoldable pub sound : Day → Bool
+sound d =
+    sessionSound (d .session)
+    ⊓ counted d
+    ⊓ bookSound (d .session .given) (d .session .settings .tick) (bandNow (d .session)) (d .buys) (d .sells)
+
+-- ---- the day that a session and two tables hold: as many orders of each table as the session has live
+
+abbrev pub dayIn : Session → List ℕ → List ℕ → Day
+dayIn s buys sells = record { session = s; buys = decode (s .buys) buys; sells = decode (s .sells) sells }

@@ -1,0 +1,31 @@
+// state_law: the law of state: the session and the day of one contract, its opening, the clock's steps and a trade in it.
+// It has no code and may use terms and rules_law. It promises: an opened session has begun as document 01 says, and two steps of the
+// clock are one.
+
+use rules_law::Reckoning;
+use rules_law::Tape;
+use terms::Settings;
+use terms::Verdict;
+
+// Everything that is kept of a day but its live orders, which lie in the lent tables.
+// widened: how often the band has been widened; cooling: the end of the cooling-off, 0 where none runs;
+// buys, sells: live orders a side; given: order numbers given so far.
+pub struct Session {
+    pub settings: Settings,
+    pub time: u64,
+    pub closed: bool,
+    pub buys: u64,
+    pub sells: u64,
+    pub widened: u64,
+    pub cooling: u64,
+    pub reckoning: Reckoning,
+    pub under: u64,
+    pub given: u64,
+    pub tape: Tape,
+}
+
+// What an opening answers: nothing against the settings, or the refusal, and the session.
+pub struct Opened {
+    pub verdict: Verdict,
+    pub session: Session,
+}
