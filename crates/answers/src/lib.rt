@@ -5,7 +5,9 @@ use terms::Refusal;
 use terms::numbers;
 ghost use mathlib.Core.Path.{_≡_};
 ghost use Prim.Native.Nat.{_≤_, _<_};
+ghost use Rattle.terms.specs.declared.Refusal.the-variants.{LineWrong};
 ghost use Rattle.terms.specs.declared.Verdict.the-variants.{Fine, Refused};
+ghost use Rattle.terms.specs.Refusals.{numberOf};
 ghost use Rattle.answers.specs.Answers.{codes, countMost, answerNumber, answerOf};
 
 pub const CODES: u64 = 256;
@@ -31,4 +33,13 @@ pub fn refused(r: Refusal) -> u64
 {
     let code = numbers::of_refusal(r);
     number(code, 0)
+}
+
+// 15, with the place.
+pub fn wrong_at(place: usize) -> u64
+    requires { ⌜ place ≤ countMost ⌝ }
+    ensures { λ r. ⌜ r ≡ answerNumber (numberOf LineWrong) place ⌝ }
+{
+    let code = numbers::of_refusal(Refusal::LineWrong);
+    number(code, place as u64)
 }

@@ -1,25 +1,17 @@
 // Numbers printed with a space after each.
+use cases::print;
 ghost use Prim.Native.Nat.{_≤_};
 
-pub fn number(x: u64) {
-    io::print_decimal(1, x);
-    io::write_all(1, b" ");
-}
-
 pub fn count(x: usize) {
-    number(x as u64);
+    print::number(x as u64);
 }
 
 pub fn truth(b: bool) {
     if b {
-        number(1);
+        print::number(1);
         return;
     }
-    number(0);
-}
-
-pub fn end() {
-    io::write_all(1, b"\n");
+    print::number(0);
 }
 
 // The numbers from one place up to another, as far as there are any.
@@ -29,7 +21,7 @@ pub fn part(t: &[u64], from: usize, to: usize) {
         if to <= i {
             return;
         }
-        number(t[i]);
+        print::number(t[i]);
         i += 1;
     }
 }
@@ -63,6 +55,6 @@ fn nonzero(t: &[u64], from: usize, to: usize) -> u64 {
 
 // How many numbers are not 0 from a place up to another, and from there on.
 pub fn rest(t: &[u64], from: usize, to: usize) {
-    number(nonzero(t, from, to));
-    number(nonzero(t, to, t.len()));
+    print::number(nonzero(t, from, to));
+    print::number(nonzero(t, to, t.len()));
 }

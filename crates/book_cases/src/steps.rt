@@ -1,8 +1,9 @@
 // What a line of input does.
-use crate::lines;
 use crate::says;
 use book::side;
 use book::view;
+use cases::lines;
+use cases::print;
 use matching::Incoming;
 use matching::crossing;
 use rules_law::Range;
@@ -107,9 +108,9 @@ fn remove(t: &mut [u64], n: usize, number: u64) -> usize
     let lots = side::remove(t, n, number);
     let left = fewer(n, rests);
     says::truth(rests);
-    says::number(lots);
+    print::number(lots);
     says::count(left);
-    says::end();
+    print::end();
     left
 }
 
@@ -142,13 +143,13 @@ fn sweep(t: &mut [u64], n: usize, x: Incoming) -> usize
     orders::clear_tail(t, n);
     let m = crossing::sweep(t, n, &mut room, 10, x);
     says::count(m.count);
-    says::number(m.left);
+    print::number(m.left);
     says::count(m.trades);
     says::count(m.at);
-    says::number(m.last);
+    print::number(m.last);
     says::truth(m.out);
     says::part(&room, 8, m.at % 10_000 + 2);
-    says::end();
+    print::end();
     let count = m.count;
     if sizes::SLOTS < count {
         return 0;
@@ -165,7 +166,7 @@ fn show<'a>(side: Side, buys: &'a [u64], sells: &'a [u64], buying: usize, sellin
         Side::Buy => says::rest(buys, from, sizes::TABLE),
         Side::Sell => says::rest(sells, from, sizes::TABLE),
     }
-    says::end();
+    print::end();
 }
 
 fn show_named<'a>(side: Side, own: &'a [u64], other: &'a [u64], c: Counts) {

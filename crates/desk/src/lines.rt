@@ -3,29 +3,15 @@ use packing::events;
 use packing::events::FoundEvent;
 use packing::runs;
 use packing::settings;
-use reading::ReadEvent;
-use reading::ReadSettings;
+use reading_law::ReadEvent;
+use reading_law::ReadSettings;
 use records::ReadRecord;
 use terms::Refusal;
-use terms::numbers;
 use terms::sizes;
-use writing::Wrote;
+use writing_law::Wrote;
 ghost use mathlib.Core.Path.{_≡_};
-ghost use Prim.Native.Nat.{_≤_};
-ghost use Rattle.terms.specs.declared.Refusal.the-variants.{LineWrong};
-ghost use Rattle.terms.specs.Refusals.{numberOf};
-ghost use Rattle.answers.specs.Answers.{countMost, answerNumber};
 ghost use Rattle.desk_law.specs.Reads.{EventReadInto, SettingsReadInto};
 ghost use Rattle.desk_law.specs.Writes.{wroteNumber, Few, SettingsWrittenOn, EventWrittenOn, ReportWrittenOn};
-
-// 15, with the place.
-fn wrong_at(place: usize) -> u64
-    requires { ⌜ place ≤ countMost ⌝ }
-    ensures { λ r. ⌜ r ≡ answerNumber (numberOf LineWrong) place ⌝ }
-{
-    let code = numbers::of_refusal(Refusal::LineWrong);
-    answers::number(code, place as u64)
-}
 
 // A writer's answer as a number.
 pub fn wrote(w: Wrote) -> u64
@@ -53,7 +39,7 @@ pub extern "C" fn kakoludar_read_event(line: &[u8], event: &mut [u64]) -> u64
             answers::done(n as u64)
         }
         ReadEvent::Unfinished => answers::refused(Refusal::LineUnfinished),
-        ReadEvent::Wrong(n) => wrong_at(n),
+        ReadEvent::Wrong(n) => answers::wrong_at(n),
     }
 }
 
@@ -72,7 +58,7 @@ pub extern "C" fn kakoludar_read_settings(line: &[u8], settings: &mut [u64]) -> 
             answers::done(n as u64)
         }
         ReadSettings::Unfinished => answers::refused(Refusal::LineUnfinished),
-        ReadSettings::Wrong(n) => wrong_at(n),
+        ReadSettings::Wrong(n) => answers::wrong_at(n),
     }
 }
 
@@ -86,7 +72,7 @@ pub extern "C" fn kakoludar_write_report(report: &[u64], line: &mut [u8]) -> u64
     }
     match records::read_record(report, 0) {
         ReadRecord::Told(p) => {
-            let w = writing::write_report(p, line);
+            let w = saying::write_report(p, line);
             wrote(w)
         }
         ReadRecord::Nothing => answers::refused(Refusal::NumberRange),

@@ -18,7 +18,7 @@ use Rattle.soundness_law.specs.Sound.{dayIn}
 use Rattle.acts_law.specs.Acts.{act}
 use Rattle.engine_law.specs.Outcome.{decided}
 use Rattle.engine_law.specs.Calls.{callVerdict, called}
-use Rattle.reading.specs.Answers.{readEvent, readSettings}
+use Rattle.reading_law.specs.Answers.{readEvent, readSettings}
 use Rattle.packing.specs.Runs.{settingsLength, sessionLength, eventLength}
 use Rattle.packing.specs.Settings.{isCategory, settingsNumbers, settingsFrom}
 use Rattle.packing.specs.Sessions.{sessionFrom, Ten}

@@ -14,7 +14,7 @@ use Rattle.terms.specs.declared.Verdict.the-variants.{Fine, Refused}
 use Rattle.terms.proofs.Logic.{by}
 use Rattle.tables.specs.Put.{put}
 use Rattle.text_law.specs.Grammar.{Answer, whole, unfinished, wrong}
-use Rattle.reading.specs.Answers.{readEvent, readSettings}
+use Rattle.reading_law.specs.Answers.{readEvent, readSettings}
 use Rattle.state_law.specs.declared.Session.{Session}
 use Rattle.soundness_law.specs.Sound.{dayIn}
 use Rattle.acts_law.specs.Acts.{act}

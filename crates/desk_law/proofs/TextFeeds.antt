@@ -18,9 +18,9 @@ use Rattle.text_law.specs.Text.{bytes}
 use Rattle.text_law.specs.Numerals.{allWritable}
 use Rattle.text_law.specs.Forms.{longest}
 use Rattle.text_law.proofs.Fills.{fill-length}
-use Rattle.writing.specs.declared.Wrote.{Wrote}
-use Rattle.writing.specs.Lines.{badNumbers, renderBad}
-use Rattle.writing.specs.Writes.{wroteOf}
+use Rattle.writing_law.specs.declared.Wrote.{Wrote}
+use Rattle.writing_law.specs.Lines.{badNumbers, renderBad}
+use Rattle.writing_law.specs.Writes.{wroteOf}
 use Rattle.feed_law.specs.declared.Run.{Run}
 use Rattle.feed_law.specs.declared.Stage.{Stage}
 use Rattle.feed_law.specs.declared.Stop.{Stop}

@@ -10,7 +10,7 @@ use Rattle.terms.specs.declared.Verdict.the-variants.{Refused}
 use Rattle.terms.specs.Refusals.{numberOf}
 use Rattle.tables.specs.Put.{put}
 use Rattle.text_law.specs.Grammar.{Answer, whole, unfinished, wrong}
-use Rattle.reading.specs.Answers.{readEvent, readSettings}
+use Rattle.reading_law.specs.Answers.{readEvent, readSettings}
 use Rattle.packing.specs.Runs.{settingsLength, eventLength}
 use Rattle.packing.specs.Settings.{settingsNumbers}
 use Rattle.packing.specs.Events.{eventNumbers}

@@ -9,10 +9,10 @@ use Rattle.terms.specs.declared.Refusal.the-variants.{SmallRoom, NumberRange, S
 use Rattle.terms.specs.declared.Verdict.{Verdict}
 use Rattle.terms.specs.declared.Verdict.the-variants.{Fine, Refused}
 use Rattle.terms.specs.Sizes.{recordLength}
-use Rattle.reading.specs.Lines.{renderEvent, renderSettings, eventNumbers, settingsNumbers}
-use Rattle.writing.specs.declared.Wrote.{Wrote}
-use Rattle.writing.specs.Lines.{renderReport, reportNumbers}
-use Rattle.writing.specs.Writes.{lineVerdict, roomOf}
+use Rattle.reading_law.specs.Lines.{renderEvent, renderSettings, eventNumbers, settingsNumbers}
+use Rattle.writing_law.specs.declared.Wrote.{Wrote}
+use Rattle.writing_law.specs.Lines.{renderReport, reportNumbers}
+use Rattle.writing_law.specs.Writes.{lineVerdict, roomOf}
 use Rattle.records.specs.declared.ReadRecord.{ReadRecord}
 use Rattle.records.specs.Back.{reportFrom}
 use Rattle.packing.specs.declared.events.FoundEvent.{FoundEvent}

@@ -1,6 +1,7 @@
 // The three calls, with what a line hands them.
 use crate::says;
 use crate::setting;
+use cases::print;
 use engine::apply;
 use engine::looking;
 use state::opening;
@@ -119,6 +120,7 @@ pub fn look<'a>(s: Session, w: [u64; 9], buys: &'a [u64], sells: &'a [u64]) {
     let nbuys = up_to(w[2], buys.len());
     let nsells = up_to(w[3], sells.len());
     let live = looking::view(side, s, &buys[0..nbuys], &sells[0..nsells]);
-    says::number(live.len() as u64);
+    print::number(live.len() as u64);
     says::sum(live);
+    print::end();
 }

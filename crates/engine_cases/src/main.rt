@@ -14,7 +14,6 @@
 //   5 side buys sells                     prints the view of a side: its length and its sum, with that many numbers of each table
 
 mod calling;
-mod lines;
 mod says;
 mod setting;
 mod steps;

@@ -1,8 +1,9 @@
 // What a line of input does.
 use crate::calling;
-use crate::lines;
 use crate::says;
 use crate::setting;
+use cases::lines;
+use cases::print;
 use state_law::Session;
 use tables::orders;
 use terms::Order;
@@ -61,29 +62,45 @@ fn show(s: Session, buys: &[u64], sells: &[u64], room: &[u64]) {
     says::sum(buys);
     says::sum(sells);
     says::sum(room);
-    says::end();
+    print::end();
+}
+
+// Opens a session with the settings of a line, and shows it.
+fn opens(w: [u64; 9], buys: &[u64], sells: &[u64], room: &[u64]) -> Session {
+    let opened = calling::begin(w);
+    let verdict = opened.verdict;
+    let r = opened.session;
+    says::verdict(verdict);
+    show(r, buys, sells, room);
+    r
+}
+
+// Applies the event of a line, and shows what it left.
+fn applies(
+    s: Session,
+    w: [u64; 9],
+    buys: &mut [u64],
+    sells: &mut [u64],
+    room: &mut [u64],
+) -> Session {
+    let r = calling::apply_event(s, w, buys, sells, room);
+    show(r, buys, sells, room);
+    r
 }
 
 fn turn(s: Session, w: [u64; 9], buys: &mut [u64], sells: &mut [u64], room: &mut [u64]) -> Session {
-    if w[0] == 0 {
-        let opened = calling::begin(w);
-        let verdict = opened.verdict;
-        let r = opened.session;
-        says::verdict(verdict);
-        show(r, buys, sells, room);
-        return r;
+    let what = w[0];
+    if what == 0 {
+        return opens(w, buys, sells, room);
     }
-    if w[0] == 1 {
+    if what == 1 {
         return setting::session_with(s, w[1], w[2]);
     }
-    if w[0] == 4 {
-        let r = calling::apply_event(s, w, buys, sells, room);
-        show(r, buys, sells, room);
-        return r;
+    if what == 4 {
+        return applies(s, w, buys, sells, room);
     }
-    if w[0] == 5 {
+    if what == 5 {
         calling::look(s, w, buys, sells);
-        says::end();
         return s;
     }
     edit_named(buys, sells, w);

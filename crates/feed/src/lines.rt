@@ -9,7 +9,7 @@ use printing::telling;
 use terms::Refusal;
 use terms::sizes;
 use turning::turns;
-use writing::Wrote;
+use writing_law::Wrote;
 ghost use Prim.Native.Nat.{_≤_};
 ghost use mathlib.Core.Path.{_≡_};
 ghost use lib.ListN.{length};

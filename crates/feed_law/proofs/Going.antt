@@ -22,10 +22,10 @@ use Rattle.terms.proofs.Cascade.{stops-here, goes-on}
 use Rattle.engine_law.specs.Calls.{roomy}
 use Rattle.text_law.specs.Grammar.{Answer, whole, unfinished, wrong}
 use Rattle.text_law.specs.Reading.{Right}
-use Rattle.reading.specs.Lines.{EventLine, SettingsLine}
-use Rattle.reading.specs.Answers.{readEvent, readSettings}
-use Rattle.reading.proofs.EventLines.{event-right}
-use Rattle.reading.proofs.SettingsLines.{settings-right}
+use Rattle.reading_law.specs.Lines.{EventLine, SettingsLine}
+use Rattle.reading_law.specs.Answers.{readEvent, readSettings}
+use Rattle.reading_law.proofs.EventLines.{event-right}
+use Rattle.reading_law.proofs.SettingsLines.{settings-right}
 use Rattle.feed_law.specs.declared.Run.{Run}
 use Rattle.feed_law.specs.declared.Stage.{Stage}
 use Rattle.feed_law.specs.declared.Stop.{Stop}

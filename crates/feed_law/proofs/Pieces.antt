@@ -15,11 +15,11 @@ use Rattle.text_law.specs.Text.{bytes}
 use Rattle.text_law.specs.Grammar.{Answer, whole, unfinished, wrong, word}
 use Rattle.text_law.specs.Pieces.{at}
 use Rattle.text_law.specs.Reading.{Right}
-use Rattle.reading.specs.Lines.{EventLine, SettingsLine}
-use Rattle.reading.specs.Grammars.{eventGrammar, settingsGrammar}
-use Rattle.reading.specs.Answers.{readEvent, readSettings}
-use Rattle.reading.proofs.EventLines.{event-right, event-only}
-use Rattle.reading.proofs.SettingsLines.{settings-right, settings-only}
+use Rattle.reading_law.specs.Lines.{EventLine, SettingsLine}
+use Rattle.reading_law.specs.Grammars.{eventGrammar, settingsGrammar}
+use Rattle.reading_law.specs.Answers.{readEvent, readSettings}
+use Rattle.reading_law.proofs.EventLines.{event-right, event-only}
+use Rattle.reading_law.proofs.SettingsLines.{settings-right, settings-only}
 use Rattle.feed_law.specs.declared.Stage.{Stage}
 use Rattle.feed_law.specs.declared.Stop.{Stop}
 use Rattle.feed_law.specs.Texts.{textMost, endText}

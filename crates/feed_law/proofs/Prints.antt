@@ -23,10 +23,10 @@ use Rattle.terms.specs.Refusals.{firstFailed}
 use Rattle.terms.proofs.Logic.{by}
 use Rattle.tables.specs.Put.{put}
 use Rattle.text_law.specs.Numerals.{allWritable}
-use Rattle.writing.specs.declared.Wrote.{Wrote}
-use Rattle.writing.specs.Lines.{reportNumbers, renderReport}
-use Rattle.writing.proofs.Short.{report-short}
-use Rattle.writing.specs.Writes.{lineVerdict, wroteOf, roomOf, Writes}
+use Rattle.writing_law.specs.declared.Wrote.{Wrote}
+use Rattle.writing_law.specs.Lines.{reportNumbers, renderReport}
+use Rattle.writing_law.proofs.Short.{report-short}
+use Rattle.writing_law.specs.Writes.{lineVerdict, wroteOf, roomOf, Writes}
 use Rattle.records.specs.declared.ReadRecord.{ReadRecord}
 use Rattle.records.specs.Back.{RecordRead, reportFrom}
 use Rattle.records.proofs.Told.{told-right, told-only, told-back, six-at, length-record}

@@ -11,9 +11,9 @@ use Rattle.terms.specs.Sizes.{writtenMost}
 use Rattle.terms.specs.Refusals.{numberOf}
 use Rattle.text_law.specs.Grammar.{whole}
 use Rattle.text_law.proofs.Fills.{writable-tested}
-use Rattle.reading.specs.Answers.{readEvent}
-use Rattle.reading.proofs.EventLines.{event-right}
-use Rattle.writing.specs.Lines.{refusedNumbers, renderRefused, badNumbers, renderBad}
+use Rattle.reading_law.specs.Answers.{readEvent}
+use Rattle.reading_law.proofs.EventLines.{event-right}
+use Rattle.writing_law.specs.Lines.{refusedNumbers, renderRefused, badNumbers, renderBad}
 use Rattle.feed_law.specs.Texts.{refusedText, badText}
 
 number-small : (r : Refusal) → numberOf r ≤ writtenMost

@@ -18,11 +18,11 @@ use Rattle.terms.specs.Records.{recordOf, recordsOf}
 use Rattle.terms.proofs.Logic.{both}
 use Rattle.tables.specs.Put.{put}
 use Rattle.text_law.specs.Grammar.{Answer, whole, unfinished, wrong}
-use Rattle.reading.specs.declared.ReadEvent.{ReadEvent}
-use Rattle.reading.specs.declared.ReadSettings.{ReadSettings}
-use Rattle.reading.specs.Answers.{EventRead, SettingsRead, eventAnswer, settingsAnswer, readEvent, readSettings}
-use Rattle.reading.proofs.EventLines.{event-told}
-use Rattle.reading.proofs.SettingsLines.{settings-told}
+use Rattle.reading_law.specs.declared.ReadEvent.{ReadEvent}
+use Rattle.reading_law.specs.declared.ReadSettings.{ReadSettings}
+use Rattle.reading_law.specs.Answers.{EventRead, SettingsRead, eventAnswer, settingsAnswer, readEvent, readSettings}
+use Rattle.reading_law.proofs.EventLines.{event-told}
+use Rattle.reading_law.proofs.SettingsLines.{settings-told}
 use Rattle.state_law.specs.declared.Session.{Session}
 use Rattle.state_law.specs.declared.Opened.{Opened}
 use Rattle.state_law.specs.Opening.{openingOf, fixedSession}

@@ -10,7 +10,7 @@ use Rattle.terms.specs.declared.Refusal.the-variants.{LineWrong}
 use Rattle.terms.specs.declared.Verdict.{Verdict}
 use Rattle.terms.specs.declared.Verdict.the-variants.{Fine, Refused}
 use Rattle.text_law.specs.Grammar.{Answer, whole, unfinished, wrong}
-use Rattle.reading.specs.Answers.{readEvent, readSettings}
+use Rattle.reading_law.specs.Answers.{readEvent, readSettings}
 use Rattle.state_law.specs.declared.Opened.{Opened}
 use Rattle.state_law.specs.Opening.{openingOf, fixedSession}
 use Rattle.state_law.specs.Day.{Day}

@@ -2,9 +2,9 @@
 // It may use terms, text and reading. It promises, for any bytes and any place: what the reader of events answers on the bytes from that
 // place on, and on none where the place is past their end.
 
-use reading::ReadEvent;
+use reading_law::ReadEvent;
 ghost use mathlib.Core.Path.{_≡_};
-ghost use Rattle.reading.specs.Answers.{eventAnswer};
+ghost use Rattle.reading_law.specs.Answers.{eventAnswer};
 ghost use Rattle.journal.specs.Walk.{eventFrom};
 
 // A walker holds the caller's bytes and its place.

@@ -2,15 +2,15 @@
 // with every byte changed; then single lines with their places, the listing's reports from their records, and refusals of writers.
 use libc::STDIN_FILENO;
 use libc::STDOUT_FILENO;
-use reading::ReadEvent;
-use reading::ReadSettings;
+use reading_law::ReadEvent;
+use reading_law::ReadSettings;
 use records::ReadRecord;
 use terms::Act;
 use terms::Event;
 use terms::Refusal;
 use terms::numbers;
 use terms::sizes;
-use writing::Wrote;
+use writing_law::Wrote;
 ghost use Prim.Native.Nat.{_<_, _≤_};
 ghost use lib.ListN.{length};
 
@@ -126,7 +126,7 @@ fn show(wrote: Wrote, line: &[u8]) {
 
 fn show_bad(refusal: Refusal, place: usize) {
     let mut line = [0u8; sizes::LINE];
-    let wrote = writing::write_bad(refusal, place, &mut line);
+    let wrote = saying::write_bad(refusal, place, &mut line);
     show(wrote, &line);
 }
 
@@ -257,7 +257,7 @@ fn show_report(room: &[u64], at: usize) {
     match records::read_record(room, at) {
         ReadRecord::Told(report) => {
             let mut line = [0u8; sizes::LINE];
-            let wrote = writing::write_report(report, &mut line);
+            let wrote = saying::write_report(report, &mut line);
             show(wrote, &line);
         }
         ReadRecord::Nothing => {
@@ -289,7 +289,7 @@ fn show_refusals() {
     show(a, &short);
     let b = writing::write_event(long, &mut line);
     show(b, &line);
-    let c = writing::write_refused(5, Refusal::OutsideBand, &mut line);
+    let c = saying::write_refused(5, Refusal::OutsideBand, &mut line);
     show(c, &line);
 }
 

@@ -2,7 +2,7 @@
 use records::ReadRecord;
 use terms::Refusal;
 use terms::sizes;
-use writing::Wrote;
+use writing_law::Wrote;
 ghost use mathlib.Core.Path.{_≡_};
 ghost use Prim.Native.Nat.{_+_, _*_, _≤_};
 ghost use lib.ListN.{length, drop};
@@ -25,7 +25,7 @@ pub fn tell_refused(time: u64, refusal: Refusal, out: &mut [u8]) -> usize
     requires { ⌜ lineRoom ≤ length (now out) ⌝ }
     ensures { λ r. ⌜ Prints (now (out .entry)) (refusedText time refusal) r (now (out .exit)) ⌝ }
 {
-    length_of(writing::write_refused(time, refusal, out))
+    length_of(saying::write_refused(time, refusal, out))
 }
 
 // The line of a bad line, or of refused settings.
@@ -33,7 +33,7 @@ pub fn tell_bad(refusal: Refusal, place: usize, out: &mut [u8]) -> usize
     requires { ⌜ lineRoom ≤ length (now out) ⌝ }
     ensures { λ r. ⌜ Prints (now (out .entry)) (badText refusal place) r (now (out .exit)) ⌝ }
 {
-    length_of(writing::write_bad(refusal, place, out))
+    length_of(saying::write_bad(refusal, place, out))
 }
 
 // The line of the record that stands in the room from `at` on.
@@ -42,7 +42,7 @@ fn tell_record(room: &[u64], at: usize, out: &mut [u8]) -> usize
     ensures { λ r. ⌜ Prints (now (out .entry)) (recordText (drop at (now (room .entry)))) r (now (out .exit)) × (r ≤ lineRoom) ⌝ }
 {
     match records::read_record(room, at) {
-        ReadRecord::Told(report) => length_of(writing::write_report(report, out)),
+        ReadRecord::Told(report) => length_of(saying::write_report(report, out)),
         ReadRecord::Nothing => 0,
     }
 }

@@ -17,8 +17,8 @@ use Rattle.refusal_law.specs.Refusals.{numbersRight, inHours, ticksRight, bandR
 use Rattle.engine_law.specs.Outcome.{outcome}
 use Rattle.text_law.specs.Grammar.{word}
 use Rattle.text_law.specs.Pieces.{at}
-use Rattle.reading.specs.Grammars.{settingsGrammar, eventGrammar}
-use Rattle.reading.specs.Answers.{readSettings, readEvent}
+use Rattle.reading_law.specs.Grammars.{settingsGrammar, eventGrammar}
+use Rattle.reading_law.specs.Answers.{readSettings, readEvent}
 use Rattle.promises.specs.Cases.{SmallCases}
 
 pub small-cases : SmallCases

@@ -26,7 +26,7 @@ use Rattle.tables.proofs.Puts.{length-put}
 use Rattle.tables.proofs.Whole.{length-tableOf}
 use Rattle.tables.proofs.Written.{length-records}
 use Rattle.text_law.specs.Grammar.{Answer, whole, unfinished, wrong}
-use Rattle.reading.specs.Answers.{readEvent, readSettings}
+use Rattle.reading_law.specs.Answers.{readEvent, readSettings}
 use Rattle.state_law.specs.declared.Session.{Session}
 use Rattle.state_law.specs.Opening.{openedBy, openingOf, openedSession, fixedSession}
 use Rattle.state_law.specs.Day.{Day}

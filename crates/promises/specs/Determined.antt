@@ -10,13 +10,13 @@ use Rattle.state_law.specs.declared.Opened.{Opened}
 use Rattle.state_law.specs.Opening.{openingOf}
 use Rattle.engine_law.specs.declared.Applied.{Applied}
 use Rattle.engine_law.specs.Calls.{AppliedAs, viewCall}
-use Rattle.reading.specs.declared.ReadEvent.{ReadEvent}
-use Rattle.reading.specs.declared.ReadSettings.{ReadSettings}
-use Rattle.reading.specs.Answers.{eventAnswer, EventRead, SettingsRead}
+use Rattle.reading_law.specs.declared.ReadEvent.{ReadEvent}
+use Rattle.reading_law.specs.declared.ReadSettings.{ReadSettings}
+use Rattle.reading_law.specs.Answers.{eventAnswer, EventRead, SettingsRead}
 use Rattle.records.specs.declared.ReadRecord.{ReadRecord}
 use Rattle.records.specs.Back.{RecordRead}
-use Rattle.writing.specs.declared.Wrote.{Wrote}
-use Rattle.writing.specs.Writes.{Writes}
+use Rattle.writing_law.specs.declared.Wrote.{Wrote}
+use Rattle.writing_law.specs.Writes.{Writes}
 use Rattle.feed_law.specs.declared.Run.{Run}
 use Rattle.feed_law.specs.declared.Stage.{Stage}
 use Rattle.feed_law.specs.declared.Taken.{Taken}

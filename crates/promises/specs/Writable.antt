@@ -9,7 +9,7 @@ use Rattle.terms.specs.declared.Report.{Report}
 use Rattle.state_law.specs.Day.{Day, opened}
 use Rattle.engine_law.specs.Outcome.{outcome, told}
 use Rattle.text_law.specs.Numerals.{allWritable}
-use Rattle.writing.specs.Lines.{reportNumbers}
+use Rattle.writing_law.specs.Lines.{reportNumbers}
 
 -- each report among these
 abbrev pub AllWritable : List Report → Type 0

@@ -1,5 +1,6 @@
 // The reader of events: a function for each choice, each with the grammar's part of the same name.
-use crate::ReadEvent;
+use reading_law::ReadEvent;
+use reading_law::Single;
 use terms::Act;
 use terms::Entry;
 use terms::Event;
@@ -11,15 +12,8 @@ use text_law::Found;
 use text_law::Passed;
 ghost use mathlib.Core.Path.{_≡_};
 ghost use Rattle.text_law.specs.Pieces.{at as lookAt};
-ghost use Rattle.reading.specs.Grammars.{priceRest, lifeRest, lives, kindRest, kinds, sideRest, actOf, singleRest, clockRest, cancelRest, acts};
-ghost use Rattle.reading.specs.Answers.{eventAnswer, readEvent};
-
-// The acts that carry one number.
-pub enum Single {
-    Withdraw,
-    Under,
-    Finish,
-}
+ghost use Rattle.reading_law.specs.Grammars.{priceRest, lifeRest, lives, kindRest, kinds, sideRest, actOf, singleRest, clockRest, cancelRest, acts};
+ghost use Rattle.reading_law.specs.Answers.{eventAnswer, readEvent};
 
 // After the lots: a limit's price, and the end.
 fn price_rest(

@@ -1,5 +1,5 @@
-// writing: lines written into a lent line room: settings, events, reports, and the program's own two.
-// It may use terms, text and reading. It promises, for any value and room: 16 for a room under 128 bytes, then 17 for a number that is
+// writing: session lines written into a lent line room: settings and events.
+// It may use terms, text and writing_law. It promises, for any value and room: 16 for a room under 128 bytes, then 17 for a number that is
 // too long, with the room as it was; else the room starts with the value's line, its length is answered, and the rest is as it was.
 
 pub mod lines;
@@ -10,25 +10,16 @@ use terms::Entry;
 use terms::Event;
 use terms::Kind;
 use terms::Life;
-use terms::Refusal;
-use terms::Report;
-use terms::Said;
 use terms::Settings;
 use terms::Side;
-use terms::numbers;
+use writing_law::Wrote;
 ghost use mathlib.Core.List.{_++_};
 ghost use mathlib.Core.Path.{_≡_};
 ghost use Prim.Native.Nat.{_≤_};
 ghost use Rattle.text_law.specs.Forms.{holes, longest};
-ghost use Rattle.reading.specs.Lines.{numbersForm, settingsNumbers, renderSettings, orderForm, eventNumbers, renderEvent};
-ghost use Rattle.writing.specs.Lines.{orderNumbers, reportNumbers, renderReport, refusedNumbers, renderRefused, badNumbers, renderBad};
-ghost use Rattle.writing.specs.Writes.{Writes, WritesForm};
-
-// What a writer answers: the line's length, or a refusal.
-pub enum Wrote {
-    Written(usize),
-    Refused(Refusal),
-}
+ghost use Rattle.reading_law.specs.Lines.{numbersForm, settingsNumbers, renderSettings, orderForm, eventNumbers, renderEvent};
+ghost use Rattle.writing_law.specs.Lines.{orderNumbers};
+ghost use Rattle.writing_law.specs.Writes.{Writes, WritesForm};
 
 // An order, after the part of its line that names the side, which is short and has the time's hole.
 fn write_order(head: &[u8], time: u64, o: Entry, room: &mut [u8]) -> Wrote
@@ -133,64 +124,4 @@ pub fn write_settings(settings: Settings, room: &mut [u8]) -> Wrote
         Category::Gems => write_numbers(b"cat=gems", settings, room),
         Category::Other => write_numbers(b"cat=other", settings, room),
     }
-}
-
-// The line of a report.
-pub fn write_report(report: Report, room: &mut [u8]) -> Wrote
-    ensures { λ r. ⌜ Writes (now (room .entry)) (renderReport report) (reportNumbers report) r (now (room .exit)) ⌝ }
-{
-    let time = report.time;
-    let said = report.said;
-    match said {
-        Said::Accept(number) => {
-            let numbers = [time, number];
-            lines::write(b"t=# say=", b"accept id=#\n", &numbers, room)
-        }
-        Said::Trade(d) => {
-            let numbers = [time, d.buy, d.sell, d.lots, d.price];
-            lines::write(
-                b"t=# say=",
-                b"trade buy=# sell=# qty=# price=#\n",
-                &numbers,
-                room,
-            )
-        }
-        Said::Convert(o) => {
-            let numbers = [time, o.number, o.lots, o.price];
-            lines::write(b"t=# say=", b"convert id=# qty=# price=#\n", &numbers, room)
-        }
-        Said::Cancel(e) => {
-            let why = e.why;
-            let numbers = [time, e.number, e.lots, numbers::of_why(why)];
-            lines::write(b"t=# say=", b"cancel id=# qty=# why=#\n", &numbers, room)
-        }
-        Said::Slab(b) => {
-            let numbers = [time, b.low, b.high];
-            lines::write(b"t=# say=", b"slab low=# high=#\n", &numbers, room)
-        }
-        Said::Ref(price) => {
-            let numbers = [time, price];
-            lines::write(b"t=# say=", b"ref price=#\n", &numbers, room)
-        }
-        Said::Close(c) => {
-            let numbers = [time, c.price, c.base];
-            lines::write(b"t=# say=", b"close price=# base=#\n", &numbers, room)
-        }
-    }
-}
-
-// The line that the program prints for a refused event.
-pub fn write_refused(time: u64, refusal: Refusal, room: &mut [u8]) -> Wrote
-    ensures { λ r. ⌜ Writes (now (room .entry)) (renderRefused time refusal) (refusedNumbers time refusal) r (now (room .exit)) ⌝ }
-{
-    let numbers = [time, numbers::of_refusal(refusal)];
-    lines::write(b"t=# say=", b"refuse code=#\n", &numbers, room)
-}
-
-// The line that the program prints for a bad line, or refused settings.
-pub fn write_bad(refusal: Refusal, place: usize, room: &mut [u8]) -> Wrote
-    ensures { λ r. ⌜ Writes (now (room .entry)) (renderBad refusal place) (badNumbers refusal place) r (now (room .exit)) ⌝ }
-{
-    let numbers = [numbers::of_refusal(refusal), place as u64];
-    lines::write(b"say=bad", b" code=# at=#\n", &numbers, room)
 }

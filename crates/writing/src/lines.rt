@@ -1,11 +1,11 @@
 // A line written: its form, in two parts, and its numbers.
-use crate::Wrote;
 use terms::Refusal;
 use terms::sizes;
 use text::room;
 use text_law::Spot;
+use writing_law::Wrote;
 ghost use mathlib.Core.List.{_++_};
-ghost use Rattle.writing.specs.Writes.{WritesForm, Formed};
+ghost use Rattle.writing_law.specs.Writes.{WritesForm, Formed};
 
 pub fn write(head: &[u8], tail: &[u8], numbers: &[u64], line: &mut [u8]) -> Wrote
     requires { ⌜ Formed (now head) (now tail) (now numbers) ⌝ }

@@ -1,5 +1,5 @@
 -- The grammar's answer is the right one.
-use Rattle.reading.proofs.EventLines.{event-right}
+use Rattle.reading_law.proofs.EventLines.{event-right}
 use borrow.Author.Needs.{needs}
 use Rattle.reading.proofs.read_event.Statement.{statement}
 use Rattle.reading.proofs.read_event.Tie as tie

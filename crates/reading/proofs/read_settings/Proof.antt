@@ -1,5 +1,5 @@
 -- The grammar's answer is the right one.
-use Rattle.reading.proofs.SettingsLines.{settings-right}
+use Rattle.reading_law.proofs.SettingsLines.{settings-right}
 use borrow.Author.Needs.{needs}
 use Rattle.reading.proofs.read_settings.Statement.{statement}
 use Rattle.reading.proofs.read_settings.Tie as tie

@@ -1,7 +1,7 @@
 -- By the act, the form and the numbers of the definition.
 use native.Mathlib.Omega.{arith}
 use Rattle.text_law.specs.Forms.{holes, longest}
-use Rattle.writing.proofs.ByKind.{by-act, by-side}
+use Rattle.writing_law.proofs.ByKind.{by-act, by-side}
 use borrow.Author.Needs.{needs}
 use Rattle.writing.proofs.write_event.Statement.{statement}
 use Rattle.writing.proofs.write_event.Tie as tie

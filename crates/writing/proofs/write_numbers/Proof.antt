@@ -1,7 +1,7 @@
 -- The form and the numbers are those of the definition.
 use native.Mathlib.Omega.{arith}
 use Rattle.text_law.specs.Forms.{holes, longest}
-use Rattle.reading.specs.Lines.{numbersForm}
+use Rattle.reading_law.specs.Lines.{numbersForm}
 use borrow.Author.Needs.{needs}
 use Rattle.writing.proofs.write_numbers.Statement.{statement}
 use Rattle.writing.proofs.write_numbers.Tie as tie

@@ -1,7 +1,7 @@
 -- By kind and life, the form and the numbers of the definition.
 use native.Mathlib.Omega.{arith}
 use Rattle.text_law.specs.Forms.{holes, longest}
-use Rattle.writing.proofs.ByKind.{by-order}
+use Rattle.writing_law.proofs.ByKind.{by-order}
 use borrow.Author.Needs.{needs}
 use Rattle.writing.proofs.write_order.Statement.{statement}
 use Rattle.writing.proofs.write_order.Tie as tie

@@ -1,7 +1,7 @@
 -- By the category, the form and the numbers of the definition.
 use native.Mathlib.Omega.{arith}
 use Rattle.text_law.specs.Forms.{holes, longest}
-use Rattle.writing.proofs.ByKind.{by-category}
+use Rattle.writing_law.proofs.ByKind.{by-category}
 use borrow.Author.Needs.{needs}
 use Rattle.writing.proofs.write_settings.Statement.{statement}
 use Rattle.writing.proofs.write_settings.Tie as tie

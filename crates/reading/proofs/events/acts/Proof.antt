@@ -1,6 +1,6 @@
 -- By the byte.
 use Rattle.text_law.proofs.Steps.{choices}
-use Rattle.reading.specs.Grammars.{acts}
+use Rattle.reading_law.specs.Grammars.{acts}
 use borrow.Author.Needs.{needs}
 use Rattle.reading.proofs.events.acts.Statement.{statement}
 use Rattle.reading.proofs.events.acts.Tie as tie

@@ -1,6 +1,6 @@
 -- By the byte, and what the pieces found.
 use Rattle.text_law.proofs.Steps.{steps}
-use Rattle.reading.specs.Grammars.{cancelRest}
+use Rattle.reading_law.specs.Grammars.{cancelRest}
 use borrow.Author.Needs.{needs}
 use Rattle.reading.proofs.events.cancel_rest.Statement.{statement}
 use Rattle.reading.proofs.events.cancel_rest.Tie as tie

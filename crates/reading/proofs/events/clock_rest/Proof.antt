@@ -1,6 +1,6 @@
 -- By the byte, and what the pieces found.
 use Rattle.text_law.proofs.Steps.{steps}
-use Rattle.reading.specs.Grammars.{clockRest}
+use Rattle.reading_law.specs.Grammars.{clockRest}
 use borrow.Author.Needs.{needs}
 use Rattle.reading.proofs.events.clock_rest.Statement.{statement}
 use Rattle.reading.proofs.events.clock_rest.Tie as tie

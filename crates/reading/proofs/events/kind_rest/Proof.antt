@@ -1,6 +1,6 @@
 -- By what the pieces found.
 use Rattle.text_law.proofs.Steps.{pieces}
-use Rattle.reading.specs.Grammars.{kindRest}
+use Rattle.reading_law.specs.Grammars.{kindRest}
 use borrow.Author.Needs.{needs}
 use Rattle.reading.proofs.events.kind_rest.Statement.{statement}
 use Rattle.reading.proofs.events.kind_rest.Tie as tie

@@ -1,6 +1,6 @@
 -- By the byte, and what the pieces found.
 use Rattle.text_law.proofs.Steps.{choices}
-use Rattle.reading.specs.Grammars.{kinds}
+use Rattle.reading_law.specs.Grammars.{kinds}
 use borrow.Author.Needs.{needs}
 use Rattle.reading.proofs.events.kinds.Statement.{statement}
 use Rattle.reading.proofs.events.kinds.Tie as tie

@@ -1,6 +1,6 @@
 -- By what the pieces found.
 use Rattle.text_law.proofs.Steps.{pieces}
-use Rattle.reading.specs.Grammars.{lifeRest}
+use Rattle.reading_law.specs.Grammars.{lifeRest}
 use borrow.Author.Needs.{needs}
 use Rattle.reading.proofs.events.life_rest.Statement.{statement}
 use Rattle.reading.proofs.events.life_rest.Tie as tie

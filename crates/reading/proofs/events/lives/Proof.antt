@@ -1,6 +1,6 @@
 -- By the byte, and what the pieces found.
 use Rattle.text_law.proofs.Steps.{choices}
-use Rattle.reading.specs.Grammars.{lives}
+use Rattle.reading_law.specs.Grammars.{lives}
 use borrow.Author.Needs.{needs}
 use Rattle.reading.proofs.events.lives.Statement.{statement}
 use Rattle.reading.proofs.events.lives.Tie as tie

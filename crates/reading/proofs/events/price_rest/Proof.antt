@@ -1,6 +1,6 @@
 -- By the kind, and what the pieces found.
 use Rattle.text_law.proofs.Steps.{pieces}
-use Rattle.reading.specs.Grammars.{priceRest}
+use Rattle.reading_law.specs.Grammars.{priceRest}
 use borrow.Author.Needs.{needs}
 use Rattle.reading.proofs.events.price_rest.Statement.{statement}
 use Rattle.reading.proofs.events.price_rest.Tie as tie

@@ -1,7 +1,7 @@
 -- By what the pieces found.
 use Rattle.text_law.proofs.Steps.{pieces}
-use Rattle.reading.specs.Grammars.{eventGrammar}
-use Rattle.reading.specs.Answers.{readEvent}
+use Rattle.reading_law.specs.Grammars.{eventGrammar}
+use Rattle.reading_law.specs.Answers.{readEvent}
 use borrow.Author.Needs.{needs}
 use Rattle.reading.proofs.events.read.Statement.{statement}
 use Rattle.reading.proofs.events.read.Tie as tie

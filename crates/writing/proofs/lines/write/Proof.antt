@@ -1,5 +1,5 @@
 -- The three ways to answer; the two parts of the form are put one after the other.
-use Rattle.writing.proofs.Writing.{writer}
+use Rattle.writing_law.proofs.Writing.{writer}
 use borrow.Author.Needs.{needs}
 use Rattle.writing.proofs.lines.write.Statement.{statement}
 use Rattle.writing.proofs.lines.write.Tie as tie
