@@ -18,7 +18,7 @@ use Rattle.terms.specs.Sizes.{recordLength, slots}
 use Rattle.terms.proofs.Logic.{cases}
 use Rattle.rules_law.specs.Slabs.{slabOf}
 use Rattle.rules_law.specs.Reference.{RangeFits}
-use Rattle.rules_law.proofs.Rows.{rowed}
+use Rattle.rules_law.proofs.Rows.{row-small}
 use Rattle.tables.specs.Tables.{decode, tableOf, Holds}
 use Rattle.tables.proofs.Slots.{length-decode}
 use Rattle.book_law.specs.Matching.{Fate, Done, Rests, Turns, Ends, reportAt, tradeReports, ownLastOr, fateOf, fateOfLeft, settled}
@@ -41,9 +41,7 @@ back (Turns price) = refl
 back (Ends why) = refl
 
 range-fits : (s : Session) → Clocked s → RangeFits (rangeNow s)
-range-fits s c =
-    let w = rowed (s .settings .category) in
-    record { percent-small = omega (arith, w .small); reference-small = c .reference-small }
+range-fits s c = record { percent-small = omega (arith, row-small (s .settings .category)); reference-small = c .reference-small }
 
 -- only an order that lives all day takes a place
 places : (life : Life) (kind : Kind) (band : Band) (last left : ℕ) (out : Bool) → takesPlace (remainderOf (fateFrom life kind band last left out)) ≡ true → life ≡ AllDay

@@ -11,3 +11,4 @@ pub mod Reports
 pub mod Says
 pub mod Small
 pub mod Stays
+pub mod Tens

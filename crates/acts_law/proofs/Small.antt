@@ -47,7 +47,7 @@ use Rattle.state_law.specs.Day.{Day, own, across, dayWith}
 use Rattle.soundness_law.specs.Sound.{sound}
 use Rattle.soundness_law.proofs.Parts.{Parts}
 use Rattle.soundness_law.proofs.Days.{BookOf, sound-day, now-priced}
-use Rattle.soundness_law.proofs.Closes.{close-small, base-small, ten-kept}
+use Rattle.soundness_law.proofs.Closes.{close-small, base-small}
 use Rattle.refusal_law.specs.Refusals.{numbersRight, inHours, hasNumbers}
 use Rattle.refusal_law.proofs.Accepted.{Accepted}
 use Rattle.acts_law.specs.Acts.{Acted, only, clockReports, sweepIn, fateIn, entered, ended, withdrawn, cancelReports, closeReport, finished, acted, act}
@@ -295,23 +295,3 @@ acted-small d t (Finish settle) k l =
 pub act-small : (d : Day) (e : Event) → Accepted d e → length (d .session .tape .prices) ≡ 10 → SmallReports (act d e .reports)
 unfolding act
 act-small d e k l = acted-small d (e .time) (e .act) k l
-
--- and holds ten after the event
-acted-ten : (d : Day) (t : ℕ) (a : Act) → length (d .session .tape .prices) ≡ 10 →
-    length (acted d t (clockStep (d .session) t) a .day .session .tape .prices) ≡ 10
-unfolding clockStep entered withdrawn finished
-acted-ten d t (Enter n) l = ten-with (n .side) _ _ _ (ten-kept (setGiven (clockStep (d .session) t) (d .session .given + 1)) _ l)
-  where
-    ten-with : (side : Side) (s : Session) (mine theirs : List Order) → length (s .tape .prices) ≡ 10 →
-        length (dayWith side s mine theirs .session .tape .prices) ≡ 10
-    ten-with Buy s mine theirs l = l
-    ten-with Sell s mine theirs l = l
-acted-ten d t (Withdraw number) l =
-    by (λ (a : Acted). length (a .day .session .tape .prices) ≡ 10) (rests number (d .buys)) _ _ (λ e. l) (λ e. l)
-acted-ten d t (Under price) l = l
-acted-ten d t Clock l = l
-acted-ten d t (Finish settle) l = l
-
-pub act-ten : (d : Day) (e : Event) → length (d .session .tape .prices) ≡ 10 → length (act d e .day .session .tape .prices) ≡ 10
-unfolding act
-act-ten d e l = acted-ten d (e .time) (e .act) l

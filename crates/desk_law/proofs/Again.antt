@@ -21,13 +21,15 @@ use Rattle.engine_law.specs.Calls.{callVerdict, called}
 use Rattle.reading_law.specs.Answers.{readEvent, readSettings}
 use Rattle.packing.specs.Runs.{settingsLength, sessionLength, eventLength}
 use Rattle.packing.specs.Settings.{isCategory, settingsNumbers, settingsFrom}
-use Rattle.packing.specs.Sessions.{sessionFrom, Ten}
+use Rattle.packing.specs.Sessions.{sessionFrom}
 use Rattle.packing.specs.Events.{eventNumbers, eventFrom}
 use Rattle.packing.proofs.Inverse.{from-ten, laid-back, settings-back}
 use Rattle.packing.proofs.EventInverse.{event-back}
 use Rattle.desk_law.specs.Calls.{openedFrom, OpenedAs, calledOn, runBy, AppliedOn}
 use Rattle.desk_law.specs.Reads.{EventReadInto, SettingsReadInto}
-use Rattle.desk_law.proofs.Ten.{act-ten, fixed-ten, opening-ten}
+use Rattle.acts_law.proofs.Tens.{act-ten}
+use Rattle.state_law.specs.Tens.{Ten}
+use Rattle.state_law.proofs.Tens.{fixed-ten, opening-ten}
 
 -- ---- open
 

@@ -3,7 +3,6 @@ pub mod Opens
 pub mod Applying
 pub mod LineReads
 pub mod LineWrites
-pub mod Ten
 pub mod Again
 pub mod TextAgain
 pub mod Determined

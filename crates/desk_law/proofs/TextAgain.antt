@@ -28,12 +28,14 @@ use Rattle.feed_law.specs.Worlds.{Lent, lentOf, calls}
 use Rattle.feed_law.specs.Turns.{Turn, Fed, stopAt, turnOf, settingsTurn, eventTurn, printedFrom, fedIn}
 use Rattle.feed_law.specs.Feeds.{begun, feedVerdict, fedBy, fedOf}
 use Rattle.feed_law.proofs.Pieces.{pieces}
-use Rattle.packing.specs.Sessions.{isSession, sessionFrom, Ten}
+use Rattle.packing.specs.Sessions.{isSession, sessionFrom}
 use Rattle.packing.proofs.Inverse.{from-ten}
 use Rattle.desk_law.specs.Calls.{whereLong}
 use Rattle.standing.specs.Runs.{runLength, runNumbers, isRun, runFrom}
 use Rattle.desk_law.specs.Feeding.{startVerdict, StartedAs, countsLength, isRefusal, laidBy, fedOn, runAfter, FedAs}
-use Rattle.desk_law.proofs.Ten.{act-ten, fixed-ten, opening-ten}
+use Rattle.acts_law.proofs.Tens.{act-ten}
+use Rattle.state_law.specs.Tens.{Ten}
+use Rattle.state_law.proofs.Tens.{fixed-ten, opening-ten}
 use Rattle.standing.proofs.Inverse.{run-laid-back}
 
 -- ---- the arrays of a session have ten numbers, whatever lines there are

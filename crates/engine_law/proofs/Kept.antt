@@ -20,6 +20,7 @@ use Rattle.terms.specs.Sizes.{reportsMost}
 use Rattle.book_law.specs.Over.{mine}
 use Rattle.book_law.proofs.Over.{mine-zero}
 use Rattle.book_law.specs.Told.{total, traded, cancelled}
+use Rattle.state_law.specs.Tens.{Ten}
 use Rattle.state_law.specs.Day.{Day}
 use Rattle.soundness_law.specs.Sound.{sound}
 use Rattle.refusal_law.specs.Refusals.{refusalOf}
@@ -33,7 +34,8 @@ use Rattle.acts_law.proofs.Numbers.{act-counts, givenBy, act-given}
 use Rattle.acts_law.proofs.Hears.{Listener, KnowsOf, TellsOf, none-tells}
 use Rattle.acts_law.proofs.Says.{act-tells, act-moved}
 use Rattle.acts_law.proofs.Few.{act-few}
-use Rattle.acts_law.proofs.Small.{act-small, act-ten}
+use Rattle.acts_law.proofs.Small.{act-small}
+use Rattle.acts_law.proofs.Tens.{act-ten}
 use Rattle.engine_law.specs.Outcome.{Outcome, decided, outcome}
 
 -- ---- the two cases of an event
@@ -123,8 +125,8 @@ unfolding SmallReports
 outcome-small d e l = by-verdict (λ (o : Outcome). SmallReports (o .reports)) d e (λ k. act-small d e k l) (λ r. tt)
 
 -- and holds ten after the event
-pub outcome-ten : (d : Day) (e : Event) → length (d .session .tape .prices) ≡ 10 → length (outcome d e .day .session .tape .prices) ≡ 10
-outcome-ten d e l = by-verdict (λ (o : Outcome). length (o .day .session .tape .prices) ≡ 10) d e (λ k. act-ten d e l) (λ r. l)
+pub outcome-ten : (d : Day) (e : Event) → Ten (d .session) → Ten (outcome d e .day .session)
+outcome-ten d e t = by-verdict (λ (o : Outcome). Ten (o .day .session)) d e (λ k. act-ten d e t) (λ r. t)
 
 -- ---- the number of an order
 

@@ -17,7 +17,8 @@ use Rattle.state_law.specs.declared.Session.{Session}
 use Rattle.state_law.specs.Opening.{fixedSession}
 use Rattle.packing.specs.Runs.{settingsLength, sessionLength}
 use Rattle.packing.specs.Settings.{settingsNumbers, isCategory, categoryFrom, settingsFrom}
-use Rattle.packing.specs.Sessions.{flag, sessionNumbers, isSession, sessionOf, sessionFrom, Ten}
+use Rattle.state_law.specs.Tens.{Ten}
+use Rattle.packing.specs.Sessions.{flag, sessionNumbers, isSession, sessionOf, sessionFrom}
 use Rattle.packing.proofs.Listed.{first-listed, ten-all}
 
 -- ---- a category and its row

@@ -72,8 +72,3 @@ sessionOf ns =
 -- other numbers are taken for the paper's fixed session, which is not sound
 unfoldable pub sessionFrom : List ℕ → Session
 sessionFrom ns = cond (isSession ns) (sessionOf ns) fixedSession
-
--- what is said of every session that code holds: its two arrays have ten numbers
-pub record Ten (s : Session) : Type 0 where
-  pub prices : length (s .tape .prices) ≡ 10
-  pub sizes : length (s .tape .sizes) ≡ 10

@@ -10,6 +10,7 @@ use Rattle.terms.specs.declared.Said.{Said}
 use Rattle.terms.specs.declared.Said.the-variants.{Accept, Trade, Convert, Cancel, Slab, Ref, Close}
 use Rattle.terms.specs.Records.{recordOf}
 use Rattle.state_law.specs.Opening.{openedSession}
+use Rattle.state_law.specs.Tens.{Ten}
 use Rattle.state_law.specs.Day.{Day, opened}
 use Rattle.acts_law.specs.Small.{SmallReport, SmallReports}
 use Rattle.acts_law.proofs.Small.{append-small}
@@ -42,15 +43,15 @@ small-at (x ∷ xs) later r h = small-at xs later r (h .1)
 pub all-writable : (rs : List Report) → SmallReports rs → AllWritable rs
 all-writable rs h before later r e = report-writable r (small-at before later r (subst SmallReports e h))
 
-run-small : (d : Day) (es : List Event) → length (d .session .tape .prices) ≡ 10 → SmallReports (told d es)
+run-small : (d : Day) (es : List Event) → Ten (d .session) → SmallReports (told d es)
 unfolding told SmallReports
-run-small d [] l = tt
-run-small d (e ∷ es) l =
-    append-small (outcome d e .reports) (told (outcome d e .day) es) (outcome-small d e l) (run-small (outcome d e .day) es (outcome-ten d e l))
+run-small d [] t = tt
+run-small d (e ∷ es) t =
+    append-small (outcome d e .reports) (told (outcome d e .day) es) (outcome-small d e (t .prices)) (run-small (outcome d e .day) es (outcome-ten d e t))
 
 pub reports-writable : ReportsWritable
 reports-writable d e l = all-writable (outcome d e .reports) (outcome-small d e l)
 
 pub runs-writable : RunsWritable
 unfolding openedSession
-runs-writable g es = all-writable (told (opened g) es) (run-small (opened g) es refl)
+runs-writable g es = all-writable (told (opened g) es) (run-small (opened g) es (record { prices = refl; sizes = refl }))

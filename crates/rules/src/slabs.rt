@@ -45,12 +45,21 @@ const SLABS: [Row; 8] = [
 // How long a cooling-off lasts.
 pub const COOLING: u64 = 900_000;
 
-// The row of a category.
+// The row of a category. Each index is written out, so that no call makes the table anew.
 pub fn slab_of(c: Category) -> Row
     ensures { λ r. ⌜ (r ≡ slabOf c) × (r .initial + r .enhanced ≤ percentMost) ⌝ }
 {
-    let n = terms::numbers::of_category(c);
-    SLABS[n]
+    let rows = SLABS;
+    match c {
+        Category::Broad => rows[0],
+        Category::Narrow => rows[1],
+        Category::Sensitive => rows[2],
+        Category::Energy => rows[3],
+        Category::Metals => rows[4],
+        Category::Precious => rows[5],
+        Category::Gems => rows[6],
+        Category::Other => rows[7],
+    }
 }
 
 // The percent in force after so many widenings.

@@ -118,17 +118,3 @@ module _ (s : Session) (p : Parts s) (l : length (s .tape .prices) ≡ 10) where
   unfolding nextBase
   base-small settle h =
       by (λ (x : ℕ). x ≤ closingMost) (leb 10 (s .tape .half .count) || leb 10 (s .tape .trades)) _ _ (λ e. close-small) (λ e. omega arith)
-
--- ---- ten prices are remembered in an array of ten
-
-ten-remembered : (old : List ℕ) (n x : ℕ) → length old ≡ 10 → length (remembered old n x) ≡ 10
-unfolding remembered
-ten-remembered old n x l =
-    by (λ (xs : List ℕ). length xs ≡ 10) (ltb n 10) _ _
-    (λ e. length-set old n x ∙ l)
-    (λ e. omega (arith, length-append (drop 1 (take 10 old)) (x ∷ []), length-drop 1 (take 10 old), length-take 10 old))
-
-pub ten-kept : (s : Session) (fs : List Order) → length (s .tape .prices) ≡ 10 → length (withTrades s fs .tape .prices) ≡ 10
-unfolding withTrades withTrade tapeAfter
-ten-kept s [] l = l
-ten-kept s (f ∷ fs) l = ten-kept (withTrade s (f .price) (f .lots)) fs (ten-remembered (s .tape .prices) (s .tape .trades) (f .price) l)

@@ -22,7 +22,7 @@ use Rattle.rules_law.specs.declared.Row.{Row}
 use Rattle.rules_law.specs.Slabs.{slabOf, percentMost, percentOf, lowAt, highAt, Priced}
 use Rattle.rules_law.proofs.Bands.{low-is, high-small}
 use Rattle.rules_law.proofs.Factors.{theoreticalOr-range}
-use Rattle.rules_law.proofs.Rows.{rowed}
+use Rattle.rules_law.proofs.Rows.{row-small}
 use Rattle.book_law.specs.Priority.{otherSide}
 use Rattle.book_law.specs.Over.{Each}
 use Rattle.book_law.proofs.Over.{each-map}
@@ -100,7 +100,7 @@ now-priced s v =
       base-small = v .base-small;
       tick-some = v .tick-some;
       tick-small = v .tick-small;
-      percent-small = percent-small (slabOf (s .settings .category)) (s .widened) (rowed (s .settings .category) .small);
+      percent-small = percent-small (slabOf (s .settings .category)) (s .widened) (row-small (s .settings .category));
     }
 
 pub each-tradable : (s : Session) (fs : List Order) → Valid (s .settings) → Each (OrderFits (s .given) (s .settings .tick) (bandNow s)) fs →

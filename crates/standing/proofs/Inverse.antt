@@ -15,7 +15,8 @@ use Rattle.feed_law.specs.declared.Stop.{Stop}
 use Rattle.feed_law.specs.Texts.{textMost}
 use Rattle.feed_law.specs.Worlds.{Lent, calls}
 use Rattle.feed_law.specs.Turns.{Fed, halted, fedIn}
-use Rattle.packing.specs.Sessions.{sessionNumbers, isSession, sessionFrom, Ten}
+use Rattle.state_law.specs.Tens.{Ten}
+use Rattle.packing.specs.Sessions.{sessionNumbers, isSession, sessionFrom}
 use Rattle.packing.proofs.Inverse.{is-session, session-back, session-numbers}
 use Rattle.standing.specs.Runs.{runLength, stageNumber, runNumbers, isRun, stageFrom, runFrom, overRun}
 

@@ -4,3 +4,4 @@ pub mod Opening
 pub mod Clock
 pub mod Trades
 pub mod Day
+pub mod Tens
