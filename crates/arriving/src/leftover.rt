@@ -55,6 +55,16 @@ pub fn fate(life: Life, kind: Kind, band: Band, last: u64, left: u64, out: bool)
     by_life(life, kind, band, last)
 }
 
+fn order_of(number: u64, price: u64, lots: u64) -> Order
+    ensures { λ r. ⌜ r ≡ record { number = number; price = price; lots = lots } ⌝ }
+{
+    Order {
+        number: number,
+        price: price,
+        lots: lots,
+    }
+}
+
 // The remainder takes its place on its own side.
 fn rest(mine: &mut [u64], n: usize, side: Side, o: Order) -> usize
     requires { ⌜ Holds n (now mine) × (n < slots) ⌝ }
@@ -83,11 +93,7 @@ pub fn settle(
     match fate {
         Remainder::Nothing => Placed { count: n, at: at },
         Remainder::Resting(price) => {
-            let o = Order {
-                number: number,
-                price: price,
-                lots: left,
-            };
+            let o = order_of(number, price, left);
             let count = rest(mine, n, side, o);
             Placed {
                 count: count,
@@ -95,11 +101,7 @@ pub fn settle(
             }
         }
         Remainder::Turned(price) => {
-            let o = Order {
-                number: number,
-                price: price,
-                lots: left,
-            };
+            let o = order_of(number, price, left);
             let count = rest(mine, n, side, o);
             let next = telling::tell(room, at, time, Said::Convert(o));
             Placed {

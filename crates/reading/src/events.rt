@@ -12,8 +12,21 @@ use text_law::Found;
 use text_law::Passed;
 ghost use mathlib.Core.Path.{_≡_};
 ghost use Rattle.text_law.specs.Pieces.{at as lookAt};
-ghost use Rattle.reading_law.specs.Grammars.{priceRest, lifeRest, lives, kindRest, kinds, sideRest, actOf, singleRest, clockRest, cancelRest, acts};
+ghost use Rattle.reading_law.specs.Grammars.{order, priceRest, lifeRest, lives, kindRest, kinds, sideRest, actOf, singleRest, clockRest, cancelRest, acts};
 ghost use Rattle.reading_law.specs.Answers.{eventAnswer, readEvent};
+
+// The event of an order.
+fn order(t: u64, side: Side, kind: Kind, life: Life, lots: u64) -> Event
+    ensures { λ r. ⌜ r ≡ order t side kind life lots ⌝ }
+{
+    let act = Act::Enter(Entry {
+        side: side,
+        kind: kind,
+        life: life,
+        lots: lots,
+    });
+    Event { time: t, act: act }
+}
 
 // After the lots: a limit's price, and the end.
 fn price_rest(
@@ -31,28 +44,14 @@ fn price_rest(
         match pieces::last(s, at, b" price=") {
             Found::Value { value, next } => {
                 let kind = Kind::Limit(value);
-                let act = Act::Enter(Entry {
-                    side: side,
-                    kind: kind,
-                    life: life,
-                    lots: lots,
-                });
-                ReadEvent::Whole(Event { time: t, act: act }, next)
+                ReadEvent::Whole(order(t, side, kind, life, lots), next)
             }
             Found::Short => ReadEvent::Unfinished,
             Found::Wrong(p) => ReadEvent::Wrong(p),
         }
     } else {
         match pieces::word(s, at, b"\n") {
-            Passed::To(next) => {
-                let act = Act::Enter(Entry {
-                    side: side,
-                    kind: Kind::Market,
-                    life: life,
-                    lots: lots,
-                });
-                ReadEvent::Whole(Event { time: t, act: act }, next)
-            }
+            Passed::To(next) => ReadEvent::Whole(order(t, side, Kind::Market, life, lots), next),
             Passed::Short => ReadEvent::Unfinished,
             Passed::Wrong(p) => ReadEvent::Wrong(p),
         }

@@ -15,7 +15,7 @@ use Rattle.text_law.specs.Pieces.{at, lastly}
 use Rattle.text_law.proofs.Grammars.{Spells, s-stop, s-byte, s-this, s-else, s-number, s-word, Plain, Agrees, agreed}
 use Rattle.text_law.proofs.Rightness.{right, one, read-back, apart}
 use Rattle.reading_law.specs.Lines.{categoryWord, numbersForm, settingsNumbers, renderSettings, SettingsLine}
-use Rattle.reading_law.specs.Grammars.{laterNumbers, categoryRest, categories, settingsGrammar}
+use Rattle.reading_law.specs.Grammars.{lastNumbers, laterNumbers, categoryRest, categories, settingsGrammar}
 use Rattle.reading_law.specs.declared.ReadSettings.{ReadSettings}
 use Rattle.reading_law.specs.Answers.{settingsAnswer, codeOf, SettingsRead, readSettings}
 
@@ -26,11 +26,11 @@ Fine g = Writable (settingsNumbers g)
 -- ---- the grammar is plain
 
 rest-plain : (c : Category) → Plain (categoryRest [] c)
-unfolding categoryRest laterNumbers lastly word
+unfolding categoryRest laterNumbers lastNumbers lastly word
 rest-plain c = λ v0. (refl, λ v1. (refl, λ v2. (refl, λ v3. (refl, λ v4. (refl, λ v5. (refl, λ v6. (refl, tt)))))))
 
 plain : Plain settingsGrammar
-unfolding settingsGrammar categories categoryRest laterNumbers lastly word
+unfolding settingsGrammar categories categoryRest laterNumbers lastNumbers lastly word
 plain = (
   (refl, (refl, (refl, (refl, (refl, (refl, refl)))))),
   rest-plain Broad,
@@ -68,7 +68,7 @@ unfolding renderSettings
 settings-line g = word-fills (g .category) numbersForm (settingsNumbers g)
 
 rest-agrees : (c : Category) → Agrees renderSettings Fine (categoryRest [] c) (λ x. bytes "cat=" ++ (categoryWord c ++ (bytes " base=" ++ x)))
-unfolding categoryRest laterNumbers lastly word numbersForm fill
+unfolding categoryRest laterNumbers lastNumbers lastly word numbersForm fill
 rest-agrees c =
     λ v0 h0 v1 h1 v2 h2 v3 h3 v4 h4 v5 h5 v6 h6. (
       sym (settings-line (record { category = c; base = v0; close = v1; settle = v2; tick = v3; length = v4; days = v5; under = v6 })),
@@ -76,7 +76,7 @@ rest-agrees c =
     )
 
 agrees : Agrees renderSettings Fine settingsGrammar (λ x. x)
-unfolding settingsGrammar categories categoryRest laterNumbers lastly word
+unfolding settingsGrammar categories categoryRest laterNumbers lastNumbers lastly word
 agrees = (
   rest-agrees Broad,
   (
@@ -97,7 +97,7 @@ to g bs s = agreed renderSettings Fine (λ x. x) agrees s
 rest-spells : (g : Settings) → Fine g
     → Spells (categoryRest [] (g .category)) g
     (numeral (g .base) ++ (bytes " close=" ++ (numeral (g .close) ++ (bytes " settle=" ++ (numeral (g .settle) ++ (bytes " tick=" ++ (numeral (g .tick) ++ (bytes " len=" ++ (numeral (g .length) ++ (bytes " days=" ++ (numeral (g .days) ++ (bytes " under=" ++ (numeral (g .under) ++ bytes "\n")))))))))))))
-unfolding categoryRest laterNumbers lastly
+unfolding categoryRest laterNumbers lastNumbers lastly
 rest-spells g f =
     s-word []
     (s-number (g .base) (f .0)

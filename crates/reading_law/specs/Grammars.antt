@@ -22,18 +22,22 @@ use Rattle.text_law.specs.Pieces.{lastly}
 
 -- ---- settings
 
--- the last four numbers
+-- the last two numbers
+unfoldable pub lastNumbers : Category → ℕ → ℕ → ℕ → ℕ → ℕ → Grammar Settings
+lastNumbers c base close settle tick length =
+    word (bytes " days=")
+    (number λ days.
+    lastly (bytes " under=")
+    (λ under.
+    record { category = c; base = base; close = close; settle = settle; tick = tick; length = length; days = days; under = under }))
+
+-- the two before them
 unfoldable pub laterNumbers : Category → ℕ → ℕ → ℕ → Grammar Settings
 laterNumbers c base close settle =
     word (bytes " tick=")
     (number λ tick.
     word (bytes " len=")
-    (number λ length.
-    word (bytes " days=")
-    (number λ days.
-    lastly (bytes " under=")
-    (λ under.
-    record { category = c; base = base; close = close; settle = settle; tick = tick; length = length; days = days; under = under }))))
+    (number λ length. lastNumbers c base close settle tick length))
 
 -- after the first byte of a category: the rest of its word, and the numbers
 unfoldable pub categoryRest : List ℕ → Category → Grammar Settings

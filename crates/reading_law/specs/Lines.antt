@@ -75,8 +75,12 @@ actNumbers (Under price) = price ∷ []
 actNumbers Clock = []
 actNumbers (Finish settle) = settle ∷ []
 
+-- "t=# do=", which every event line begins with
+abbrev pub actHead : List ℕ
+actHead = bytes "t=# do="
+
 abbrev pub eventForm : Act → List ℕ
-eventForm a = bytes "t=# do=" ++ actForm a
+eventForm a = actHead ++ actForm a
 
 abbrev pub eventNumbers : Event → List ℕ
 eventNumbers e = e .time ∷ actNumbers (e .act)

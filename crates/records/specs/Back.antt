@@ -5,6 +5,7 @@ use mathlib.Core.Bool.{Bool, true, cond, _&&_}
 use mathlib.Core.List.{List}
 use lib.Dec.{eqb}
 use Rattle.terms.specs.declared.Report.{Report}
+use Rattle.terms.specs.declared.Deal.{Deal}
 use Rattle.terms.specs.declared.Said.{Said}
 use Rattle.terms.specs.declared.Said.the-variants.{Accept, Trade, Convert, Cancel, Slab, Ref, Close}
 use Rattle.terms.specs.declared.Why.the-variants.{Asked, Immediate, OutOfRange, OutsideBand, DayEnd}
@@ -42,11 +43,14 @@ abbrev pub endedFrom : ReadWhy → ℕ → ℕ → ℕ → ℕ → ReadRecord
 endedFrom (ReadWhy.Reason why) time a b d = toldIf (eqb d 0) time (Cancel (record { number = a; lots = b; why = why }))
 endedFrom ReadWhy.Nothing time a b d = ReadRecord.Nothing
 
+abbrev pub dealFrom : ℕ → ℕ → ℕ → ℕ → Deal
+dealFrom a b c d = record { buy = a; sell = b; lots = c; price = d }
+
 -- by the kind
 unfoldable pub reportFrom : ℕ → ℕ → ℕ → ℕ → ℕ → ℕ → ReadRecord
 reportFrom kind time a b c d =
     cond (eqb kind 1) (toldIf (zeroThree b c d) time (Accept a))
-    (cond (eqb kind 2) (toldIf true time (Trade (record { buy = a; sell = b; lots = c; price = d })))
+    (cond (eqb kind 2) (toldIf true time (Trade (dealFrom a b c d)))
     (cond (eqb kind 3) (toldIf (eqb d 0) time (Convert (record { number = a; price = c; lots = b })))
     (cond (eqb kind 4) (endedFrom (whyFrom c) time a b d)
     (cond (eqb kind 5) (toldIf (zeroTwo c d) time (Slab (record { low = a; high = b })))

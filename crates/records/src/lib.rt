@@ -13,7 +13,7 @@ use terms::sizes;
 ghost use mathlib.Core.Path.{_≡_};
 ghost use lib.ListN.{take, drop};
 ghost use Rattle.terms.specs.Sizes.{recordLength};
-ghost use Rattle.records.specs.Back.{RecordRead, whyFrom, toldIf, endedFrom, reportFrom};
+ghost use Rattle.records.specs.Back.{RecordRead, whyFrom, toldIf, endedFrom, dealFrom, reportFrom};
 
 // A report, or numbers that are no report's.
 pub enum ReadRecord {
@@ -78,6 +78,18 @@ fn ended_from(why: ReadWhy, time: u64, a: u64, b: u64, d: u64) -> ReadRecord
     }
 }
 
+fn deal_from(a: u64, b: u64, c: u64, d: u64) -> Deal
+    ensures { λ r. ⌜ r ≡ dealFrom a b c d ⌝ }
+{
+    Deal {
+        buy: a,
+        sell: b,
+        lots: c,
+        price: d,
+    }
+}
+
+// By the kind.
 fn report_from(kind: u64, time: u64, a: u64, b: u64, c: u64, d: u64) -> ReadRecord
     ensures { λ r. ⌜ r ≡ reportFrom kind time a b c d ⌝ }
 {
@@ -87,16 +99,7 @@ fn report_from(kind: u64, time: u64, a: u64, b: u64, c: u64, d: u64) -> ReadReco
         return told_if(three, time, Said::Accept(a));
     }
     if kind == 2 {
-        return told_if(
-            true,
-            time,
-            Said::Trade(Deal {
-                buy: a,
-                sell: b,
-                lots: c,
-                price: d,
-            }),
-        );
+        return told_if(true, time, Said::Trade(deal_from(a, b, c, d)));
     }
     if kind == 3 {
         return told_if(

@@ -7,8 +7,17 @@ use terms::Said;
 use terms::numbers;
 use writing::lines;
 use writing_law::Wrote;
-ghost use Rattle.writing_law.specs.Lines.{reportNumbers, renderReport, refusedNumbers, renderRefused, badNumbers, renderBad};
-ghost use Rattle.writing_law.specs.Writes.{Writes};
+ghost use mathlib.Core.List.{_++_};
+ghost use Rattle.writing_law.specs.Lines.{saidHead, reportNumbers, renderReport, refusedNumbers, renderRefused, badNumbers, renderBad};
+ghost use Rattle.writing_law.specs.Writes.{Writes, WritesForm, Formed};
+
+// A line that begins as every report line does.
+fn say(tail: &[u8], numbers: &[u64], room: &mut [u8]) -> Wrote
+    requires { ⌜ Formed saidHead (now tail) (now numbers) ⌝ }
+    ensures { λ r. ⌜ WritesForm (now (room .entry)) (saidHead ++ now (tail .entry)) (now (numbers .entry)) r (now (room .exit)) ⌝ }
+{
+    lines::write(b"t=# say=", tail, numbers, room)
+}
 
 // The line of a report.
 pub fn write_report(report: Report, room: &mut [u8]) -> Wrote
@@ -19,37 +28,32 @@ pub fn write_report(report: Report, room: &mut [u8]) -> Wrote
     match said {
         Said::Accept(number) => {
             let numbers = [time, number];
-            lines::write(b"t=# say=", b"accept id=#\n", &numbers, room)
+            say(b"accept id=#\n", &numbers, room)
         }
         Said::Trade(d) => {
             let numbers = [time, d.buy, d.sell, d.lots, d.price];
-            lines::write(
-                b"t=# say=",
-                b"trade buy=# sell=# qty=# price=#\n",
-                &numbers,
-                room,
-            )
+            say(b"trade buy=# sell=# qty=# price=#\n", &numbers, room)
         }
         Said::Convert(o) => {
             let numbers = [time, o.number, o.lots, o.price];
-            lines::write(b"t=# say=", b"convert id=# qty=# price=#\n", &numbers, room)
+            say(b"convert id=# qty=# price=#\n", &numbers, room)
         }
         Said::Cancel(e) => {
             let why = e.why;
             let numbers = [time, e.number, e.lots, numbers::of_why(why)];
-            lines::write(b"t=# say=", b"cancel id=# qty=# why=#\n", &numbers, room)
+            say(b"cancel id=# qty=# why=#\n", &numbers, room)
         }
         Said::Slab(b) => {
             let numbers = [time, b.low, b.high];
-            lines::write(b"t=# say=", b"slab low=# high=#\n", &numbers, room)
+            say(b"slab low=# high=#\n", &numbers, room)
         }
         Said::Ref(price) => {
             let numbers = [time, price];
-            lines::write(b"t=# say=", b"ref price=#\n", &numbers, room)
+            say(b"ref price=#\n", &numbers, room)
         }
         Said::Close(c) => {
             let numbers = [time, c.price, c.base];
-            lines::write(b"t=# say=", b"close price=# base=#\n", &numbers, room)
+            say(b"close price=# base=#\n", &numbers, room)
         }
     }
 }
@@ -59,7 +63,7 @@ pub fn write_refused(time: u64, refusal: Refusal, room: &mut [u8]) -> Wrote
     ensures { λ r. ⌜ Writes (now (room .entry)) (renderRefused time refusal) (refusedNumbers time refusal) r (now (room .exit)) ⌝ }
 {
     let numbers = [time, numbers::of_refusal(refusal)];
-    lines::write(b"t=# say=", b"refuse code=#\n", &numbers, room)
+    say(b"refuse code=#\n", &numbers, room)
 }
 
 // The line that the program prints for a bad line, or refused settings.

@@ -7,10 +7,49 @@ use text_law::Found;
 use text_law::Passed;
 ghost use mathlib.Core.Path.{_≡_};
 ghost use Rattle.text_law.specs.Pieces.{at as lookAt};
-ghost use Rattle.reading_law.specs.Grammars.{laterNumbers, categoryRest, categories};
+ghost use Rattle.reading_law.specs.Grammars.{lastNumbers, laterNumbers, categoryRest, categories};
 ghost use Rattle.reading_law.specs.Answers.{settingsAnswer, readSettings};
 
-// The last four numbers.
+// The last two numbers.
+fn last_numbers(
+    s: &[u8],
+    at: usize,
+    category: Category,
+    base: u64,
+    close: u64,
+    settle: u64,
+    tick: u64,
+    length: u64,
+) -> ReadSettings
+    ensures { λ r. ⌜ settingsAnswer r ≡ lookAt (now (s .entry)) (lastNumbers category base close settle tick length) at ⌝ }
+{
+    match pieces::field(s, at, b" days=") {
+        Found::Value {
+            value: days,
+            next: d,
+        } => match pieces::last(s, d, b" under=") {
+            Found::Value { value: under, next } => ReadSettings::Whole(
+                Settings {
+                    category: category,
+                    base: base,
+                    close: close,
+                    settle: settle,
+                    tick: tick,
+                    length: length,
+                    days: days,
+                    under: under,
+                },
+                next,
+            ),
+            Found::Short => ReadSettings::Unfinished,
+            Found::Wrong(p) => ReadSettings::Wrong(p),
+        },
+        Found::Short => ReadSettings::Unfinished,
+        Found::Wrong(p) => ReadSettings::Wrong(p),
+    }
+}
+
+// The two before them.
 fn later_numbers(
     s: &[u8],
     at: usize,
@@ -28,31 +67,8 @@ fn later_numbers(
         } => match pieces::field(s, t, b" len=") {
             Found::Value {
                 value: length,
-                next: l,
-            } => match pieces::field(s, l, b" days=") {
-                Found::Value {
-                    value: days,
-                    next: d,
-                } => match pieces::last(s, d, b" under=") {
-                    Found::Value { value: under, next } => ReadSettings::Whole(
-                        Settings {
-                            category: category,
-                            base: base,
-                            close: close,
-                            settle: settle,
-                            tick: tick,
-                            length: length,
-                            days: days,
-                            under: under,
-                        },
-                        next,
-                    ),
-                    Found::Short => ReadSettings::Unfinished,
-                    Found::Wrong(p) => ReadSettings::Wrong(p),
-                },
-                Found::Short => ReadSettings::Unfinished,
-                Found::Wrong(p) => ReadSettings::Wrong(p),
-            },
+                next,
+            } => last_numbers(s, next, category, base, close, settle, tick, length),
             Found::Short => ReadSettings::Unfinished,
             Found::Wrong(p) => ReadSettings::Wrong(p),
         },

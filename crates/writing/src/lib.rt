@@ -17,9 +17,9 @@ ghost use mathlib.Core.List.{_++_};
 ghost use mathlib.Core.Path.{_≡_};
 ghost use Prim.Native.Nat.{_≤_};
 ghost use Rattle.text_law.specs.Forms.{holes, longest};
-ghost use Rattle.reading_law.specs.Lines.{numbersForm, settingsNumbers, renderSettings, orderForm, eventNumbers, renderEvent};
+ghost use Rattle.reading_law.specs.Lines.{actHead, numbersForm, settingsNumbers, renderSettings, orderForm, eventNumbers, renderEvent};
 ghost use Rattle.writing_law.specs.Lines.{orderNumbers};
-ghost use Rattle.writing_law.specs.Writes.{Writes, WritesForm};
+ghost use Rattle.writing_law.specs.Writes.{Writes, WritesForm, Formed};
 
 // An order, after the part of its line that names the side, which is short and has the time's hole.
 fn write_order(head: &[u8], time: u64, o: Entry, room: &mut [u8]) -> Wrote
@@ -62,6 +62,14 @@ fn write_order(head: &[u8], time: u64, o: Entry, room: &mut [u8]) -> Wrote
     }
 }
 
+// The line of an act that is no order.
+fn act_line(tail: &[u8], numbers: &[u64], room: &mut [u8]) -> Wrote
+    requires { ⌜ Formed actHead (now tail) (now numbers) ⌝ }
+    ensures { λ r. ⌜ WritesForm (now (room .entry)) (actHead ++ now (tail .entry)) (now (numbers .entry)) r (now (room .exit)) ⌝ }
+{
+    lines::write(b"t=# do=", tail, numbers, room)
+}
+
 // The line of an event.
 pub fn write_event(event: Event, room: &mut [u8]) -> Wrote
     ensures { λ r. ⌜ Writes (now (room .entry)) (renderEvent event) (eventNumbers event) r (now (room .exit)) ⌝ }
@@ -78,19 +86,19 @@ pub fn write_event(event: Event, room: &mut [u8]) -> Wrote
         }
         Act::Withdraw(number) => {
             let numbers = [time, number];
-            lines::write(b"t=# do=", b"cancel id=#\n", &numbers, room)
+            act_line(b"cancel id=#\n", &numbers, room)
         }
         Act::Under(price) => {
             let numbers = [time, price];
-            lines::write(b"t=# do=", b"under price=#\n", &numbers, room)
+            act_line(b"under price=#\n", &numbers, room)
         }
         Act::Clock => {
             let numbers = [time];
-            lines::write(b"t=# do=", b"clock\n", &numbers, room)
+            act_line(b"clock\n", &numbers, room)
         }
         Act::Finish(settle) => {
             let numbers = [time, settle];
-            lines::write(b"t=# do=", b"close settle=#\n", &numbers, room)
+            act_line(b"close settle=#\n", &numbers, room)
         }
     }
 }

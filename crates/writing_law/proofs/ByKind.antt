@@ -16,8 +16,7 @@ use Rattle.terms.specs.declared.Ended.{Ended}
 use Rattle.terms.specs.declared.Settings.{Settings}
 use Rattle.terms.specs.declared.Side.{Side}
 use Rattle.terms.specs.Reports.{whyOf}
-use Rattle.text_law.specs.Text.{bytes}
-use Rattle.reading_law.specs.Lines.{sideWord, orderForm, priceNumbers, actNumbers, eventForm, eventNumbers, renderEvent, settingsForm, settingsNumbers, renderSettings}
+use Rattle.reading_law.specs.Lines.{actHead, sideWord, orderForm, priceNumbers, actNumbers, eventForm, eventNumbers, renderEvent, settingsForm, settingsNumbers, renderSettings}
 use Rattle.writing_law.specs.declared.Wrote.{Wrote}
 use Rattle.writing_law.specs.Lines.{orderNumbers, saidNumbers, reportForm, reportNumbers, renderReport}
 use Rattle.writing_law.specs.Writes.{Writes, WritesForm}
@@ -33,7 +32,7 @@ module _ {d d′ : List ℕ} {r : Wrote} where
   by-act e a q w = rw q w
 
   pub by-side : (e : Event) (o : Entry) (side : Side) → e .act ≡ Enter o → o .side ≡ side
-      → WritesForm d (bytes "t=# do=" ++ (sideWord side ++ orderForm (o .kind) (o .life))) (orderNumbers (e .time) o) r d′
+      → WritesForm d (actHead ++ (sideWord side ++ orderForm (o .kind) (o .life))) (orderNumbers (e .time) o) r d′
       → Writes d (renderEvent e) (eventNumbers e) r d′
   unfolding renderEvent
   by-side e o side q s w = rw (q, s) w

@@ -19,13 +19,12 @@ use Rattle.terms.specs.declared.Settings.{Settings}
 use Rattle.terms.specs.declared.Side.{Side}
 use Rattle.terms.specs.declared.Side.the-variants.{Buy, Sell}
 use Rattle.terms.specs.Sizes.{lineRoom}
-use Rattle.text_law.specs.Text.{bytes}
 use Rattle.text_law.specs.Forms.{longest}
 use Rattle.text_law.proofs.Fills.{fill-length}
-use Rattle.reading_law.specs.Lines.{sideWord, orderForm, eventForm, eventNumbers, renderEvent, numbersForm, settingsForm, settingsNumbers, renderSettings}
+use Rattle.reading_law.specs.Lines.{actHead, sideWord, orderForm, eventForm, eventNumbers, renderEvent, numbersForm, settingsForm, settingsNumbers, renderSettings}
 use Rattle.writing_law.specs.Lines.{reportForm, reportNumbers, renderReport}
 
-order-short : (side : Side) (kind : Kind) (life : Life) → longest (bytes "t=# do=" ++ (sideWord side ++ orderForm kind life)) ≤ lineRoom
+order-short : (side : Side) (kind : Kind) (life : Life) → longest (actHead ++ (sideWord side ++ orderForm kind life)) ≤ lineRoom
 unfolding longest
 order-short Buy (Limit price) AllDay = omega arith
 order-short Buy (Limit price) Ioc = omega arith

@@ -37,8 +37,12 @@ saidNumbers (Slab b) = b .low ∷ b .high ∷ []
 saidNumbers (Ref price) = price ∷ []
 saidNumbers (Close c) = c .price ∷ c .base ∷ []
 
+-- "t=# say=", which every report line begins with
+abbrev pub saidHead : List ℕ
+saidHead = bytes "t=# say="
+
 abbrev pub reportForm : Said → List ℕ
-reportForm s = bytes "t=# say=" ++ saidForm s
+reportForm s = saidHead ++ saidForm s
 
 abbrev pub reportNumbers : Report → List ℕ
 reportNumbers r = r .time ∷ saidNumbers (r .said)

@@ -12,12 +12,15 @@ returns : tie.Need-returns
 unfolding reportFrom
 returns c = search numbered depth 20
 
+deal-from-requires : tie.Need-deal-from-requires
+deal-from-requires c κs = search needs
+
 told-if-requires-2 : tie.Need-told-if-requires-2
 told-if-requires-2 c κs = search needs
 
 returns-2 : tie.Need-returns-2
 unfolding reportFrom
-returns-2 c = search numbered depth 20
+returns-2 c = rw (← c .before .deal-from .ensures) (search numbered depth 20)
 
 told-if-requires-3 : tie.Need-told-if-requires-3
 told-if-requires-3 c κs = search needs
@@ -67,6 +70,7 @@ report-from-spec =
     (tie.spec
     told-if-requires
     returns
+    deal-from-requires
     told-if-requires-2
     returns-2
     told-if-requires-3

@@ -9,34 +9,30 @@ use Rattle.saying.proofs.write_refused.Tie as tie
 of-refusal-requires : tie.Need-of-refusal-requires
 of-refusal-requires c κs = search needs
 
-slice-aggregate-write : tie.Need-slice-aggregate-write
-slice-aggregate-write c = search needs
+slice-aggregate-say : tie.Need-slice-aggregate-say
+slice-aggregate-say c = search needs
 
-slice-aggregate-write-2 : tie.Need-slice-aggregate-write-2
-slice-aggregate-write-2 c = search needs
+slice-aggregate-say-2 : tie.Need-slice-aggregate-say-2
+slice-aggregate-say-2 c = search needs
 
-slice-aggregate-write-3 : tie.Need-slice-aggregate-write-3
-slice-aggregate-write-3 c = search needs
-
-write-requires : tie.Need-write-requires
+say-requires : tie.Need-say-requires
 unfolding holes longest
-write-requires c κs = record { enough = omega arith; short = omega arith }
+say-requires c κs = record { enough = omega arith; short = omega arith }
 
 same-length : tie.Need-same-length
 same-length c = search needs
 
 returns : tie.Need-returns
 unfolding renderRefused
-returns c = rw (← c .before .before .before .before .before .before .before .of-refusal .ensures) (c .before .before .write .ensures)
+returns c = rw (← c .before .before .before .before .before .before .of-refusal .ensures) (c .before .before .say .ensures)
 
 pub write-refused-spec : {M : Type 1} → statement M
 write-refused-spec =
     tie.close
     (tie.spec
     of-refusal-requires
-    slice-aggregate-write
-    slice-aggregate-write-2
-    slice-aggregate-write-3
-    write-requires
+    slice-aggregate-say
+    slice-aggregate-say-2
+    say-requires
     same-length
     returns)

@@ -9,50 +9,41 @@ use Rattle.saying.proofs.write_report.Tie as tie
 enum-known-said : tie.Need-enum-known-said
 enum-known-said c = search needs
 
-slice-aggregate-write : tie.Need-slice-aggregate-write
-slice-aggregate-write c = search needs
+slice-aggregate-say : tie.Need-slice-aggregate-say
+slice-aggregate-say c = search needs
 
-slice-aggregate-write-2 : tie.Need-slice-aggregate-write-2
-slice-aggregate-write-2 c = search needs
+slice-aggregate-say-2 : tie.Need-slice-aggregate-say-2
+slice-aggregate-say-2 c = search needs
 
-slice-aggregate-write-3 : tie.Need-slice-aggregate-write-3
-slice-aggregate-write-3 c = search needs
-
-write-requires : tie.Need-write-requires
+say-requires : tie.Need-say-requires
 unfolding holes longest
-write-requires c κs = record { enough = omega arith; short = omega arith }
+say-requires c κs = record { enough = omega arith; short = omega arith }
 
 enum-known-said-2 : tie.Need-enum-known-said-2
 enum-known-said-2 c = search needs
 
-slice-aggregate-write-4 : tie.Need-slice-aggregate-write-4
-slice-aggregate-write-4 c = search needs
+slice-aggregate-say-3 : tie.Need-slice-aggregate-say-3
+slice-aggregate-say-3 c = search needs
 
-slice-aggregate-write-5 : tie.Need-slice-aggregate-write-5
-slice-aggregate-write-5 c = search needs
+slice-aggregate-say-4 : tie.Need-slice-aggregate-say-4
+slice-aggregate-say-4 c = search needs
 
-slice-aggregate-write-6 : tie.Need-slice-aggregate-write-6
-slice-aggregate-write-6 c = search needs
-
-write-requires-2 : tie.Need-write-requires-2
+say-requires-2 : tie.Need-say-requires-2
 unfolding holes longest
-write-requires-2 c κs = record { enough = omega arith; short = omega arith }
+say-requires-2 c κs = record { enough = omega arith; short = omega arith }
 
 enum-known-said-3 : tie.Need-enum-known-said-3
 enum-known-said-3 c = search needs
 
-slice-aggregate-write-7 : tie.Need-slice-aggregate-write-7
-slice-aggregate-write-7 c = search needs
+slice-aggregate-say-5 : tie.Need-slice-aggregate-say-5
+slice-aggregate-say-5 c = search needs
 
-slice-aggregate-write-8 : tie.Need-slice-aggregate-write-8
-slice-aggregate-write-8 c = search needs
+slice-aggregate-say-6 : tie.Need-slice-aggregate-say-6
+slice-aggregate-say-6 c = search needs
 
-slice-aggregate-write-9 : tie.Need-slice-aggregate-write-9
-slice-aggregate-write-9 c = search needs
-
-write-requires-3 : tie.Need-write-requires-3
+say-requires-3 : tie.Need-say-requires-3
 unfolding holes longest
-write-requires-3 c κs = record { enough = omega arith; short = omega arith }
+say-requires-3 c κs = record { enough = omega arith; short = omega arith }
 
 enum-known-said-4 : tie.Need-enum-known-said-4
 enum-known-said-4 c = search needs
@@ -60,66 +51,54 @@ enum-known-said-4 c = search needs
 of-why-requires : tie.Need-of-why-requires
 of-why-requires c κs = search needs
 
-slice-aggregate-write-10 : tie.Need-slice-aggregate-write-10
-slice-aggregate-write-10 c = search needs
+slice-aggregate-say-7 : tie.Need-slice-aggregate-say-7
+slice-aggregate-say-7 c = search needs
 
-slice-aggregate-write-11 : tie.Need-slice-aggregate-write-11
-slice-aggregate-write-11 c = search needs
+slice-aggregate-say-8 : tie.Need-slice-aggregate-say-8
+slice-aggregate-say-8 c = search needs
 
-slice-aggregate-write-12 : tie.Need-slice-aggregate-write-12
-slice-aggregate-write-12 c = search needs
-
-write-requires-4 : tie.Need-write-requires-4
+say-requires-4 : tie.Need-say-requires-4
 unfolding holes longest
-write-requires-4 c κs = record { enough = omega arith; short = omega arith }
+say-requires-4 c κs = record { enough = omega arith; short = omega arith }
 
 enum-known-said-5 : tie.Need-enum-known-said-5
 enum-known-said-5 c = search needs
 
-slice-aggregate-write-13 : tie.Need-slice-aggregate-write-13
-slice-aggregate-write-13 c = search needs
+slice-aggregate-say-9 : tie.Need-slice-aggregate-say-9
+slice-aggregate-say-9 c = search needs
 
-slice-aggregate-write-14 : tie.Need-slice-aggregate-write-14
-slice-aggregate-write-14 c = search needs
+slice-aggregate-say-10 : tie.Need-slice-aggregate-say-10
+slice-aggregate-say-10 c = search needs
 
-slice-aggregate-write-15 : tie.Need-slice-aggregate-write-15
-slice-aggregate-write-15 c = search needs
-
-write-requires-5 : tie.Need-write-requires-5
+say-requires-5 : tie.Need-say-requires-5
 unfolding holes longest
-write-requires-5 c κs = record { enough = omega arith; short = omega arith }
+say-requires-5 c κs = record { enough = omega arith; short = omega arith }
 
 enum-known-said-6 : tie.Need-enum-known-said-6
 enum-known-said-6 c = search needs
 
-slice-aggregate-write-16 : tie.Need-slice-aggregate-write-16
-slice-aggregate-write-16 c = search needs
+slice-aggregate-say-11 : tie.Need-slice-aggregate-say-11
+slice-aggregate-say-11 c = search needs
 
-slice-aggregate-write-17 : tie.Need-slice-aggregate-write-17
-slice-aggregate-write-17 c = search needs
+slice-aggregate-say-12 : tie.Need-slice-aggregate-say-12
+slice-aggregate-say-12 c = search needs
 
-slice-aggregate-write-18 : tie.Need-slice-aggregate-write-18
-slice-aggregate-write-18 c = search needs
-
-write-requires-6 : tie.Need-write-requires-6
+say-requires-6 : tie.Need-say-requires-6
 unfolding holes longest
-write-requires-6 c κs = record { enough = omega arith; short = omega arith }
+say-requires-6 c κs = record { enough = omega arith; short = omega arith }
 
 enum-known-said-7 : tie.Need-enum-known-said-7
 enum-known-said-7 c = search needs
 
-slice-aggregate-write-19 : tie.Need-slice-aggregate-write-19
-slice-aggregate-write-19 c = search needs
+slice-aggregate-say-13 : tie.Need-slice-aggregate-say-13
+slice-aggregate-say-13 c = search needs
 
-slice-aggregate-write-20 : tie.Need-slice-aggregate-write-20
-slice-aggregate-write-20 c = search needs
+slice-aggregate-say-14 : tie.Need-slice-aggregate-say-14
+slice-aggregate-say-14 c = search needs
 
-slice-aggregate-write-21 : tie.Need-slice-aggregate-write-21
-slice-aggregate-write-21 c = search needs
-
-write-requires-7 : tie.Need-write-requires-7
+say-requires-7 : tie.Need-say-requires-7
 unfolding holes longest
-write-requires-7 c κs = record { enough = omega arith; short = omega arith }
+say-requires-7 c κs = record { enough = omega arith; short = omega arith }
 
 same-length : tie.Need-same-length
 same-length c = search needs
@@ -168,41 +147,34 @@ write-report-spec =
     tie.close
     (tie.spec
     enum-known-said
-    slice-aggregate-write
-    slice-aggregate-write-2
-    slice-aggregate-write-3
-    write-requires
+    slice-aggregate-say
+    slice-aggregate-say-2
+    say-requires
     enum-known-said-2
-    slice-aggregate-write-4
-    slice-aggregate-write-5
-    slice-aggregate-write-6
-    write-requires-2
+    slice-aggregate-say-3
+    slice-aggregate-say-4
+    say-requires-2
     enum-known-said-3
-    slice-aggregate-write-7
-    slice-aggregate-write-8
-    slice-aggregate-write-9
-    write-requires-3
+    slice-aggregate-say-5
+    slice-aggregate-say-6
+    say-requires-3
     enum-known-said-4
     of-why-requires
-    slice-aggregate-write-10
-    slice-aggregate-write-11
-    slice-aggregate-write-12
-    write-requires-4
+    slice-aggregate-say-7
+    slice-aggregate-say-8
+    say-requires-4
     enum-known-said-5
-    slice-aggregate-write-13
-    slice-aggregate-write-14
-    slice-aggregate-write-15
-    write-requires-5
+    slice-aggregate-say-9
+    slice-aggregate-say-10
+    say-requires-5
     enum-known-said-6
-    slice-aggregate-write-16
-    slice-aggregate-write-17
-    slice-aggregate-write-18
-    write-requires-6
+    slice-aggregate-say-11
+    slice-aggregate-say-12
+    say-requires-6
     enum-known-said-7
-    slice-aggregate-write-19
-    slice-aggregate-write-20
-    slice-aggregate-write-21
-    write-requires-7
+    slice-aggregate-say-13
+    slice-aggregate-say-14
+    say-requires-7
     same-length
     returns
     same-length-2

@@ -32,66 +32,54 @@ write-order-requires-2 c κs = (omega arith, omega arith)
 enum-known-act-2 : tie.Need-enum-known-act-2
 enum-known-act-2 c = search needs
 
-slice-aggregate-write : tie.Need-slice-aggregate-write
-slice-aggregate-write c = search needs
+slice-aggregate-act-line : tie.Need-slice-aggregate-act-line
+slice-aggregate-act-line c = search needs
 
-slice-aggregate-write-2 : tie.Need-slice-aggregate-write-2
-slice-aggregate-write-2 c = search needs
+slice-aggregate-act-line-2 : tie.Need-slice-aggregate-act-line-2
+slice-aggregate-act-line-2 c = search needs
 
-slice-aggregate-write-3 : tie.Need-slice-aggregate-write-3
-slice-aggregate-write-3 c = search needs
-
-write-requires : tie.Need-write-requires
+act-line-requires : tie.Need-act-line-requires
 unfolding holes longest
-write-requires c κs = record { enough = omega arith; short = omega arith }
+act-line-requires c κs = record { enough = omega arith; short = omega arith }
 
 enum-known-act-3 : tie.Need-enum-known-act-3
 enum-known-act-3 c = search needs
 
-slice-aggregate-write-4 : tie.Need-slice-aggregate-write-4
-slice-aggregate-write-4 c = search needs
+slice-aggregate-act-line-3 : tie.Need-slice-aggregate-act-line-3
+slice-aggregate-act-line-3 c = search needs
 
-slice-aggregate-write-5 : tie.Need-slice-aggregate-write-5
-slice-aggregate-write-5 c = search needs
+slice-aggregate-act-line-4 : tie.Need-slice-aggregate-act-line-4
+slice-aggregate-act-line-4 c = search needs
 
-slice-aggregate-write-6 : tie.Need-slice-aggregate-write-6
-slice-aggregate-write-6 c = search needs
-
-write-requires-2 : tie.Need-write-requires-2
+act-line-requires-2 : tie.Need-act-line-requires-2
 unfolding holes longest
-write-requires-2 c κs = record { enough = omega arith; short = omega arith }
+act-line-requires-2 c κs = record { enough = omega arith; short = omega arith }
 
 enum-told-3 : tie.Need-enum-told-3
 enum-told-3 c = search needs
 
-slice-aggregate-write-7 : tie.Need-slice-aggregate-write-7
-slice-aggregate-write-7 c = search needs
+slice-aggregate-act-line-5 : tie.Need-slice-aggregate-act-line-5
+slice-aggregate-act-line-5 c = search needs
 
-slice-aggregate-write-8 : tie.Need-slice-aggregate-write-8
-slice-aggregate-write-8 c = search needs
+slice-aggregate-act-line-6 : tie.Need-slice-aggregate-act-line-6
+slice-aggregate-act-line-6 c = search needs
 
-slice-aggregate-write-9 : tie.Need-slice-aggregate-write-9
-slice-aggregate-write-9 c = search needs
-
-write-requires-3 : tie.Need-write-requires-3
+act-line-requires-3 : tie.Need-act-line-requires-3
 unfolding holes longest
-write-requires-3 c κs = record { enough = omega arith; short = omega arith }
+act-line-requires-3 c κs = record { enough = omega arith; short = omega arith }
 
 enum-known-act-4 : tie.Need-enum-known-act-4
 enum-known-act-4 c = search needs
 
-slice-aggregate-write-10 : tie.Need-slice-aggregate-write-10
-slice-aggregate-write-10 c = search needs
+slice-aggregate-act-line-7 : tie.Need-slice-aggregate-act-line-7
+slice-aggregate-act-line-7 c = search needs
 
-slice-aggregate-write-11 : tie.Need-slice-aggregate-write-11
-slice-aggregate-write-11 c = search needs
+slice-aggregate-act-line-8 : tie.Need-slice-aggregate-act-line-8
+slice-aggregate-act-line-8 c = search needs
 
-slice-aggregate-write-12 : tie.Need-slice-aggregate-write-12
-slice-aggregate-write-12 c = search needs
-
-write-requires-4 : tie.Need-write-requires-4
+act-line-requires-4 : tie.Need-act-line-requires-4
 unfolding holes longest
-write-requires-4 c κs = record { enough = omega arith; short = omega arith }
+act-line-requires-4 c κs = record { enough = omega arith; short = omega arith }
 
 same-length : tie.Need-same-length
 same-length c = search needs
@@ -141,25 +129,21 @@ write-event-spec =
     slice-aggregate-write-order-2
     write-order-requires-2
     enum-known-act-2
-    slice-aggregate-write
-    slice-aggregate-write-2
-    slice-aggregate-write-3
-    write-requires
+    slice-aggregate-act-line
+    slice-aggregate-act-line-2
+    act-line-requires
     enum-known-act-3
-    slice-aggregate-write-4
-    slice-aggregate-write-5
-    slice-aggregate-write-6
-    write-requires-2
+    slice-aggregate-act-line-3
+    slice-aggregate-act-line-4
+    act-line-requires-2
     enum-told-3
-    slice-aggregate-write-7
-    slice-aggregate-write-8
-    slice-aggregate-write-9
-    write-requires-3
+    slice-aggregate-act-line-5
+    slice-aggregate-act-line-6
+    act-line-requires-3
     enum-known-act-4
-    slice-aggregate-write-10
-    slice-aggregate-write-11
-    slice-aggregate-write-12
-    write-requires-4
+    slice-aggregate-act-line-7
+    slice-aggregate-act-line-8
+    act-line-requires-4
     same-length
     returns
     same-length-2

@@ -10,14 +10,20 @@ enum-told c = search needs
 enum-known-fate : tie.Need-enum-known-fate
 enum-known-fate c = search needs
 
+order-of-requires : tie.Need-order-of-requires
+order-of-requires c κs = search needs
+
 rest-requires : tie.Need-rest-requires
-rest-requires c κs = (c .before .before .before .before .before .before .pre .holds, c .before .before .before .before .before .before .pre .place (rw (c .before .before .fate .given .1)))
+rest-requires c κs = (c .before .before .before .before .before .before .before .pre .holds, c .before .before .before .before .before .before .before .pre .place (rw (c .before .before .before .fate .given .1)))
 
 enum-known-fate-2 : tie.Need-enum-known-fate-2
 enum-known-fate-2 c = search needs
 
+order-of-requires-2 : tie.Need-order-of-requires-2
+order-of-requires-2 c κs = search needs
+
 rest-requires-2 : tie.Need-rest-requires-2
-rest-requires-2 c κs = (c .before .before .before .before .before .before .pre .holds, c .before .before .before .before .before .before .pre .place (rw (c .before .before .fate2 .given .1)))
+rest-requires-2 c κs = (c .before .before .before .before .before .before .before .pre .holds, c .before .before .before .before .before .before .before .pre .place (rw (c .before .before .before .fate2 .given .1)))
 
 tell-requires : tie.Need-tell-requires
 tell-requires c κs = search needs
@@ -35,7 +41,7 @@ same-length : tie.Need-same-length
 same-length c = search needs
 
 returns-2 : tie.Need-returns-2
-returns-2 c = let a = c .before .before .before .before .before .before .before .before .before .args in rw (c .before .before .before .before .before .fate .given .1) (settled-rests (a .side) (a .time) (a .number) (a .left) (a .n) (a .mine .now) (a .room .now) (a .at) _ _ _ (c .before .before .rest .ensures))
+returns-2 c = let a = c .before .before .before .before .before .before .before .before .before .before .args in rw (c .before .before .before .before .before .before .fate .given .1) (settled-rests (a .side) (a .time) (a .number) (a .left) (a .n) (a .mine .now) (a .room .now) (a .at) _ _ _ (rw (← c .before .before .before .before .order-of .ensures) (c .before .before .rest .ensures)))
 
 same-length-2 : tie.Need-same-length-2
 same-length-2 c = search needs
@@ -44,7 +50,7 @@ same-length-3 : tie.Need-same-length-3
 same-length-3 c = search needs
 
 returns-3 : tie.Need-returns-3
-returns-3 c = let a = c .before .before .before .before .before .before .before .before .before .before .before .before .before .args in rw (c .before .before .before .before .before .before .before .before .before .fate2 .given .1) (settled-turns (a .side) (a .time) (a .number) (a .left) (a .n) (a .mine .now) (a .room .now) (a .at) _ _ _ _ _ (c .before .before .before .before .before .before .rest2 .ensures) (c .before .before .tell .ensures))
+returns-3 c = let a = c .before .before .before .before .before .before .before .before .before .before .before .before .before .before .args in rw (c .before .before .before .before .before .before .before .before .before .before .fate2 .given .1) (settled-turns (a .side) (a .time) (a .number) (a .left) (a .n) (a .mine .now) (a .room .now) (a .at) _ _ _ _ _ (rw (← c .before .before .before .before .before .before .before .before .order-of2 .ensures) (c .before .before .before .before .before .before .rest2 .ensures)) (rw (← c .before .before .before .before .before .before .before .before .order-of2 .ensures) (c .before .before .tell .ensures)))
 
 same-length-4 : tie.Need-same-length-4
 same-length-4 c = search needs
@@ -58,8 +64,10 @@ settle-spec =
     (tie.spec
     enum-told
     enum-known-fate
+    order-of-requires
     rest-requires
     enum-known-fate-2
+    order-of-requires-2
     rest-requires-2
     tell-requires
     enum-known-fate-3

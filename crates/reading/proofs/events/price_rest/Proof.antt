@@ -14,6 +14,9 @@ last-requires c κs = search needs
 enum-known-value : tie.Need-enum-known-value
 enum-known-value c = search needs
 
+order-requires : tie.Need-order-requires
+order-requires c κs = search needs
+
 enum-told : tie.Need-enum-told
 enum-told c = search needs
 
@@ -29,6 +32,9 @@ word-requires c κs = search needs
 enum-known-next : tie.Need-enum-known-next
 enum-known-next c = search needs
 
+order-requires-2 : tie.Need-order-requires-2
+order-requires-2 c κs = search needs
+
 enum-told-2 : tie.Need-enum-told-2
 enum-told-2 c = search needs
 
@@ -37,7 +43,7 @@ enum-known-p-2 c = search needs
 
 returns : tie.Need-returns
 unfolding priceRest
-returns c = rw (c .before .before .before .before .before .if1 .taken) (search pieces)
+returns c = rw (c .before .before .before .before .before .before .if1 .taken, c .order .ensures) (search pieces)
 
 returns-2 : tie.Need-returns-2
 unfolding priceRest
@@ -49,7 +55,7 @@ returns-3 c = rw (c .before .before .before .before .before .if1 .taken) (search
 
 returns-4 : tie.Need-returns-4
 unfolding priceRest
-returns-4 c = rw (c .before .before .before .before .before .if1 .left) (search pieces)
+returns-4 c = rw (c .before .before .before .before .before .before .if1 .left, c .order2 .ensures) (search pieces)
 
 returns-5 : tie.Need-returns-5
 unfolding priceRest
@@ -66,11 +72,13 @@ price-rest-spec =
     slice-aggregate-last
     last-requires
     enum-known-value
+    order-requires
     enum-told
     enum-known-p
     slice-aggregate-word
     word-requires
     enum-known-next
+    order-requires-2
     enum-told-2
     enum-known-p-2
     returns
