@@ -33,14 +33,14 @@ use Rattle.soundness_law.specs.Sound.{sound}
 use Rattle.soundness_law.proofs.Days.{sound-day}
 use Rattle.acts_law.specs.Acts.{Acted, only, clockReports, sweepIn, fateIn, entered, withdrawn, silent, cancelReports, closeReport, finished, afterClock, acted, act}
 
-only-few : (b : Bool) (r : Report) → length (only b r) ≤ 1
+pub only-few : (b : Bool) (r : Report) → length (only b r) ≤ 1
 only-few true r = omega arith
 only-few false r = omega arith
 
 two-few : (a b : Bool) (x y : Report) → length (only a x ++ only b y) ≤ 2
 two-few a b x y = omega (arith, length-append (only a x) (only b y), only-few a x, only-few b y)
 
-clock-few : (s s′ : Session) → length (clockReports s s′) ≤ 2
+pub clock-few : (s s′ : Session) → length (clockReports s s′) ≤ 2
 unfolding clockReports
 clock-few s s′ =
     two-few (not (eqb (percentNow s) (percentNow s′))) (not (eqb (s .reckoning .reference) (s′ .reckoning .reference)))

@@ -24,6 +24,7 @@ use Rattle.tables.proofs.Written.{length-records, put-records}
 use Rattle.book_law.specs.Matching.{reportAt}
 use Rattle.acts_law.specs.Acts.{only, ended, cancelReports}
 use Rattle.acts_law.specs.Written.{Written}
+use Rattle.acts_law.proofs.Few.{only-few}
 
 pub written-none : (room : List ℕ) (at : ℕ) → Written room at [] room at
 unfolding recordsOf
@@ -69,18 +70,14 @@ pub slab-one : (room : List ℕ) (at time : ℕ) (x y : Band) (room₁ : List �
     Written room at (reportAt time (Slab x) ∷ []) room₁ n → Written room at (reportAt time (Slab y) ∷ []) room₁ n
 slab-one room at time x y room₁ n e w = rw e at w
 
-only-short : (b : Bool) (r : Report) → length (only b r) ≤ 1
-only-short true r = omega arith
-only-short false r = omega arith
-
 module _ (room : List ℕ) (at : ℕ) (b : Bool) (r : Report) (room₁ : List ℕ) (n : ℕ) (w : Written room at (only b r) room₁ n)
     (h : at + recordLength * 2 ≤ length room) where
   fits : at + recordLength * length (only b r) ≤ length room
-  fits = omega (arith, only-short b r)
+  fits = omega (arith, only-few b r)
 
   -- there is room for one more,
   pub only-leaves : n + recordLength ≤ length room₁
-  only-leaves = omega (arith, only-short b r, w .behind, written-length room at (only b r) room₁ n w fits)
+  only-leaves = omega (arith, only-few b r, w .behind, written-length room at (only b r) room₁ n w fits)
 
   -- which stands behind it
   pub only-then : (ss : List Report) (room₂ : List ℕ) (m : ℕ) → Written room₁ n ss room₂ m → Written room at (only b r ++ ss) room₂ m

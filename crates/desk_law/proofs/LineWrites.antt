@@ -31,11 +31,11 @@ use Rattle.writing_law.proofs.Short.{event-short, settings-short, report-short}
 
 -- ---- of any line
 
-wrote-few : (v : Verdict) (n : ℕ) (w : Wrote) → n ≤ countMost → w ≡ wroteOf v n → Few w
+pub wrote-few : (v : Verdict) (n : ℕ) (w : Wrote) → n ≤ countMost → w ≡ wroteOf v n → Few w
 wrote-few Fine n w h e = rw e h
 wrote-few (Refused r) n w h e = rw e tt
 
-wrote-number : (v : Verdict) (n : ℕ) → wroteNumber (wroteOf v n) ≡ answerOf v n
+pub wrote-number : (v : Verdict) (n : ℕ) → wroteNumber (wroteOf v n) ≡ answerOf v n
 wrote-number Fine n = refl
 wrote-number (Refused r) n = refl
 

@@ -33,6 +33,7 @@ use Rattle.answers.specs.Answers.{countMost, answerOf}
 use Rattle.standing.specs.Runs.{runLength, runNumbers, runFrom}
 use Rattle.desk_law.specs.Writes.{wroteNumber, Few}
 use Rattle.desk_law.specs.Feeding.{startVerdict, startedBy, StartedAs, countsLength, stopNumber, isRefusal, laidBy, LaidAfter, fedOn, runAfter, FedAs, endVerdictOn, EndedOn}
+use Rattle.desk_law.proofs.LineWrites.{wrote-few, wrote-number}
 
 -- ---- start
 
@@ -157,17 +158,9 @@ end-short Stage.Awaiting n = bad-short LineUnfinished n
 end-short Stage.Trading n = by (λ (t : List ℕ). length t ≤ lineRoom) (eqb n 0) [] _ (λ e. omega arith) (λ e. bad-short LineUnfinished n)
 end-short Stage.Over n = omega arith
 
-few-of : (v : Verdict) (n : ℕ) (w : Wrote) → n ≤ countMost → w ≡ wroteOf v n → Few w
-few-of Fine n w h e = rw e h
-few-of (Refused r) n w h e = rw e tt
-
 pub end-few : (stage : Stage) (rest out out′ : List ℕ) (w : Wrote) → EndedAs stage rest out w out′ → Few w
 end-few stage rest out out′ w p =
-    few-of (endVerdict out) (length (endText stage (length rest))) w (omega (arith, end-short stage (length rest))) (p .answer)
-
-number-of : (v : Verdict) (n : ℕ) → wroteNumber (wroteOf v n) ≡ answerOf v n
-number-of Fine n = refl
-number-of (Refused r) n = refl
+    wrote-few (endVerdict out) (length (endText stage (length rest))) w (omega (arith, end-short stage (length rest))) (p .answer)
 
 module _ (run rest out : List ℕ) (r : ℕ) where
   pub end-no-run : length run < runLength → r ≡ answerOf (Refused SmallRoom) 0 → EndedOn run rest out out r
@@ -180,6 +173,6 @@ module _ (run rest out : List ℕ) (r : ℕ) where
   end-done before w out′ h i p x =
       let s = le-ltb (length run) runLength h in
       record {
-        answer = rw (s, ← i) (x ∙ (ap wroteNumber (p .answer) ∙ number-of (endVerdict out) _));
+        answer = rw (s, ← i) (x ∙ (ap wroteNumber (p .answer) ∙ wrote-number (endVerdict out) _));
         laid = rw (s, ← i) (p .laid);
       }

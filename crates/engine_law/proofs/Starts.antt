@@ -1,56 +1,41 @@
 -- What an accepted event starts from: the session after the clock steps is within bounds, the tables are cleared, and the counter orders
 -- can be traded. Assumes nothing.
-use Prim.Native.Nat.{ℕ, _+_, _*_, _≤_, _<_}
+use Prim.Native.Nat.{ℕ, _+_, _*_, _≤_}
 use native.Mathlib.Omega.{arith}
-use mathlib.Core.Path.{_≡_, refl, sym, ap, _∙_}
-use mathlib.Core.Bool.{Bool, true, false, _||_, not}
-use mathlib.Core.List.{List, [], _∷_, _++_}
-use borrow.Author.Tests.{leb-true, ltb-true}
-use lib.Dec.{leb, ltb, eqb}
+use mathlib.Core.Path.{_≡_, ap}
+use mathlib.Core.Bool.{true, not}
+use mathlib.Core.List.{List}
+use borrow.Author.Tests.{leb-true}
+use lib.Dec.{leb, ltb}
 use lib.ListN.{length}
 use Rattle.terms.specs.declared.Act.{Act}
 use Rattle.terms.specs.declared.Report.{Report}
-use Rattle.terms.specs.declared.Said.the-variants.{Slab, Ref}
-use Rattle.terms.specs.Sizes.{recordLength, slots, tableLength, roomLength, timeMost, tradesBefore, numbersMost}
+use Rattle.terms.specs.Sizes.{recordLength, slots, timeMost, tradesBefore}
 use Rattle.terms.proofs.Logic.{both, or-last}
-use Rattle.terms.proofs.Valid.{valid-facts}
-use Rattle.tables.specs.Tables.{decode, tableOf, Holds}
+use Rattle.tables.specs.Tables.{decode}
 use Rattle.tables.proofs.Whole.{After, cleared}
-use Rattle.book_law.specs.Matching.{reportAt}
 use Rattle.book_law.specs.Over.{Each}
 use Rattle.book_law.proofs.Over.{each-map}
-use Rattle.audit_law.specs.Sound.{OrderFits}
 use Rattle.audit_law.proofs.Facts.{book-fits, each-fits}
 use Rattle.state_law.specs.declared.Session.{Session}
-use Rattle.state_law.specs.Now.{Clocked, percentNow, bandNow}
+use Rattle.state_law.specs.Now.{Clocked, bandNow}
 use Rattle.state_law.specs.Clock.{clockStep}
 use Rattle.state_law.specs.Trades.{TradesFit}
 use Rattle.state_law.specs.Day.{Day}
-use Rattle.soundness_law.specs.Sound.{sound, sessionSound, dayIn}
+use Rattle.soundness_law.specs.Sound.{sound, dayIn}
 use Rattle.soundness_law.proofs.Clocked.{session-clocked}
 use Rattle.soundness_law.proofs.Border.{sound-session}
-use Rattle.soundness_law.proofs.Parts.{Parts, parts-made}
+use Rattle.soundness_law.proofs.Parts.{parts-made}
 use Rattle.soundness_law.proofs.Kept.{Tradable}
-use Rattle.soundness_law.proofs.Days.{BookOf, each-tradable}
+use Rattle.soundness_law.proofs.Days.{each-tradable}
 use Rattle.refusal_law.proofs.Accepted.{Accepted, accepted}
-use Rattle.acts_law.specs.Acts.{only, clockReports}
-use Rattle.acts_law.specs.Written.{Written, Deals}
+use Rattle.acts_law.specs.Acts.{clockReports}
+use Rattle.acts_law.specs.Written.{Deals}
 use Rattle.acts_law.proofs.Stays as stays
+use Rattle.acts_law.proofs.Few.{clock-few}
 use Rattle.acts_law.proofs.Reports.{written-length}
 use Rattle.engine_law.specs.Calls.{eventAt, Ready}
 use Rattle.engine_law.specs.Steps.{Stepping, SteppedAs}
-
-two-few : (b c : Bool) (r q : Report) → length (only b r ++ only c q) ≤ 2
-two-few true true r q = omega arith
-two-few true false r q = omega arith
-two-few false true r q = omega arith
-two-few false false r q = omega arith
-
-pub clock-few : (s s′ : Session) → length (clockReports s s′) ≤ 2
-unfolding clockReports
-clock-few s s′ =
-    two-few (not (eqb (percentNow s) (percentNow s′))) (not (eqb (s .reckoning .reference) (s′ .reckoning .reference)))
-    (reportAt (s′ .time) (Slab (bandNow s′))) (reportAt (s′ .time) (Ref (s′ .reckoning .reference)))
 
 deals-of : (tick : ℕ) (os : List _) → Each (Tradable tick) os → Each Deals os
 deals-of tick os e = each-map (Tradable tick) Deals (λ o d. record { price-small = d .price-small; lots-some = d .lots-some; lots-small = d .lots-small }) os e
