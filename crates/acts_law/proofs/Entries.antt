@@ -1,36 +1,32 @@
 -- The whole of an order: what its calls ask, and what they leave. Assumes nothing.
-use Prim.Native.Nat.{ℕ, _+_, _*_, _≤_, _<_}
+use Prim.Native.Nat.{ℕ, _+_, _*_, _≤_}
 use native.Mathlib.Omega.{arith}
-use mathlib.Core.Path.{_≡_, refl, sym, ap, _∙_}
+use mathlib.Core.Path.{_≡_, refl, ap, _∙_}
 use mathlib.Core.Bool.{Bool, true, false, false≢true}
-use mathlib.Core.List.{List, [], _∷_, _++_}
+use mathlib.Core.List.{List, _∷_}
 use lib.Dec.{eqb}
 use lib.ListN.{length}
 use Rattle.terms.specs.declared.Band.{Band}
 use Rattle.terms.specs.declared.Entry.{Entry}
-use Rattle.terms.specs.declared.Order.{Order}
 use Rattle.terms.specs.declared.Report.{Report}
 use Rattle.terms.specs.declared.Life.{Life}
 use Rattle.terms.specs.declared.Life.the-variants.{AllDay, Ioc}
 use Rattle.terms.specs.declared.Kind.{Kind}
 use Rattle.terms.specs.declared.Said.the-variants.{Accept}
-use Rattle.terms.specs.Sizes.{recordLength, slots}
+use Rattle.terms.specs.Sizes.{recordLength}
 use Rattle.terms.proofs.Logic.{cases}
-use Rattle.rules_law.specs.Slabs.{slabOf}
 use Rattle.rules_law.specs.Reference.{RangeFits}
 use Rattle.rules_law.proofs.Rows.{row-small}
-use Rattle.tables.specs.Tables.{decode, tableOf, Holds}
+use Rattle.tables.specs.Tables.{decode}
 use Rattle.tables.proofs.Slots.{length-decode}
-use Rattle.book_law.specs.Matching.{Fate, Done, Rests, Turns, Ends, reportAt, tradeReports, ownLastOr, fateOf, fateOfLeft, settled}
-use Rattle.book_law.proofs.Conserve.{sweep-fewer}
-use Rattle.book_law.proofs.Remainder.{length-trades}
+use Rattle.book_law.specs.Matching.{Fate, Done, Rests, Turns, Ends, reportAt, tradeReports, fateOf}
 use Rattle.state_law.specs.declared.Session.{Session}
 use Rattle.state_law.specs.Now.{Clocked, bandNow, rangeNow}
 use Rattle.acts_law.specs.declared.Remainder.{Remainder}
 use Rattle.acts_law.specs.declared.Met.{Met}
 use Rattle.acts_law.specs.declared.Placed.{Placed}
-use Rattle.acts_law.specs.Acts.{lastIn, sweepIn, fateIn, entered}
-use Rattle.acts_law.specs.Written.{Written, fateFrom, remainderOf, fateBack, takesPlace, Settling, Settled}
+use Rattle.acts_law.specs.Acts.{sweepIn, fateIn, entered}
+use Rattle.acts_law.specs.Written.{fateFrom, remainderOf, fateBack, takesPlace, Settling, Settled}
 use Rattle.acts_law.specs.Entering.{Meeting, MetAs, Entering, EnteredAs}
 use Rattle.acts_law.proofs.Reports.{written-length, written-then}
 

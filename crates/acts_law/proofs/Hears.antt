@@ -5,7 +5,7 @@ use native.Mathlib.Omega.{arith}
 use native.Mathlib.Nat.{le-refl}
 use borrow.Author.Tests.{leb-true, le-leb}
 use mathlib.Core.Path.{_≡_, refl, _∙_}
-use mathlib.Core.Bool.{Bool, true, _||_}
+use mathlib.Core.Bool.{true, _||_}
 use mathlib.Core.List.{List, [], _∷_, _++_}
 use lib.Dec.{eqb, leb}
 use Rattle.terms.specs.declared.Settings.{Settings}
@@ -14,7 +14,7 @@ use Rattle.terms.specs.declared.Deal.{Deal}
 use Rattle.terms.specs.declared.Report.{Report}
 use Rattle.terms.specs.declared.Said.{Said}
 use Rattle.terms.specs.declared.Said.the-variants.{Accept, Trade, Convert, Cancel, Slab, Ref, Close}
-use Rattle.terms.proofs.Logic.{by, cases, split, join, or-last}
+use Rattle.terms.proofs.Logic.{by, cases, split, join, or-left, or-last}
 use Rattle.rules_law.specs.Slabs.{slabOf, percentOf, bandAt, inBand, touches, coolingLength, coolingAfter}
 use Rattle.rules_law.specs.Reference.{rangeOf, inRange}
 use Rattle.book_law.specs.Matching.{reportAt}
@@ -131,9 +131,6 @@ fine-at g l [] later r f = f .0
 fine-at g l (x ∷ xs) later r f = fine-at g (listen l x) xs later r (f .1)
 
 -- ---- touches
-
-or-left : (p q : Bool) → p ≡ true → p || q ≡ true
-or-left p q e = rw e
 
 -- one that is over by a time is over by each later one
 later-in : (b : Band) (t u time : ℕ) (said : Said) → t ≤ u → touchedIn b t time said ≡ true → touchedIn b u time said ≡ true

@@ -11,7 +11,6 @@ use Rattle.tables.specs.Tables.{decode, tableOf, Holds}
 use Rattle.tables.proofs.Slots.{length-decode}
 use Rattle.book_law.specs.Priority.{insert}
 use Rattle.book_law.specs.Matching.{Done, Rests, Turns, Ends, reportAt}
-use Rattle.acts_law.specs.declared.Placed.{Placed}
 use Rattle.acts_law.specs.Acts.{ended}
 use Rattle.acts_law.specs.Written.{Written, Settled}
 use Rattle.acts_law.proofs.Reports.{written-none}

@@ -17,7 +17,7 @@ use Rattle.tables.specs.Put.{put}
 use Rattle.tables.specs.Tables.{decode, tableOf, Holds}
 use Rattle.tables.proofs.Slots.{length-decode}
 use Rattle.tables.proofs.Puts.{length-put}
-use Rattle.tables.proofs.Written.{length-records}
+use Rattle.terms.proofs.Records.{length-records}
 use Rattle.matching.specs.declared.Incoming.{Incoming}
 use Rattle.matching.specs.declared.Matched.{Matched}
 use Rattle.matching.specs.Sweeps.{sweptOf, SweptInto}

@@ -1,17 +1,15 @@
 -- Trades read back from their records: one after the other into the session, and they are the fills that were reported. Assumes nothing.
 use Prim.Native.Nat.{ℕ, zero, suc, _+_, _-_, _*_, _≤_, _<_}
 use native.Mathlib.Omega.{arith}
-use native.Mathlib.Nat.{add-assoc}
-use native.Mathlib.Numerals.{add-one}
 use mathlib.Core.Path.{_≡_, refl, sym, ap, _∙_}
 use mathlib.Core.List.{List, [], _∷_, _++_, append-assoc}
-use lib.ListN.{length, getD, take, drop, length-append}
+use lib.ListN.{length, getD, drop}
 use lib.Seq.{getD-drop, drop-drop}
 use Rattle.terms.specs.declared.Order.{Order}
 use Rattle.terms.specs.declared.Band.{Band}
 use Rattle.terms.specs.declared.Side.{Side}
 use Rattle.terms.specs.declared.Side.the-variants.{Buy, Sell}
-use Rattle.terms.specs.Sizes.{recordLength, priceMost, lotsMost}
+use Rattle.terms.specs.Sizes.{recordLength}
 use Rattle.terms.specs.Records.{recordOf, recordsOf}
 use Rattle.terms.specs.declared.Report.{Report}
 use Rattle.terms.specs.declared.Said.the-variants.{Trade}

@@ -3,7 +3,7 @@ use Prim.Native.Nat.{ℕ, _+_, _*_, _≤_, _<_}
 use native.Mathlib.Omega.{arith}
 use borrow.Author.Tests.{eq-eqb, ne-eqb}
 use mathlib.Core.Path.{_≡_, refl, sym, ap, _∙_}
-use mathlib.Core.Bool.{Bool, true, false, not}
+use mathlib.Core.Bool.{Bool, not}
 use mathlib.Core.List.{List, [], _∷_, _++_, append-nil}
 use lib.Dec.{eqb}
 use lib.ListN.{length, take, length-append, length-take}
@@ -20,7 +20,8 @@ use Rattle.tables.specs.Put.{put}
 use Rattle.tables.specs.Tables.{orderAt, decode}
 use Rattle.tables.proofs.Puts.{put-none, length-put}
 use Rattle.tables.proofs.Slots.{length-decode, decode-read}
-use Rattle.tables.proofs.Written.{length-records, put-records}
+use Rattle.terms.proofs.Records.{length-records}
+use Rattle.tables.proofs.Written.{put-records}
 use Rattle.book_law.specs.Matching.{reportAt}
 use Rattle.acts_law.specs.Acts.{only, ended, cancelReports}
 use Rattle.acts_law.specs.Written.{Written}

@@ -44,7 +44,7 @@ use Rattle.soundness_law.proofs.Kept.{not-widened}
 use Rattle.soundness_law.proofs.Days.{sound-day}
 use Rattle.acts_law.specs.Acts.{Acted, only, clockReports, sweepIn, fateIn, entered, ended, withdrawn, silent, cancelReports, finished, afterClock, acted, act}
 use Rattle.acts_law.specs.Heard.{initialBand, enhancedBand, touchedBy}
-use Rattle.acts_law.proofs.Hears.{Listener, listen, FineSlab, FineSaid, Cooled, Knows, KnowsOf, Tells, TellsOf, none-tells, next-tells, one-tells, append-tells, later-by, cooled-more, cooled-trade, knows-more}
+use Rattle.acts_law.proofs.Hears.{Listener, listen, FineSaid, Cooled, Knows, KnowsOf, Tells, TellsOf, none-tells, next-tells, one-tells, append-tells, later-by, cooled-more, cooled-trade, knows-more}
 
 -- ---- the clock steps
 

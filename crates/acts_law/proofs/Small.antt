@@ -40,10 +40,9 @@ use Rattle.book_law.proofs.Conserve.{Conserved, sweep-conserves}
 use Rattle.audit_law.specs.Sound.{OrderFits, BookFits}
 use Rattle.audit_law.proofs.Facts.{book-fits, each-fits}
 use Rattle.state_law.specs.declared.Session.{Session}
-use Rattle.state_law.specs.Set.{setGiven}
 use Rattle.state_law.specs.Now.{percentNow, bandNow}
 use Rattle.state_law.specs.Clock.{clockStep}
-use Rattle.state_law.specs.Day.{Day, own, across, dayWith}
+use Rattle.state_law.specs.Day.{Day, own, across}
 use Rattle.soundness_law.specs.Sound.{sound}
 use Rattle.soundness_law.proofs.Parts.{Parts}
 use Rattle.soundness_law.proofs.Days.{BookOf, sound-day, now-priced}

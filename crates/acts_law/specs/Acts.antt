@@ -9,7 +9,6 @@ use Rattle.terms.specs.declared.Entry.{Entry}
 use Rattle.terms.specs.declared.Event.{Event}
 use Rattle.terms.specs.declared.Order.{Order}
 use Rattle.terms.specs.declared.Report.{Report}
-use Rattle.terms.specs.declared.Said.{Said}
 use Rattle.terms.specs.declared.Said.the-variants.{Accept, Cancel, Slab, Ref, Close}
 use Rattle.terms.specs.declared.Why.{Why}
 use Rattle.terms.specs.declared.Why.the-variants.{Asked, DayEnd}

@@ -1,7 +1,7 @@
 -- What code leaves in the lent numbers when an order comes in.
 use Prim.Native.Nat.{ℕ, _+_, _*_, _≤_, _<_}
 use mathlib.Core.Path.{_≡_}
-use mathlib.Core.List.{List, [], _∷_, _++_}
+use mathlib.Core.List.{List, _∷_}
 use lib.ListN.{length}
 use Rattle.terms.specs.declared.Entry.{Entry}
 use Rattle.terms.specs.declared.Order.{Order}
@@ -13,7 +13,7 @@ use Rattle.rules_law.specs.Reference.{RangeFits}
 use Rattle.tables.specs.Tables.{decode, tableOf, Holds}
 use Rattle.matching.specs.declared.Incoming.{Incoming}
 use Rattle.book_law.specs.Over.{Each}
-use Rattle.book_law.specs.Matching.{Swept, reportAt, tradeReports, ownLastOr, Fate, settled, fateReports}
+use Rattle.book_law.specs.Matching.{reportAt, tradeReports, ownLastOr, settled}
 use Rattle.state_law.specs.declared.Session.{Session}
 use Rattle.state_law.specs.Set.{setGiven}
 use Rattle.state_law.specs.Now.{Clocked, bandNow, rangeNow}

@@ -13,11 +13,8 @@ use terms::Band;
 use terms::Entry;
 use terms::Said;
 ghost use mathlib.Core.Path.{_≡_};
-ghost use Prim.Native.Nat.{_+_, _*_, _≤_};
-ghost use lib.ListN.{length};
-ghost use Rattle.terms.specs.Sizes.{recordLength};
+ghost use Prim.Native.Nat.{_+_};
 ghost use Rattle.tables.specs.Tables.{decode};
-ghost use Rattle.state_law.specs.Now.{bandNow};
 ghost use Rattle.acts_law.specs.Entering.{incomingIn, Meeting, MetAs, Entering, EnteredAs};
 
 // The order as it meets the counter side: with the next number, the range, and the price that stands for its last trade.

@@ -4,17 +4,18 @@
 
 pub mod marks;
 pub mod pass;
-pub mod ticks;
 
 use audit_law::Limits;
 use tables::orders;
 use terms::Band;
+use terms::ticks;
 ghost use mathlib.Core.Path.{_≡_};
 ghost use Prim.Native.Nat.{_≤_, _<_};
 ghost use Rattle.terms.specs.Sizes.{numbersMost, tickMost};
 ghost use Rattle.tables.specs.Tables.{decode};
 ghost use Rattle.audit_law.specs.Sound.{uncrossed, bookSound};
-ghost use Rattle.audit_law.specs.Pass.{Room, scale, limitsOf};
+ghost use Rattle.terms.specs.Ticks.{scale};
+ghost use Rattle.audit_law.specs.Pass.{Room, limitsOf};
 
 fn held_to(given: u64, tick: u64, band: Band) -> Limits
     requires { ⌜ 1 ≤ tick ⌝ }

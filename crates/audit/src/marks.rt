@@ -9,8 +9,9 @@ pub fn mark(map: &mut [u64], x: u64) -> bool
     requires { ⌜ x < 64 * length (now map) ⌝ }
     ensures { λ r. ⌜ (r ≡ hasMark (now (map .entry)) x) × (now (map .exit) ≡ withMark (now (map .entry)) x) ⌝ }
 {
-    let at = (x / 64) as usize;
-    let b = x % 64;
+    let n = map.len() as u64;
+    let at = (x % n) as usize;
+    let b = x / n;
     let w = map[at];
     map[at] = w | (1 << b);
     let v = w >> b;

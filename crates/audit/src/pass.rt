@@ -1,18 +1,18 @@
 // One pass over each table: every order sound, each ahead of the next, no number twice.
 use crate::marks;
-use crate::ticks;
 use audit_law::Limits;
 use tables::orders;
 use terms::Order;
 use terms::Side;
 use terms::sizes;
+use terms::ticks;
 ghost use mathlib.Core.Path.{_≡_};
 ghost use mathlib.Core.Bool.{cond};
-ghost use Prim.Native.Nat.{_*_, _<_};
+ghost use Prim.Native.Nat.{_+_, _*_, _<_};
 ghost use lib.ListN.{length, replicate};
 ghost use Rattle.tables.specs.Tables.{decode};
 ghost use Rattle.audit_law.specs.Marks.{marked};
-ghost use Rattle.audit_law.specs.Pass.{Room, LimitsFit, Keyed, fine, keyOf, lowBits, passOf, sidesBy, sidesSound};
+ghost use Rattle.audit_law.specs.Pass.{Room, LimitsFit, Keyed, fine, keyOf, lowBits, passOf, sidesBy, leastMask, sidesSound};
 
 // Order numbers are below it.
 const KEY_STEP: u64 = 65_536;
@@ -88,7 +88,16 @@ fn sides_by(
     side_by(sells, nsells, Side::Sell, l, mask, map)
 }
 
-// By 12 bits of a number: for low numbers, or so few orders that a clash is rare.
+// By 10 bits of a number.
+fn sides_tiny(buys: &[u64], nbuys: usize, sells: &[u64], nsells: usize, l: Limits) -> bool
+    requires { ⌜ Room nbuys (now buys) × Room nsells (now sells) × LimitsFit l ⌝ }
+    ensures { λ r. ⌜ r ≡ sidesBy 1023 l (decode nbuys (now (buys .entry))) (decode nsells (now (sells .entry))) ⌝ }
+{
+    let mut map = [0u64; 16];
+    sides_by(buys, nbuys, sells, nsells, l, 1023, &mut map)
+}
+
+// By 12 bits.
 fn sides_small(buys: &[u64], nbuys: usize, sells: &[u64], nsells: usize, l: Limits) -> bool
     requires { ⌜ Room nbuys (now buys) × Room nsells (now sells) × LimitsFit l ⌝ }
     ensures { λ r. ⌜ r ≡ sidesBy 4095 l (decode nbuys (now (buys .entry))) (decode nsells (now (sells .entry))) ⌝ }
@@ -115,25 +124,31 @@ fn sides_large(buys: &[u64], nbuys: usize, sells: &[u64], nsells: usize, l: Limi
     sides_by(buys, nbuys, sells, nsells, l, 65535, &mut map)
 }
 
-// The least map that serves is cleared soonest. Low bits that are distinct are of distinct numbers; that numbers are not distinct only
-// the large map tells.
+// By the least map that serves, which is cleared soonest: for low numbers, or so few orders that a clash is rare.
+fn sides_least(buys: &[u64], nbuys: usize, sells: &[u64], nsells: usize, l: Limits) -> bool
+    requires { ⌜ Room nbuys (now buys) × Room nsells (now sells) × LimitsFit l ⌝ }
+    ensures { λ r. ⌜ r ≡ sidesBy (leastMask (l .given) (nbuys + nsells)) l (decode nbuys (now (buys .entry))) (decode nsells (now (sells .entry))) ⌝ }
+{
+    let live = nbuys + nsells;
+    if (l.given <= 1023) | (live <= 16) {
+        return sides_tiny(buys, nbuys, sells, nsells, l);
+    }
+    if (l.given <= 4095) | (live <= 48) {
+        return sides_small(buys, nbuys, sells, nsells, l);
+    }
+    if l.given <= 16383 {
+        return sides_medium(buys, nbuys, sells, nsells, l);
+    }
+    sides_large(buys, nbuys, sells, nsells, l)
+}
+
+// Low bits that are distinct are of distinct numbers; that numbers are not distinct only the large map tells.
 pub fn sides(buys: &[u64], nbuys: usize, sells: &[u64], nsells: usize, l: Limits) -> bool
     requires { ⌜ Room nbuys (now buys) × Room nsells (now sells) × LimitsFit l ⌝ }
     ensures { λ r. ⌜ r ≡ sidesSound l (decode nbuys (now (buys .entry))) (decode nsells (now (sells .entry))) ⌝ }
 {
-    let live = nbuys + nsells;
-    let few = (l.given <= 4095) | (live <= 48);
-    if few {
-        if sides_small(buys, nbuys, sells, nsells, l) {
-            return true;
-        }
-        return sides_large(buys, nbuys, sells, nsells, l);
-    }
-    if l.given <= 16383 {
-        if sides_medium(buys, nbuys, sells, nsells, l) {
-            return true;
-        }
-        return sides_large(buys, nbuys, sells, nsells, l);
+    if sides_least(buys, nbuys, sells, nsells, l) {
+        return true;
     }
     sides_large(buys, nbuys, sells, nsells, l)
 }

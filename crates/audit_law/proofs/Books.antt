@@ -18,7 +18,8 @@ use Rattle.book_law.specs.Priority.{sorted}
 use Rattle.audit_law.specs.declared.Limits.{Limits}
 use Rattle.audit_law.specs.Sound.{eachSound, distinct, uncrossed, bookSound}
 use Rattle.audit_law.specs.Marks.{apart}
-use Rattle.audit_law.specs.Pass.{Room, scale, limitsOf, LimitsFit, sidesSound}
+use Rattle.terms.specs.Ticks.{scale}
+use Rattle.audit_law.specs.Pass.{Room, limitsOf, LimitsFit, sidesSound}
 use Rattle.audit_law.proofs.Facts.{book-fits, book-made}
 use Rattle.audit_law.proofs.Turns.{refuted}
 
@@ -76,7 +77,7 @@ module _ (given tick : ℕ) (band : Band) (xs ys : List Order) where
 pub limits-fit : (given tick : ℕ) (band : Band) → given ≤ numbersMost → 1 ≤ tick → tick ≤ tickMost → band .high < scale → (l : Limits) →
     l ≡ limitsOf given tick band → LimitsFit l
 limits-fit given tick band g some small h l e =
-    rw e (record { given-small = g; tick-some = some; tick-small = small; factor-is = refl; high-small = h })
+    rw e (record { given-small = g; dividing = record { tick-some = some; tick-small = small; factor-is = refl }; high-small = h })
 
 pub tables-are : (given tick : ℕ) (band : Band) (nbuys nsells : ℕ) (t u : List ℕ) → Room nbuys t → Room nsells u → (v : Bool) →
     v ≡ uncrossed (decode nbuys t) (decode nsells u) → not v ≡ false → (l : Limits) → l ≡ limitsOf given tick band → (r : Bool) →

@@ -3,7 +3,6 @@ pub mod Once
 pub mod Apart
 pub mod Kept
 pub mod Enters
-pub mod Multiples
 pub mod Bits
 pub mod Fresh
 pub mod Keys

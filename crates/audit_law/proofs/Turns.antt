@@ -19,7 +19,8 @@ use Rattle.tables.proofs.Slots.{decode-read, decode-end}
 use Rattle.audit_law.specs.declared.Limits.{Limits}
 use Rattle.audit_law.specs.Sound.{OrderFits}
 use Rattle.audit_law.specs.Marks.{hasMark, withMark, marked}
-use Rattle.audit_law.specs.Pass.{scale, bandOf, fine, Keyed, keyStep, keyOf, lowBits, passOf}
+use Rattle.terms.specs.Ticks.{scale}
+use Rattle.audit_law.specs.Pass.{bandOf, fine, Keyed, keyStep, keyOf, lowBits, passOf}
 use Rattle.audit_law.proofs.Facts.{order-fits, order-made}
 use Rattle.audit_law.proofs.Keys.{keyed}
 

@@ -1,16 +1,16 @@
 -- The pass over a side, as the code makes it: each order sound, its key above the key before it, the low bits of its number not marked yet.
-use Prim.Native.Nat.{ℕ, _+_, _-_, _*_, _/_, _≤_, _<_}
-use mathlib.Core.Path.{_≡_}
-use mathlib.Core.Bool.{Bool, true, _&&_, not}
+use Prim.Native.Nat.{ℕ, _+_, _-_, _*_, _≤_, _<_}
+use mathlib.Core.Bool.{Bool, true, _&&_, _||_, not, cond}
 use mathlib.Core.List.{List, [], _∷_, _++_}
-use lib.Dec.{ltb}
+use lib.Dec.{leb, ltb}
 use lib.Bits.{bitAnd}
 use lib.ListN.{length}
 use Rattle.terms.specs.declared.Side.{Side}
 use Rattle.terms.specs.declared.Side.the-variants.{Buy, Sell}
 use Rattle.terms.specs.declared.Order.{Order}
 use Rattle.terms.specs.declared.Band.{Band}
-use Rattle.terms.specs.Sizes.{slots, tableLength, numbersMost, tickMost}
+use Rattle.terms.specs.Sizes.{slots, tableLength, numbersMost}
+use Rattle.terms.specs.Ticks.{scale, factorOf, Dividing}
 use Rattle.book_law.specs.Priority.{sorted}
 use Rattle.audit_law.specs.declared.Limits.{Limits}
 use Rattle.audit_law.specs.Sound.{orderSound, eachSound, distinct}
@@ -23,22 +23,12 @@ pub record Room (n : ℕ) (t : List ℕ) : Type 0 where
   pub few : n ≤ slots
   pub long : tableLength ≤ length t
 
--- prices are below it
-abbrev pub scale : ℕ
-scale = 4294967296
-
--- a price times this, over `scale`, is the price over the tick, where it is a multiple
-abbrev pub factorOf : ℕ → ℕ
-factorOf tick = scale / tick + 1
-
 abbrev pub limitsOf : ℕ → ℕ → Band → Limits
 limitsOf given tick b = record { given = given; tick = tick; factor = factorOf tick; low = b .low; high = b .high }
 
 pub record LimitsFit (l : Limits) : Type 0 where
   pub given-small : l .given ≤ numbersMost
-  pub tick-some : 1 ≤ l .tick
-  pub tick-small : l .tick ≤ tickMost
-  pub factor-is : l .factor ≡ factorOf (l .tick)
+  pub dividing : Dividing (l .tick) (l .factor)
   pub high-small : l .high < scale
 
 abbrev pub bandOf : Limits → Band
@@ -90,3 +80,8 @@ sidesSound l buys sells = sideSound Buy l buys && (sideSound Sell l sells && dis
 -- the same with the numbers' low bits for the numbers
 unfoldable pub sidesBy : ℕ → Limits → List Order → List Order → Bool
 sidesBy mask l buys sells = sideSound Buy l buys && (sideSound Sell l sells && apart (lowBits mask buys ++ lowBits mask sells))
+
+-- the least mask by which so many live orders are told apart: numbers are at most `given`, or a clash is rare among so few
+abbrev pub leastMask : ℕ → ℕ → ℕ
+leastMask given live =
+    cond (leb given 1023 || leb live 16) 1023 (cond (leb given 4095 || leb live 48) 4095 (cond (leb given 16383) 16383 65535))

@@ -1,10 +1,9 @@
 -- What a caller knows of a side's table after an insertion or a removal: how many orders it holds, and which. Assumes nothing.
-use Prim.Native.Nat.{ℕ, suc, _+_, _-_, _≤_, _<_}
+use Prim.Native.Nat.{ℕ, _+_, _-_, _<_}
 use native.Mathlib.Omega.{arith}
 use mathlib.Core.Path.{_≡_}
 use mathlib.Core.Bool.{true}
 use mathlib.Core.List.{List}
-use lib.ListN.{length}
 use Rattle.terms.specs.declared.Order.{Order}
 use Rattle.terms.specs.declared.Side.{Side}
 use Rattle.terms.specs.Sizes.{slots}

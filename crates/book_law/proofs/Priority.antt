@@ -9,7 +9,7 @@ use lib.Dec.{ltb, eqb}
 use Rattle.terms.specs.declared.Side.{Side}
 use Rattle.terms.specs.declared.Side.the-variants.{Buy, Sell}
 use Rattle.terms.specs.declared.Order.{Order}
-use Rattle.terms.proofs.Logic.{by, both, make, split, join, or-none, or-last}
+use Rattle.terms.proofs.Logic.{by, both, make, split, join, or-none, or-left, or-last}
 use Rattle.book_law.specs.Priority.{better, ahead, headBehind, sorted, insert, removed}
 use Rattle.book_law.specs.Over.{Each, EachPrice}
 
@@ -42,9 +42,6 @@ same-not Sell p q e = le-ltb q p (omega arith)
 or-cases : {R : Type 0} (p q : Bool) → p || q ≡ true → (p ≡ true → R) → (q ≡ true → R) → R
 or-cases true q e f g = f refl
 or-cases false q e f g = g e
-
-or-left : (p q : Bool) → p ≡ true → p || q ≡ true
-or-left p q e = rw e
 
 -- what goes behind has no better price
 pub behind-price : (s : Side) (a b : Order) → ahead s a b ≡ true → better s (b .price) (a .price) ≡ false

@@ -1,5 +1,5 @@
 -- Where the counts are sound and no table is short, the view of a side is the numbers of its orders. Assumes nothing.
-use Prim.Native.Nat.{ℕ, _*_, _≤_}
+use Prim.Native.Nat.{ℕ, _≤_}
 use native.Mathlib.Omega.{arith}
 use borrow.Author.Tests.{le-ltb}
 use mathlib.Core.Path.{_≡_, sym}
@@ -7,7 +7,7 @@ use mathlib.Core.List.{List}
 use lib.ListN.{length}
 use Rattle.terms.specs.declared.Side.{Side}
 use Rattle.terms.specs.declared.Side.the-variants.{Buy, Sell}
-use Rattle.terms.specs.Sizes.{slots, width, tableLength}
+use Rattle.terms.specs.Sizes.{slots, tableLength}
 use Rattle.tables.specs.Tables.{decode, encode}
 use Rattle.tables.proofs.Slots.{encode-decode}
 use Rattle.book_law.specs.View.{livePart, named, viewOf}

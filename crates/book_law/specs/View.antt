@@ -1,7 +1,7 @@
 -- Document 01, "Book and report room": "The view of a side gives back the live part of the buy table or of the sell table, whichever
 -- side was named; for a session that is not sound, or a short table, its result is the empty part." A short table is either of them.
 use Prim.Native.Nat.{ℕ, _*_}
-use mathlib.Core.Bool.{Bool, cond}
+use mathlib.Core.Bool.{cond}
 use mathlib.Core.List.{List, []}
 use lib.Dec.{ltb}
 use lib.ListN.{length, take}

@@ -7,7 +7,6 @@ use borrow.Author.Tests.{le-ltb}
 use lib.Dec.{ltb, eqb}
 use lib.ListN.{length, drop}
 use Rattle.terms.specs.declared.Event.{Event}
-use Rattle.terms.specs.declared.Refusal.{Refusal}
 use Rattle.terms.specs.declared.Settings.{Settings}
 use Rattle.terms.specs.declared.Verdict.{Verdict}
 use Rattle.terms.specs.declared.Verdict.the-variants.{Fine, Refused}
@@ -28,9 +27,7 @@ use Rattle.feed_law.specs.Worlds.{Lent, lentOf, calls}
 use Rattle.feed_law.specs.Turns.{Turn, Fed, stopAt, turnOf, settingsTurn, eventTurn, printedFrom, fedIn}
 use Rattle.feed_law.specs.Feeds.{begun, feedVerdict, fedBy, fedOf}
 use Rattle.feed_law.proofs.Pieces.{pieces}
-use Rattle.packing.specs.Sessions.{isSession, sessionFrom}
 use Rattle.packing.proofs.Inverse.{from-ten}
-use Rattle.desk_law.specs.Calls.{whereLong}
 use Rattle.standing.specs.Runs.{runLength, runNumbers, isRun, runFrom}
 use Rattle.desk_law.specs.Feeding.{startVerdict, StartedAs, countsLength, isRefusal, laidBy, fedOn, runAfter, FedAs}
 use Rattle.acts_law.proofs.Tens.{act-ten}

@@ -9,7 +9,6 @@ use lib.Dec.{eqb}
 use lib.ListN.{length, set}
 use Rattle.terms.specs.declared.Refusal.{Refusal}
 use Rattle.terms.specs.declared.Refusal.the-variants.{SmallRoom, LineUnfinished}
-use Rattle.terms.specs.declared.Verdict.{Verdict}
 use Rattle.terms.specs.declared.Verdict.the-variants.{Fine, Refused}
 use Rattle.terms.specs.Sizes.{lineRoom}
 use Rattle.terms.proofs.Logic.{by}
@@ -20,7 +19,6 @@ use Rattle.text_law.specs.Forms.{longest}
 use Rattle.text_law.proofs.Fills.{fill-length}
 use Rattle.writing_law.specs.declared.Wrote.{Wrote}
 use Rattle.writing_law.specs.Lines.{badNumbers, renderBad}
-use Rattle.writing_law.specs.Writes.{wroteOf}
 use Rattle.feed_law.specs.declared.Run.{Run}
 use Rattle.feed_law.specs.declared.Stage.{Stage}
 use Rattle.feed_law.specs.declared.Stop.{Stop}
@@ -29,10 +27,10 @@ use Rattle.feed_law.specs.Texts.{badText, endText}
 use Rattle.feed_law.specs.Worlds.{Lent}
 use Rattle.feed_law.specs.Turns.{Fed}
 use Rattle.feed_law.specs.Feeds.{begun, fedOf, TakenAs, endVerdict, EndedAs}
-use Rattle.answers.specs.Answers.{countMost, answerOf}
+use Rattle.answers.specs.Answers.{answerOf}
 use Rattle.standing.specs.Runs.{runLength, runNumbers, runFrom}
 use Rattle.desk_law.specs.Writes.{wroteNumber, Few}
-use Rattle.desk_law.specs.Feeding.{startVerdict, startedBy, StartedAs, countsLength, stopNumber, isRefusal, laidBy, LaidAfter, fedOn, runAfter, FedAs, endVerdictOn, EndedOn}
+use Rattle.desk_law.specs.Feeding.{startVerdict, StartedAs, countsLength, stopNumber, isRefusal, laidBy, LaidAfter, fedOn, runAfter, FedAs, endVerdictOn, EndedOn}
 use Rattle.desk_law.proofs.LineWrites.{wrote-few, wrote-number}
 
 -- ---- start

@@ -12,7 +12,6 @@ use Rattle.terms.specs.Sizes.{reportsMost}
 use Rattle.terms.proofs.Logic.{cases}
 use Rattle.state_law.specs.declared.Session.{Session}
 use Rattle.soundness_law.specs.Sound.{dayIn}
-use Rattle.engine_law.specs.Outcome.{outcome}
 use Rattle.engine_law.specs.Calls.{roomy, called}
 use Rattle.engine_law.proofs.Applies.{called-outcome, called-short}
 use Rattle.engine_law.proofs.Kept.{outcome-few}

@@ -1,45 +1,37 @@
 -- What each accepted event leaves, from what its calls left. Assumes nothing.
-use Prim.Native.Nat.{ℕ, _+_, _*_, _/_, _≤_, _<_}
+use Prim.Native.Nat.{ℕ, _+_, _*_, _/_, _≤_}
 use native.Mathlib.Omega.{arith}
-use native.Mathlib.Nat.{mul-div-right}
 use mathlib.Core.Path.{_≡_, refl, sym, ap, _∙_}
-use mathlib.Core.Bool.{true, cond, _||_}
-use mathlib.Core.List.{List, [], _∷_, _++_, append-nil}
-use borrow.Author.Tests.{ltb-true, leb-true}
+use mathlib.Core.Bool.{true, _||_}
+use mathlib.Core.List.{List, [], append-nil}
 use lib.Dec.{ltb}
 use lib.ListN.{length}
 use Rattle.terms.specs.declared.Act.{Act}
-use Rattle.terms.specs.declared.Act.the-variants.{Enter, Withdraw, Under, Clock, Finish}
-use Rattle.terms.specs.declared.Entry.{Entry}
-use Rattle.terms.specs.declared.Life.the-variants.{AllDay}
+use Rattle.terms.specs.declared.Act.the-variants.{Withdraw, Finish}
 use Rattle.terms.specs.declared.Order.{Order}
-use Rattle.terms.specs.declared.Side.the-variants.{Buy, Sell}
-use Rattle.terms.specs.Sizes.{recordLength, slots, tableLength, roomLength, numbersMost}
-use Rattle.terms.proofs.Logic.{both, cases}
+use Rattle.terms.specs.Sizes.{recordLength, slots, tableLength}
+use Rattle.terms.proofs.Logic.{cases}
 use Rattle.tables.specs.Tables.{decode, tableOf, Holds}
 use Rattle.tables.proofs.Slots.{length-decode}
 use Rattle.tables.proofs.Whole.{After}
-use Rattle.book_law.specs.Over.{Each}
 use Rattle.book_law.specs.Priority.{rests, removed}
 use Rattle.state_law.specs.declared.Session.{Session}
-use Rattle.state_law.specs.Set.{setBuys, setSells, setUnder, setTime, setClosed, setGiven}
-use Rattle.state_law.specs.Now.{Clocked, Steady}
+use Rattle.state_law.specs.Set.{setUnder, setTime, setClosed}
+use Rattle.state_law.specs.Now.{Steady}
 use Rattle.state_law.specs.Clock.{clockStep}
-use Rattle.state_law.specs.Day.{Day, dayOf}
+use Rattle.state_law.specs.Day.{dayOf}
 use Rattle.soundness_law.specs.Sound.{dayIn}
 use Rattle.soundness_law.proofs.Clocked.{steady}
 use Rattle.soundness_law.proofs.Border.{sound-session}
-use Rattle.refusal_law.specs.Refusals.{inHours, finds, hasPlace, hasNumbers}
-use Rattle.acts_law.specs.Acts.{Acted, clockReports, act, sweepIn, fateIn, entered, withdrawn, finished}
-use Rattle.acts_law.specs.Written.{Written, Deals, RestsIn, WithdrawnAs, Finished}
+use Rattle.refusal_law.specs.Refusals.{inHours, finds}
+use Rattle.acts_law.specs.Acts.{Acted, clockReports, act, withdrawn, finished}
+use Rattle.acts_law.specs.Written.{Written, RestsIn, WithdrawnAs, Finished}
 use Rattle.acts_law.specs.declared.Withdrawn.{Withdrawn}
-use Rattle.acts_law.specs.declared.Entered.{Entered}
-use Rattle.acts_law.specs.Entering.{Entering, EnteredAs}
 use Rattle.acts_law.proofs.Reports.{written-then}
 use Rattle.engine_law.specs.declared.Answer.{Answer}
 use Rattle.engine_law.specs.Calls.{eventAt, Ready, ActedAs}
 use Rattle.engine_law.specs.Steps.{doneAt, SteppedAs, Quiet, under, clock}
-use Rattle.engine_law.proofs.Starts.{accepts, clocked-now, clocked-after, trades-fit, buys-deal, sells-deal, after-buys, after-sells, same-room, behind-clock, clock-space}
+use Rattle.engine_law.proofs.Starts.{accepts, after-buys, after-sells, same-room, behind-clock, clock-space}
 
 -- ---- the answer of every act
 

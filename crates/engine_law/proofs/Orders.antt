@@ -1,30 +1,30 @@
 -- An order on both tables: proved once, over its own side's table and the one across. Assumes nothing.
-use Prim.Native.Nat.{ℕ, _+_, _*_, _≤_, _<_}
+use Prim.Native.Nat.{ℕ, _+_, _≤_, _<_}
 use native.Mathlib.Omega.{arith}
-use mathlib.Core.Path.{_≡_, refl, sym, ap, _∙_}
+use mathlib.Core.Path.{_≡_, _∙_}
 use mathlib.Core.Bool.{true}
-use mathlib.Core.List.{List, [], _∷_, _++_}
+use mathlib.Core.List.{List, _++_}
 use borrow.Author.Tests.{ltb-true, leb-true}
-use lib.Dec.{ltb, leb}
+use lib.Dec.{ltb}
 use lib.ListN.{length}
 use Rattle.terms.specs.declared.Act.the-variants.{Enter}
 use Rattle.terms.specs.declared.Entry.{Entry}
 use Rattle.terms.specs.declared.Life.{Life}
-use Rattle.terms.specs.declared.Life.the-variants.{AllDay, Ioc}
+use Rattle.terms.specs.declared.Life.the-variants.{AllDay}
 use Rattle.terms.specs.declared.Order.{Order}
 use Rattle.terms.specs.declared.Side.the-variants.{Buy, Sell}
-use Rattle.terms.specs.Sizes.{recordLength, slots, roomLength, numbersMost, tradesBefore}
+use Rattle.terms.specs.Sizes.{slots, numbersMost, tradesBefore}
 use Rattle.terms.proofs.Logic.{both}
-use Rattle.tables.specs.Tables.{decode, tableOf, Holds}
+use Rattle.tables.specs.Tables.{decode, tableOf}
 use Rattle.tables.proofs.Slots.{length-decode}
 use Rattle.tables.proofs.Whole.{After}
 use Rattle.book_law.specs.Over.{Each}
-use Rattle.book_law.specs.Matching.{Swept, Fate, settled}
+use Rattle.book_law.specs.Matching.{Swept, settled}
 use Rattle.state_law.specs.declared.Session.{Session}
 use Rattle.state_law.specs.Set.{setGiven}
 use Rattle.state_law.specs.Clock.{clockStep}
 use Rattle.state_law.specs.Trades.{withTrades}
-use Rattle.state_law.specs.Day.{own, across, dayOf}
+use Rattle.state_law.specs.Day.{own}
 use Rattle.soundness_law.specs.Sound.{dayIn}
 use Rattle.refusal_law.specs.Refusals.{inHours, lifeHasPlace, hasPlace, hasNumbers}
 use Rattle.acts_law.specs.Acts.{clockReports, act, sweepIn, fateIn, entered}
@@ -34,7 +34,7 @@ use Rattle.acts_law.specs.Entering.{Entering, EnteredAs}
 use Rattle.acts_law.proofs.Reports.{written-then}
 use Rattle.engine_law.specs.Calls.{eventAt, Ready, ActedAs}
 use Rattle.engine_law.specs.Steps.{doneAt, SteppedAs}
-use Rattle.engine_law.proofs.Starts.{accepts, clocked-now, clocked-after, trades-fit, buys-deal, sells-deal, after-buys, after-sells, same-room, behind-clock, clock-space}
+use Rattle.engine_law.proofs.Starts.{accepts, clocked-after, trades-fit, buys-deal, sells-deal, after-buys, after-sells, same-room, behind-clock, clock-space}
 use Rattle.engine_law.proofs.Dones.{done-as}
 
 has-place : (life : Life) (held : ℕ) → lifeHasPlace life held ≡ true → life ≡ AllDay → held < slots

@@ -2,14 +2,13 @@
 -- can be traded. Assumes nothing.
 use Prim.Native.Nat.{ℕ, _+_, _*_, _≤_}
 use native.Mathlib.Omega.{arith}
-use mathlib.Core.Path.{_≡_, ap}
-use mathlib.Core.Bool.{true, not}
+use mathlib.Core.Path.{_≡_}
+use mathlib.Core.Bool.{true}
 use mathlib.Core.List.{List}
 use borrow.Author.Tests.{leb-true}
-use lib.Dec.{leb, ltb}
+use lib.Dec.{ltb}
 use lib.ListN.{length}
 use Rattle.terms.specs.declared.Act.{Act}
-use Rattle.terms.specs.declared.Report.{Report}
 use Rattle.terms.specs.Sizes.{recordLength, slots, timeMost, tradesBefore}
 use Rattle.terms.proofs.Logic.{both, or-last}
 use Rattle.tables.specs.Tables.{decode}
@@ -22,7 +21,7 @@ use Rattle.state_law.specs.Now.{Clocked, bandNow}
 use Rattle.state_law.specs.Clock.{clockStep}
 use Rattle.state_law.specs.Trades.{TradesFit}
 use Rattle.state_law.specs.Day.{Day}
-use Rattle.soundness_law.specs.Sound.{sound, dayIn}
+use Rattle.soundness_law.specs.Sound.{dayIn}
 use Rattle.soundness_law.proofs.Clocked.{session-clocked}
 use Rattle.soundness_law.proofs.Border.{sound-session}
 use Rattle.soundness_law.proofs.Parts.{parts-made}

@@ -1,5 +1,4 @@
 -- What an event comes to: refused with the first row that applies and nothing changed, or accepted with the day after it and its reports.
-use Prim.Native.Nat.{ℕ}
 use mathlib.Core.List.{List, [], _∷_, _++_}
 use Rattle.terms.specs.declared.Event.{Event}
 use Rattle.terms.specs.declared.Report.{Report}

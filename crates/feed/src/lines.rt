@@ -15,7 +15,7 @@ ghost use mathlib.Core.Path.{_≡_};
 ghost use lib.ListN.{length};
 ghost use Rattle.terms.specs.Sizes.{lineRoom};
 ghost use Rattle.feed_law.specs.declared.Stage.{Stage};
-ghost use Rattle.feed_law.specs.Texts.{textMost, endText};
+ghost use Rattle.feed_law.specs.Texts.{endText};
 ghost use Rattle.feed_law.specs.Worlds.{lentOf, calls};
 ghost use Rattle.feed_law.specs.Turns.{fedIn, stopAt};
 ghost use Rattle.feed_law.specs.Feeds.{Prints, TakenAs, takenTo, fedOf, EndedAs};

@@ -1,9 +1,8 @@
 -- What the end of the input prints. Assumes nothing.
 use Prim.Native.Nat.{ℕ, _≤_, _<_}
 use mathlib.Core.Path.{_≡_, refl, sym, ap, _∙_, subst}
-use mathlib.Core.List.{List, []}
+use mathlib.Core.List.{List}
 use lib.ListN.{length}
-use lib.Dec.{leb, eqb}
 use borrow.Author.Tests.{le-leb, lt-leb, eq-eqb, ne-eqb}
 use Rattle.terms.specs.declared.Refusal.the-variants.{SmallLineRoom, LineUnfinished}
 use Rattle.terms.specs.declared.Verdict.{Verdict}

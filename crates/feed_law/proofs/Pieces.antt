@@ -2,16 +2,15 @@
 use Prim.Native.Nat.{ℕ, zero, suc, _+_, _-_, _≤_, _<_}
 use native.Mathlib.Omega.{arith}
 use mathlib.Core.Path.{_≡_, refl, sym, ap, _∙_, subst}
-use mathlib.Core.Bool.{Bool, true, false, cond}
-use mathlib.Core.List.{List, [], _∷_, _++_, append-assoc, append-nil}
-use lib.ListN.{length, take, drop, length-append, length-drop}
+use mathlib.Core.Bool.{cond}
+use mathlib.Core.List.{List, [], _∷_, _++_, append-assoc}
+use lib.ListN.{length, drop, length-drop}
 use lib.Seq.{drop-drop, drop-append-le}
 use lib.Dec.{ltb, eqb}
-use borrow.Author.Tests.{ltb-true, ltb-false, lt-ltb, eqb-true, eqb-false, eq-eqb, ne-eqb}
+use borrow.Author.Tests.{ltb-true, ltb-false, eqb-true, eqb-false, ne-eqb}
 use Rattle.terms.specs.declared.Event.{Event}
 use Rattle.terms.specs.declared.Settings.{Settings}
 use Rattle.terms.proofs.Logic.{cases}
-use Rattle.text_law.specs.Text.{bytes}
 use Rattle.text_law.specs.Grammar.{Answer, whole, unfinished, wrong, word}
 use Rattle.text_law.specs.Pieces.{at}
 use Rattle.text_law.specs.Reading.{Right}
@@ -24,7 +23,7 @@ use Rattle.feed_law.specs.declared.Stage.{Stage}
 use Rattle.feed_law.specs.declared.Stop.{Stop}
 use Rattle.feed_law.specs.Texts.{textMost, endText}
 use Rattle.feed_law.specs.Worlds.{World}
-use Rattle.feed_law.specs.Turns.{Turn, Fed, waits, ends, settingsTurn, eventTurn, turnOf, stopAt, printedIn, printedFrom, halted, lastly, ahead, fedIn}
+use Rattle.feed_law.specs.Turns.{Turn, Fed, waits, ends, settingsTurn, eventTurn, turnOf, printedIn, printedFrom, lastly, ahead, fedIn}
 use Rattle.feed_law.specs.Pieces.{PiecesPrintTheWhole, EndPrintsTheRest}
 use Rattle.feed_law.proofs.Longer.{right-longer}
 use Rattle.feed_law.proofs.Going.{turn-within, fed-none, fed-full, fed-last, fed-ahead}

@@ -7,9 +7,8 @@ use borrow.Rule.Slice.PartMut.{putMid}
 use mathlib.Core.Path.{_≡_, refl, sym, ap, _∙_}
 use mathlib.Core.Bool.{Bool, true, false, cond}
 use mathlib.Core.List.{List, [], _∷_, _++_, append-assoc, append-nil}
-use lib.ListN.{length, getD, take, drop, length-append, length-drop, length-take, drop-of-length-le}
+use lib.ListN.{length, getD, take, drop, length-append, length-drop, drop-of-length-le}
 use lib.Seq.{drop-drop, drop-at, take-all, take-append-seam, drop-append-seam}
-use lib.Dec.{leb}
 use borrow.Author.Tests.{le-leb}
 use Rattle.terms.specs.declared.Report.{Report}
 use Rattle.terms.specs.declared.Said.{Said}
@@ -28,8 +27,9 @@ use Rattle.writing_law.specs.Lines.{reportNumbers, renderReport}
 use Rattle.writing_law.proofs.Short.{report-short}
 use Rattle.writing_law.specs.Writes.{lineVerdict, wroteOf, roomOf, Writes}
 use Rattle.records.specs.declared.ReadRecord.{ReadRecord}
-use Rattle.records.specs.Back.{RecordRead, reportFrom}
-use Rattle.records.proofs.Told.{told-right, told-only, told-back, six-at, length-record}
+use Rattle.records.specs.Back.{RecordRead}
+use Rattle.terms.proofs.Records.{length-record}
+use Rattle.records.proofs.Told.{told-right, told-only, told-back, six-at}
 use Rattle.feed_law.specs.Texts.{written, reportText, reportsText, toldText, firstRecord, recordText, recordsText}
 use Rattle.feed_law.specs.Feeds.{laid, wroteLength, Prints}
 

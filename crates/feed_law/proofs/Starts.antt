@@ -1,9 +1,8 @@
 -- What a feed takes is there, and what it leaves is the start of a line, which is short. Assumes nothing.
-use Prim.Native.Nat.{ℕ, zero, suc, _+_, _-_, _≤_, _<_}
+use Prim.Native.Nat.{ℕ, zero, suc, _+_, _-_, _≤_}
 use native.Mathlib.Omega.{arith}
-use mathlib.Core.Path.{_≡_, refl, sym, ap, _∙_, subst}
-use mathlib.Core.Bool.{true, false}
-use mathlib.Core.List.{List, [], _∷_, _++_}
+use mathlib.Core.Path.{_≡_, sym, ap, _∙_, subst}
+use mathlib.Core.List.{List, _++_}
 use lib.ListN.{length, drop, length-append, length-drop}
 use lib.Seq.{drop-drop}
 use lib.Dec.{ltb, eqb}
@@ -27,7 +26,7 @@ use Rattle.feed_law.specs.declared.Stage.{Stage}
 use Rattle.feed_law.specs.declared.Stop.{Stop}
 use Rattle.feed_law.specs.Texts.{textMost}
 use Rattle.feed_law.specs.Worlds.{World, lentOf, calls}
-use Rattle.feed_law.specs.Turns.{Turn, Fed, settingsTurn, eventTurn, turnOf, stopAt, lastly, ahead, fedIn}
+use Rattle.feed_law.specs.Turns.{Turn, Fed, settingsTurn, eventTurn, turnOf, stopAt, ahead, fedIn}
 use Rattle.feed_law.specs.Pieces.{StartsAreShort}
 use Rattle.feed_law.specs.Feeds.{TakenAs, feedVerdict, fedBy, fedOf}
 use Rattle.feed_law.proofs.Prints.{prints-within}

@@ -1,10 +1,9 @@
 -- What the functions of a line leave, by what the line was read as. Assumes nothing.
-use Prim.Native.Nat.{ℕ, _+_, _*_, _≤_}
+use Prim.Native.Nat.{ℕ, _*_, _≤_}
 use native.Mathlib.Omega.{arith}
 use mathlib.Core.Path.{_≡_, refl, sym, ap, _∙_, subst}
-use mathlib.Core.Bool.{true}
-use mathlib.Core.List.{List, [], _∷_, _++_}
-use lib.ListN.{length, drop}
+use mathlib.Core.List.{List, []}
+use lib.ListN.{length}
 use borrow.Author.Tests.{leb-true}
 use Rattle.terms.specs.declared.Event.{Event}
 use Rattle.terms.specs.declared.Settings.{Settings}
@@ -13,10 +12,8 @@ use Rattle.terms.specs.declared.Refusal.{Refusal}
 use Rattle.terms.specs.declared.Refusal.the-variants.{LineWrong}
 use Rattle.terms.specs.declared.Verdict.{Verdict}
 use Rattle.terms.specs.declared.Verdict.the-variants.{Fine, Refused}
-use Rattle.terms.specs.Sizes.{lineRoom, recordLength, reportsMost, roomLength}
-use Rattle.terms.specs.Records.{recordOf, recordsOf}
+use Rattle.terms.specs.Sizes.{lineRoom, recordLength, roomLength}
 use Rattle.terms.proofs.Logic.{both}
-use Rattle.tables.specs.Put.{put}
 use Rattle.text_law.specs.Grammar.{Answer, whole, unfinished, wrong}
 use Rattle.reading_law.specs.declared.ReadEvent.{ReadEvent}
 use Rattle.reading_law.specs.declared.ReadSettings.{ReadSettings}
@@ -33,7 +30,7 @@ use Rattle.engine_law.proofs.Called.{called-few, fine-roomy}
 use Rattle.feed_law.specs.declared.Run.{Run}
 use Rattle.feed_law.specs.declared.Stage.{Stage}
 use Rattle.feed_law.specs.declared.Turned.{Turned}
-use Rattle.feed_law.specs.Texts.{textMost, reportsText, recordsText, refusedText, eventText, settingsText, badText}
+use Rattle.feed_law.specs.Texts.{textMost, recordsText, refusedText, eventText, badText}
 use Rattle.feed_law.specs.Worlds.{Lent, lentOf, calls}
 use Rattle.feed_law.specs.Turns.{Turn, stageBy, ends, openTurn, settingsTurn, eventTurn, turnOf}
 use Rattle.feed_law.specs.Feeds.{Prints, turnBy, turnedTo, TurnedAs, TablesAside}

@@ -1,7 +1,7 @@
 -- Document 01, "Session lines": a run of the program, a line at a time. "After each line the rest of the bytes is handed on from there".
 use Prim.Native.Nat.{ℕ, zero, suc, _+_, _-_}
-use mathlib.Core.Bool.{Bool, cond}
-use mathlib.Core.List.{List, [], _∷_, _++_}
+use mathlib.Core.Bool.{cond}
+use mathlib.Core.List.{List, [], _++_}
 use lib.ListN.{length, drop}
 use lib.Dec.{ltb, eqb}
 use Rattle.terms.specs.declared.Event.{Event}
@@ -13,7 +13,6 @@ use Rattle.text_law.specs.Grammar.{Answer, whole, unfinished, wrong}
 use Rattle.reading_law.specs.Answers.{readEvent, readSettings}
 use Rattle.state_law.specs.declared.Opened.{Opened}
 use Rattle.state_law.specs.Opening.{openingOf, fixedSession}
-use Rattle.state_law.specs.Day.{Day}
 use Rattle.feed_law.specs.declared.Stage.{Stage}
 use Rattle.feed_law.specs.declared.Stop.{Stop}
 use Rattle.feed_law.specs.Texts.{textMost, eventText, settingsText, badText, endText}

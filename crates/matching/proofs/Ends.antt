@@ -11,7 +11,7 @@ use Rattle.terms.specs.Sizes.{recordLength}
 use Rattle.terms.specs.Records.{recordOf, recordsOf}
 use Rattle.tables.specs.Put.{put}
 use Rattle.tables.proofs.Puts.{put-none, put-put}
-use Rattle.tables.proofs.Written.{length-record}
+use Rattle.terms.proofs.Records.{length-record}
 use Rattle.book_law.specs.Matching.{Swept, part, stopped, cutShort, takenWhole, firstAfter, sweep, tradeReports, ownLastOr}
 use Rattle.matching.specs.declared.Incoming.{Incoming}
 use Rattle.matching.specs.Sweeps.{takerOf, recordsFor, fillReport, trim, finish}

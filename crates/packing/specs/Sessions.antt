@@ -1,11 +1,10 @@
 -- A SESSION as a run of 43 numbers: the eight of its settings; time, closed (0 or 1), buys, sells, widened, cooling, reference, the
 -- minute's count and sum, under, given, trades; the ten prices; the ten sizes; the half hour's count, lots and value.
 use Prim.Native.Nat.{ℕ}
-use mathlib.Core.Path.{_≡_}
 use mathlib.Core.Bool.{Bool, true, false, cond}
 use mathlib.Core.List.{List, [], _∷_, _++_}
 use lib.Dec.{leb, eqb}
-use lib.ListN.{length, getD}
+use lib.ListN.{getD}
 use Rattle.terms.specs.Truth.{_⊓_}
 use Rattle.state_law.specs.declared.Session.{Session}
 use Rattle.state_law.specs.Opening.{fixedSession}

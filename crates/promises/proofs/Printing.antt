@@ -1,52 +1,49 @@
 -- The program's output by the calls is that by the days. Assumes nothing.
-use Prim.Native.Nat.{ℕ, zero, suc, _+_, _-_, _*_, _≤_}
+use Prim.Native.Nat.{ℕ, zero, suc, _+_, _-_, _≤_}
 use native.Mathlib.Omega.{arith}
 use mathlib.Core.Path.{_≡_, refl, sym, ap, _∙_, subst}
-use mathlib.Core.Bool.{Bool, true, false, cond}
-use mathlib.Core.List.{List, [], _∷_, _++_, append-assoc, append-nil}
+use mathlib.Core.Bool.{true, cond}
+use mathlib.Core.List.{List, _++_, append-assoc, append-nil}
 use lib.ListN.{length, take, drop}
-use lib.Dec.{ltb, leb, eqb}
-use lib.Seq.{take-append-seam, drop-append-le}
+use lib.Dec.{ltb, eqb}
+use lib.Seq.{take-append-seam}
 use borrow.Author.Tests.{leb-true, ltb-true, ltb-false, eqb-true, eqb-false}
 use Rattle.terms.specs.declared.Event.{Event}
 use Rattle.terms.specs.declared.Settings.{Settings}
 use Rattle.terms.specs.declared.Order.{Order}
-use Rattle.terms.specs.declared.Refusal.{Refusal}
-use Rattle.terms.specs.declared.Refusal.the-variants.{SmallRoom, SmallLineRoom}
+use Rattle.terms.specs.declared.Refusal.the-variants.{SmallRoom}
 use Rattle.terms.specs.declared.Verdict.{Verdict}
 use Rattle.terms.specs.declared.Verdict.the-variants.{Fine, Refused}
-use Rattle.terms.specs.Sizes.{slots, tableLength, roomLength, reportsMost}
+use Rattle.terms.specs.Sizes.{slots, tableLength, roomLength}
 use Rattle.terms.specs.Settings.{settingsVerdict}
 use Rattle.terms.specs.Records.{recordsOf}
 use Rattle.terms.proofs.Logic.{both, cases}
 use Rattle.terms.proofs.Cascade.{fine-first}
-use Rattle.tables.specs.Put.{put}
-use Rattle.tables.specs.Tables.{decode, tableOf}
+use Rattle.tables.specs.Tables.{decode}
 use Rattle.tables.proofs.Puts.{length-put}
 use Rattle.tables.proofs.Whole.{length-tableOf}
-use Rattle.tables.proofs.Written.{length-records}
+use Rattle.terms.proofs.Records.{length-records}
 use Rattle.text_law.specs.Grammar.{Answer, whole, unfinished, wrong}
 use Rattle.reading_law.specs.Answers.{readEvent, readSettings}
-use Rattle.state_law.specs.declared.Session.{Session}
 use Rattle.state_law.specs.Opening.{openedBy, openingOf, openedSession, fixedSession}
 use Rattle.state_law.specs.Day.{Day}
 use Rattle.soundness_law.specs.Sound.{sound, dayIn}
 use Rattle.soundness_law.proofs.Clocked.{session-clocked}
-use Rattle.soundness_law.proofs.Days.{SoundDay, sound-day}
+use Rattle.soundness_law.proofs.Days.{sound-day}
 use Rattle.engine_law.specs.Outcome.{Outcome, outcome}
 use Rattle.engine_law.specs.Calls.{roomy, called, tableBy}
-use Rattle.engine_law.proofs.Kept.{accepted-sound, refused-nothing, outcome-few}
+use Rattle.engine_law.proofs.Kept.{accepted-sound, outcome-few}
 use Rattle.engine_law.proofs.Applies.{called-outcome}
 use Rattle.feed_law.specs.declared.Run.{Run}
 use Rattle.feed_law.specs.declared.Stage.{Stage}
 use Rattle.feed_law.specs.declared.Stop.{Stop}
 use Rattle.feed_law.specs.Texts.{textMost, eventText, endText}
-use Rattle.feed_law.specs.Worlds.{World, Lent, lentOf, days, calls}
+use Rattle.feed_law.specs.Worlds.{Lent, lentOf, days, calls}
 use Rattle.feed_law.specs.Turns.{Turn, Fed, fedIn, settingsTurn, eventTurn, turnOf, printedIn, printedFrom, printed}
 use Rattle.feed_law.specs.Feeds.{TakenAs, feedVerdict, fedBy, fedOf}
 use Rattle.feed_law.proofs.Going.{fed-none, fed-full, fed-last, fed-ahead}
 use Rattle.feed_law.proofs.Pieces.{pieces, end-prints-rest}
-use Rattle.promises.specs.Runs.{Held, dayHeld}
+use Rattle.promises.specs.Runs.{Held}
 use Rattle.promises.specs.Printed.{Holding, atStart, dayOn, Piece, Handed, Feeding, FeedingPrints, EndPrints}
 use Rattle.promises.specs.Printed.Feeding.{ends, feeds}
 use Rattle.promises.proofs.Tables.{Left, outcome-day}

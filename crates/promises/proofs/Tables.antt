@@ -22,7 +22,7 @@ use Rattle.terms.specs.Refusals.{codeOf}
 use Rattle.tables.specs.Put.{put}
 use Rattle.tables.specs.Tables.{decode, tableOf}
 use Rattle.tables.proofs.Slots.{decode-encode}
-use Rattle.tables.proofs.Written.{length-records}
+use Rattle.terms.proofs.Records.{length-records}
 use Rattle.book_law.specs.Told.{traded, cancelled}
 use Rattle.state_law.specs.declared.Session.{Session}
 use Rattle.state_law.specs.Opening.{openedSession}

@@ -1,5 +1,5 @@
 -- The computed answer is the right one: each report is told back from its record, and what is told has that record. Assumes nothing.
-use Prim.Native.Nat.{ℕ, suc, _+_, _-_, _≤_, _<_}
+use Prim.Native.Nat.{ℕ, _+_, _-_, _≤_, _<_}
 use native.Mathlib.Omega.{arith}
 use native.Mathlib.Numerals.{add-one}
 use mathlib.Core.Path.{_≡_, refl, sym, ap, _∙_}
@@ -16,8 +16,9 @@ use Rattle.terms.specs.declared.Why.{Why}
 use Rattle.terms.specs.declared.Why.the-variants.{Asked, Immediate, OutOfRange, OutsideBand, DayEnd}
 use Rattle.terms.specs.Sizes.{recordLength}
 use Rattle.terms.specs.Reports.{whyOf}
-use Rattle.terms.specs.Records.{recordOf, fieldsOf}
+use Rattle.terms.specs.Records.{recordOf}
 use Rattle.terms.proofs.Logic.{by, split}
+use Rattle.terms.proofs.Records.{length-record}
 use Rattle.records.specs.declared.ReadRecord.{ReadRecord}
 use Rattle.records.specs.declared.ReadWhy.{ReadWhy}
 use Rattle.records.specs.Back.{RecordRead, whyFrom, zeroTwo, zeroThree, toldIf, endedFrom, reportFrom}
@@ -149,19 +150,6 @@ pub record-back : (r : Report) (o : ReadRecord) → RecordRead (recordOf r) o �
 record-back r o a = told-only (recordOf r) o (ReadRecord.Told r) a refl
 
 -- ---- six numbers of a room
-
-pub length-record : (r : Report) → length (recordOf r) ≡ recordLength
-unfolding recordOf
-length-record r = fields (r .said)
-  where
-    fields : (s : Said) → suc (suc (length (fieldsOf s))) ≡ recordLength
-    fields (Accept n) = refl
-    fields (Trade d) = refl
-    fields (Convert o) = refl
-    fields (Cancel e) = refl
-    fields (Slab b) = refl
-    fields (Ref p) = refl
-    fields (Close c) = refl
 
 pub too-few : (s : List ℕ) (n : ℕ) → length s - n < recordLength → RecordRead (take recordLength (drop n s)) ReadRecord.Nothing
 too-few s n h r e =

@@ -1,5 +1,5 @@
 -- Row 10 by the live counts: the orders that a table holds are as many as the session says. Assumes nothing.
-use mathlib.Core.Path.{_≡_, refl, sym, ap}
+use mathlib.Core.Path.{_≡_, sym}
 use Prim.Native.Nat.{ℕ}
 use mathlib.Core.Bool.{Bool}
 use mathlib.Core.List.{List}
@@ -12,7 +12,7 @@ use Rattle.tables.proofs.Slots.{length-decode}
 use Rattle.state_law.specs.declared.Session.{Session}
 use Rattle.state_law.specs.Day.{own}
 use Rattle.soundness_law.specs.Sound.{dayIn}
-use Rattle.refusal_law.specs.Refusals.{lifeHasPlace, hasPlace}
+use Rattle.refusal_law.specs.Refusals.{hasPlace}
 use Rattle.refusal_law.specs.Tabled.{liveOn, placeFor}
 
 live-is : (side : Side) (s : Session) (buys sells : List ℕ) → liveOn side s ≡ length (own side (dayIn s buys sells))

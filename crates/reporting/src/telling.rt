@@ -6,7 +6,6 @@ use terms::Report;
 use terms::Said;
 use terms::Why;
 use terms::sizes;
-ghost use mathlib.Core.Path.{_≡_};
 ghost use mathlib.Core.Bool.{not};
 ghost use mathlib.Core.List.{[], _∷_};
 ghost use Prim.Native.Nat.{_+_, _*_, _≤_};

@@ -5,7 +5,7 @@ use rules_law::Reckoning;
 use rules_law::Row;
 ghost use mathlib.Core.Path.{_≡_};
 ghost use Prim.Native.Nat.{_≤_};
-ghost use Rattle.terms.specs.Sizes.{priceMost, daysMost, timeMost};
+ghost use Rattle.terms.specs.Sizes.{priceMost, daysMost};
 ghost use Rattle.rules_law.specs.Reference.{theoreticalOr, minuteAfter, quiet, reckoned, MinuteFits, RangeFits, rangeOf, inRange};
 
 // The greatest reference: what a theoretical price can come to.

@@ -1,12 +1,9 @@
 -- The weighted average to the nearest tick means what document 01 says, and nothing wraps on the way. Assumes nothing.
-use Prim.Native.Nat.{ℕ, zero, suc, _+_, _-_, _*_, _/_, _%_, _≤_, _<_}
+use Prim.Native.Nat.{ℕ, _+_, _-_, _*_, _/_, _≤_, _<_}
 use native.Mathlib.Omega.{arith}
-use native.Mathlib.Nat.{mul-le-mul, mul-le-mul-left, mul-le-mul-right, mul-assoc, mul-comm, mul-mod-left, add-mul, one-mul, le-trans, div-mul-le-self, lt-div-mul-add, div-eq-of-lt-le}
-use mathlib.Core.Path.{_≡_, refl, sym, ap, _∙_}
-use lib.ListN.{getD, length, drop}
-use Rattle.terms.specs.Sizes.{priceMost, lotsMost, tradesMost, tickMost}
-use Rattle.rules_law.specs.declared.Tally.{Tally}
-use Rattle.rules_law.specs.Close.{tallied, tallyAll, noTally, nearest, average, TallyFits}
+use native.Mathlib.Nat.{mul-le-mul, mul-le-mul-left, mul-assoc, mul-comm, mul-mod-left, add-mul, one-mul, le-trans, div-mul-le-self, lt-div-mul-add, div-eq-of-lt-le}
+use mathlib.Core.Path.{_≡_, sym, ap}
+use Rattle.rules_law.specs.Close.{nearest}
 use Rattle.rules_law.specs.Meaning.{IsNearest}
 
 -- q ticks times the lots, as so many units of lots×tick

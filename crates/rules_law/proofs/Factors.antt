@@ -1,6 +1,6 @@
 -- The growth factors, computed from their definition and tested once, entry by entry: each lies from 1,000,000,000 to 1,106,000,000,
 -- so a theoretical price is 1 to 110,600,000. Assumes nothing.
-use Prim.Native.Nat.{ℕ, zero, suc, _*_, _≤_, _<_}
+use Prim.Native.Nat.{ℕ, zero, suc, _*_, _≤_}
 use native.Mathlib.Omega.{arith}
 use native.Mathlib.Nat.{mul-le-mul}
 use mathlib.Core.Path.{_≡_, refl}

@@ -5,12 +5,14 @@ use rules_law::Tape;
 use state_law::Session;
 use terms::sizes;
 ghost use mathlib.Core.Path.{_≡_};
+ghost use mathlib.Core.Bool.{true};
 ghost use Prim.Native.Nat.{_*_, _≤_};
 ghost use lib.ListN.{take};
 ghost use Rattle.terms.specs.Sizes.{priceMost, lotsMost, tradesMost, timeMost, tickMost};
-ghost use Rattle.terms.specs.Numbers.{isLots};
+ghost use Rattle.terms.specs.Truth.{_⊓_};
+ghost use Rattle.terms.specs.Numbers.{isPrice, isLots, onTick};
+ghost use Rattle.terms.specs.Ticks.{Dividing};
 ghost use Rattle.rules_law.specs.Close.{kept};
-ghost use Rattle.soundness_law.specs.Dividing.{Dividing};
 ghost use Rattle.soundness_law.specs.Sound.{timeSound, countsSound, slabSound, numbersSound, every, priceSound, rememberedSound, halfSound, minuteSound};
 
 pub fn time_sound(s: Session) -> bool
@@ -57,7 +59,7 @@ fn price_sound(tick: u64, factor: u64, x: u64) -> bool
     if !terms::numbers::is_price(x) {
         return false;
     }
-    audit::ticks::on_tick(x, tick, factor)
+    terms::ticks::on_tick(x, tick, factor)
 }
 
 // The first n of ten prices are sound.
@@ -100,6 +102,60 @@ fn remembered(trades: u64) -> usize
     trades as usize
 }
 
+// Ten prices are in range. No way leads out of the loop, so that all ten are compared side by side; the same below.
+fn ten_priced(prices: [u64; 10]) -> bool
+    ensures { λ r. ⌜ r ≡ every isPrice prices ⌝ }
+{
+    let mut all = true;
+    let mut i: usize = 0;
+    while i < 10 {
+        all = all & terms::numbers::is_price(prices[i]);
+        i += 1;
+    }
+    all
+}
+
+// Ten sizes are in range.
+fn ten_sized(lots: [u64; 10]) -> bool
+    ensures { λ r. ⌜ r ≡ every isLots lots ⌝ }
+{
+    let mut all = true;
+    let mut i: usize = 0;
+    while i < 10 {
+        all = all & terms::numbers::is_lots(lots[i]);
+        i += 1;
+    }
+    all
+}
+
+// Ten prices are multiples of the tick.
+fn ten_ticked(prices: [u64; 10], tick: u64, factor: u64) -> bool
+    requires { ⌜ (every isPrice prices ≡ true) × Dividing tick factor ⌝ }
+    ensures { λ r. ⌜ r ≡ every (onTick tick) prices ⌝ }
+{
+    let mut all = true;
+    let mut i: usize = 0;
+    while i < 10 {
+        all = all & terms::ticks::on_tick(prices[i], tick, factor);
+        i += 1;
+    }
+    all
+}
+
+// Ten trades are sound.
+fn full_sound(prices: [u64; 10], lots: [u64; 10], tick: u64, factor: u64) -> bool
+    requires { ⌜ Dividing tick factor ⌝ }
+    ensures { λ r. ⌜ r ≡ (every (priceSound tick) prices ⊓ every isLots lots) ⌝ }
+{
+    if !ten_priced(prices) {
+        return false;
+    }
+    if !ten_ticked(prices, tick, factor) {
+        return false;
+    }
+    ten_sized(lots)
+}
+
 pub fn remembered_sound(tick: u64, t: Tape) -> bool
     requires { ⌜ (1 ≤ tick) × (tick ≤ tickMost) ⌝ }
     ensures { λ r. ⌜ r ≡ rememberedSound tick t ⌝ }
@@ -107,7 +163,10 @@ pub fn remembered_sound(tick: u64, t: Tape) -> bool
     let prices = t.prices;
     let lots = t.sizes;
     let n = remembered(t.trades);
-    let factor = audit::ticks::factor(tick);
+    let factor = terms::ticks::factor(tick);
+    if n == 10 {
+        return full_sound(prices, lots, tick, factor);
+    }
     if !prices_sound(prices, n, tick, factor) {
         return false;
     }

@@ -4,7 +4,6 @@ use mathlib.Core.Path.{_≡_, sym}
 use mathlib.Core.Bool.{Bool, true, false, not}
 use mathlib.Core.List.{List}
 use borrow.Author.Tests.{eq-eqb, not-true, not-false}
-use lib.ListN.{length}
 use Rattle.terms.specs.Truth.{_⊓_}
 use Rattle.terms.proofs.Logic.{both, make}
 use Rattle.terms.specs.declared.Band.{Band}

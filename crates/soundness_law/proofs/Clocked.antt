@@ -1,10 +1,10 @@
 -- A sound session as facts: what the engine's sums and products rely on. Assumes nothing.
-use Prim.Native.Nat.{ℕ, zero, suc, _*_, _≤_, _<_}
+use Prim.Native.Nat.{ℕ, _*_, _≤_, _<_}
 use native.Mathlib.Omega.{arith}
 use native.Mathlib.Nat.{min-eq-left}
 use mathlib.Core.Path.{_≡_}
 use mathlib.Core.Bool.{Bool, true}
-use mathlib.Core.List.{List, [], _∷_}
+use mathlib.Core.List.{List}
 use borrow.Author.Tests.{leb-true}
 use lib.ListN.{length, getD, take, length-take}
 use lib.Seq.{getD-take}
@@ -16,10 +16,11 @@ use Rattle.rules_law.specs.declared.Minute.{Minute}
 use Rattle.rules_law.specs.declared.Tally.{Tally}
 use Rattle.rules_law.specs.declared.Tape.{Tape}
 use Rattle.rules_law.specs.Reference.{referenceMost, MinuteFits}
-use Rattle.rules_law.specs.Close.{kept, TallyFits, TenFits, TapeFits}
+use Rattle.rules_law.specs.Close.{kept, TallyFits, TenFits}
 use Rattle.state_law.specs.declared.Session.{Session}
 use Rattle.state_law.specs.Now.{Clocked, Steady}
 use Rattle.soundness_law.specs.Sound.{timeSound, countsSound, slabSound, numbersSound, every, priceSound, rememberedSound, halfSound, minuteSound, clockSound, tapeSound, sessionSound}
+use Rattle.soundness_law.proofs.Lists.{at-place}
 
 pub time-small : (s : Session) → timeSound s ≡ true → s .time ≤ timeMost
 unfolding timeSound
@@ -72,13 +73,6 @@ minute-fits trades m h e =
     let sum = between-facts (m .count) (m .sum) (priceMost * m .count) (a .1) in
     let count = leb-true (m .count) trades (a .0) in
     omega arith
-
--- what passes all passes at each place
-at-place : (test : ℕ → Bool) (xs : List ℕ) → every test xs ≡ true → (k : ℕ) → k < length xs → test (getD xs k 0) ≡ true
-unfolding every
-at-place test [] e k h = absurd (omega arith)
-at-place test (x ∷ xs) e zero h = both e .0
-at-place test (x ∷ xs) e (suc k) h = at-place test xs (both e .1) k (omega arith)
 
 -- each of ten passes, where ten are remembered
 of-ten : (test : ℕ → Bool) (trades : ℕ) (a : List ℕ) → 10 ≤ trades → length a ≡ 10 → every test (take (kept trades) a) ≡ true → (k : ℕ) → k < 10 → test (getD a k 0) ≡ true

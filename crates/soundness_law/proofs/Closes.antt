@@ -3,23 +3,21 @@
 use Prim.Native.Nat.{ℕ, zero, suc, _+_, _-_, _*_, _≤_}
 use native.Mathlib.Omega.{arith}
 use native.Mathlib.Nat.{zero-mul, div-zero, add-mul, mul-comm, mul-le-mul-right, le-of-mul-le-mul-right, min-eq-left}
-use mathlib.Core.Path.{_≡_, refl, ap, _∙_}
+use mathlib.Core.Path.{_≡_, refl, ap}
 use mathlib.Core.Bool.{true, _||_}
 use mathlib.Core.List.{List, [], _∷_}
 use borrow.Author.Tests.{leb-true, eqb-true, eqb-false}
-use lib.Dec.{leb, ltb, eqb}
-use lib.ListN.{length, take, drop, getD, length-append, length-take, length-drop, length-set}
-use Rattle.terms.specs.declared.Order.{Order}
+use lib.Dec.{leb, eqb}
+use lib.ListN.{length, take, getD}
 use Rattle.terms.specs.Sizes.{priceMost, tickMost}
 use Rattle.terms.specs.Settings.{Valid}
 use Rattle.terms.proofs.Logic.{by, cases, both, between-facts}
 use Rattle.terms.proofs.Valid.{valid-facts}
 use Rattle.rules_law.specs.declared.Tally.{Tally}
 use Rattle.rules_law.specs.declared.Tape.{Tape}
-use Rattle.rules_law.specs.Close.{noTally, tallied, tallyAll, nearest, average, kept, remembered, tapeAfter, lastOr, lastTen, closePrice, nextBase}
+use Rattle.rules_law.specs.Close.{noTally, tallied, tallyAll, nearest, average, kept, remembered, lastOr, lastTen, closePrice, nextBase}
 use Rattle.rules_law.proofs.Averages.{nearest-is}
 use Rattle.state_law.specs.declared.Session.{Session}
-use Rattle.state_law.specs.Trades.{withTrade, withTrades}
 use Rattle.soundness_law.specs.Sound.{every, priceSound}
 use Rattle.soundness_law.proofs.Parts.{Parts}
 

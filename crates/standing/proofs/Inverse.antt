@@ -1,12 +1,12 @@
 -- PACKING AND UNPACKING A RUN ARE INVERSE, whatever follows in the numbers; and numbers that are no run's do nothing. Assumes nothing.
 use Prim.Native.Nat.{ℕ, zero, suc, _≤_}
 use native.Mathlib.Omega.{arith}
-use mathlib.Core.Path.{_≡_, refl, ap}
+use mathlib.Core.Path.{_≡_, refl}
 use mathlib.Core.Bool.{true, false}
 use mathlib.Core.List.{List, [], _∷_, _++_}
 use borrow.Author.Tests.{leb-true, le-ltb}
 use lib.Dec.{leb, ltb}
-use lib.ListN.{length, getD, take, drop}
+use lib.ListN.{length, take, drop}
 use Rattle.terms.proofs.Logic.{by, both, make}
 use Rattle.tables.specs.Put.{put}
 use Rattle.feed_law.specs.declared.Run.{Run}
@@ -16,7 +16,6 @@ use Rattle.feed_law.specs.Texts.{textMost}
 use Rattle.feed_law.specs.Worlds.{Lent, calls}
 use Rattle.feed_law.specs.Turns.{Fed, halted, fedIn}
 use Rattle.state_law.specs.Tens.{Ten}
-use Rattle.packing.specs.Sessions.{sessionNumbers, isSession, sessionFrom}
 use Rattle.packing.proofs.Inverse.{is-session, session-back, session-numbers}
 use Rattle.standing.specs.Runs.{runLength, stageNumber, runNumbers, isRun, stageFrom, runFrom, overRun}
 

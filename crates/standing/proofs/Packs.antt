@@ -2,7 +2,7 @@
 use Prim.Native.Nat.{ℕ, _-_, _≤_, _<_}
 use native.Mathlib.Omega.{arith}
 use native.Mathlib.Nat.{le-of-eq}
-use mathlib.Core.Path.{_≡_, refl, sym, ap, _∙_}
+use mathlib.Core.Path.{_≡_, ap, _∙_}
 use mathlib.Core.Bool.{Bool, true, false, not, _&&_}
 use mathlib.Core.List.{List, [], _∷_, _++_, append-nil}
 use borrow.Author.Tests.{not-true, not-false}
@@ -17,7 +17,7 @@ use Rattle.state_law.specs.Opening.{fixedSession}
 use Rattle.feed_law.specs.declared.Run.{Run}
 use Rattle.feed_law.specs.declared.Stage.{Stage}
 use Rattle.packing.specs.Sessions.{sessionNumbers, isSession, sessionFrom}
-use Rattle.standing.specs.Runs.{runLength, stageNumber, runNumbers, isRun, stageFrom, runFrom, overRun}
+use Rattle.standing.specs.Runs.{stageNumber, runNumbers, isRun, stageFrom, runFrom}
 
 -- the part of a slice behind its first number
 behind : (ns : List ℕ) → take (length ns - 1) (drop 1 ns) ≡ drop 1 ns

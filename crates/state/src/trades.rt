@@ -6,8 +6,8 @@ use rules_law::Reckoning;
 use state_law::Session;
 use terms::Band;
 ghost use mathlib.Core.Path.{_≡_};
-ghost use Prim.Native.Nat.{_≤_, _<_};
-ghost use Rattle.terms.specs.Sizes.{priceMost, lotsMost, tradesMost};
+ghost use Prim.Native.Nat.{_≤_};
+ghost use Rattle.terms.specs.Sizes.{priceMost, lotsMost};
 ghost use Rattle.state_law.specs.Now.{bandNow};
 ghost use Rattle.state_law.specs.Trades.{withTrade, TradesFit};
 

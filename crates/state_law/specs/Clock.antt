@@ -1,6 +1,6 @@
 -- The clock steps: the slab, then the reference.
 use Prim.Native.Nat.{ℕ, _+_}
-use mathlib.Core.Bool.{Bool, cond}
+use mathlib.Core.Bool.{cond}
 use Rattle.rules_law.specs.Slabs.{overBy}
 use Rattle.rules_law.specs.Reference.{reckoned}
 use Rattle.state_law.specs.declared.Session.{Session}

@@ -1,5 +1,4 @@
 -- A day: the session with the live orders of each side, best first. All that happens to a session is said of days.
-use Prim.Native.Nat.{ℕ}
 use mathlib.Core.List.{List, []}
 use lib.ListN.{length}
 use Rattle.terms.specs.declared.Settings.{Settings}

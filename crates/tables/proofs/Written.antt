@@ -1,40 +1,19 @@
--- Reports as records: their lengths, and six numbers written in two runs. Assumes nothing.
+-- Reports as records: written one behind the other, and six numbers written in two runs. Assumes nothing.
 use Prim.Native.Nat.{ℕ, _+_, _*_, _≤_}
 use native.Mathlib.Omega.{arith}
 use mathlib.Core.Path.{_≡_, refl, sym}
 use mathlib.Core.List.{List, [], _∷_, _++_, append-assoc}
-use lib.ListN.{length, length-append}
+use lib.ListN.{length}
 use Rattle.terms.specs.declared.Report.{Report}
 use Rattle.terms.specs.declared.Said.{Said}
-use Rattle.terms.specs.declared.Said.the-variants.{Accept, Trade, Convert, Cancel, Slab, Ref, Close}
 use Rattle.terms.specs.Sizes.{recordLength}
 use Rattle.terms.specs.Reports.{kindOf}
 use Rattle.terms.specs.Records.{fieldsOf, recordOf, recordsOf}
+use Rattle.terms.proofs.Records.{length-records}
 use Rattle.tables.specs.Put.{put}
 use Rattle.tables.specs.Fields.{listed}
 use Rattle.tables.specs.declared.room.Four.{Four}
 use Rattle.tables.proofs.Puts.{put-put}
-
-length-fields : (s : Said) → length (fieldsOf s) ≡ 4
-length-fields (Accept number) = refl
-length-fields (Trade d) = refl
-length-fields (Convert o) = refl
-length-fields (Cancel e) = refl
-length-fields (Slab b) = refl
-length-fields (Ref price) = refl
-length-fields (Close c) = refl
-
-pub length-record : (r : Report) → length (recordOf r) ≡ recordLength
-unfolding recordOf
-length-record r = let e : length (fieldsOf (r .said)) ≡ 4 = length-fields (r .said) in omega arith
-
-pub length-records : (rs : List Report) → length (recordsOf rs) ≡ recordLength * length rs
-unfolding recordsOf
-length-records [] = refl
-length-records (r ∷ rs) =
-    let e : length (recordOf r) ≡ recordLength = length-record r in
-    let f : length (recordsOf rs) ≡ recordLength * length rs = length-records rs in
-    simp length-append (omega arith)
 
 records-append : (rs ss : List Report) → recordsOf (rs ++ ss) ≡ recordsOf rs ++ recordsOf ss
 unfolding recordsOf

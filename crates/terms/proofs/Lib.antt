@@ -1,3 +1,5 @@
 pub mod Logic
 pub mod Cascade
 pub mod Valid
+pub mod Multiples
+pub mod Records

@@ -74,6 +74,9 @@ pub or-none : (p q : Bool) → p || q ≡ false → (p ≡ false) × (q ≡ fals
 or-none true q e = absurd (true≢false e)
 or-none false q e = (refl, e)
 
+pub or-left : (p q : Bool) → p ≡ true → p || q ≡ true
+or-left p q e = rw e
+
 pub or-last : (p q : Bool) → (p ≡ false → q ≡ true) → p || q ≡ true
 or-last true q f = refl
 or-last false q f = f refl

@@ -1,18 +1,32 @@
 -- What settings that 12 and 13 let pass are. Assumes nothing.
-use Prim.Native.Nat.{_≤_}
+use native.Mathlib.Omega.{arith}
 use mathlib.Core.Path.{_≡_}
 use mathlib.Core.Bool.{true}
 use borrow.Author.Tests.{leb-true}
 use Rattle.terms.specs.declared.Settings.{Settings}
 use Rattle.terms.specs.declared.Verdict.the-variants.{Fine}
 use Rattle.terms.specs.Sizes.{baseMost, tickMost, lengthLeast, timeMost, priceMost}
-use Rattle.terms.specs.Settings.{settingsRanged, settingsTicked, settingsValid, settingsVerdict, Valid}
+use Rattle.terms.specs.Settings.{settingsRanged, settingsTicked, settingsValid, settingsVerdict, Ranged, Valid}
 use Rattle.terms.proofs.Logic.{both, between-facts}
 use Rattle.terms.proofs.Cascade.{fine-first}
 
-pub ranged-tick : (g : Settings) → settingsRanged g ≡ true → (1 ≤ g .tick) × (g .tick ≤ tickMost)
+pub ranged : (g : Settings) → settingsRanged g ≡ true → Ranged g
 unfolding settingsRanged
-ranged-tick g h = between-facts 1 (g .tick) tickMost (both (both (both (both h .0) .0) .0) .1)
+ranged g h =
+    let ticks = both (both (both (both h .0) .0) .0) in
+    let settle = both (ticks .0) in
+    let close = both (settle .0) in
+    let base = between-facts 1 (g .base) baseMost (close .0) in
+    let closes = between-facts 1 (g .close) priceMost (close .1) in
+    let settles = between-facts 1 (g .settle) priceMost (settle .1) in
+    let tick = between-facts 1 (g .tick) tickMost (ticks .1) in
+    record {
+      base-low = omega (arith, base .1);
+      close-low = omega (arith, closes .1);
+      settle-low = omega (arith, settles .1);
+      tick-some = tick .0;
+      tick-small = tick .1;
+    }
 
 pub facts : (g : Settings) → settingsRanged g ≡ true → settingsTicked g ≡ true → Valid g
 unfolding settingsRanged settingsTicked

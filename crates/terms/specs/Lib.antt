@@ -1,6 +1,7 @@
 pub mod Truth
 pub mod Sizes
 pub mod Numbers
+pub mod Ticks
 pub mod Categories
 pub mod Reports
 pub mod Records

@@ -1,8 +1,8 @@
 -- Document 01, "Numbers", its second paragraph: the settings, and refusals 12 and 13.
-use Prim.Native.Nat.{ℕ, _≤_}
+use Prim.Native.Nat.{_≤_, _<_}
 use mathlib.Core.Path.{_≡_}
 use mathlib.Core.Bool.{Bool, true}
-use mathlib.Core.List.{List, [], _∷_}
+use mathlib.Core.List.{[], _∷_}
 use lib.Dec.{leb}
 use Rattle.terms.specs.declared.Settings.{Settings}
 use Rattle.terms.specs.declared.Refusal.the-variants.{SettingsRange, SettingsOffTick}
@@ -10,6 +10,7 @@ use Rattle.terms.specs.declared.Verdict.{Verdict}
 use Rattle.terms.specs.Truth.{_⊓_, between}
 use Rattle.terms.specs.Sizes.{baseMost, tickMost, lengthLeast, timeMost, daysMost, priceMost}
 use Rattle.terms.specs.Numbers.{isPrice, onTick}
+use Rattle.terms.specs.Ticks.{scale}
 use Rattle.terms.specs.Refusals.{unless, firstFailed}
 
 -- "category; base 1 to 50,000,000; previous close and previous settlement, prices; tick 1 to 10,000; length 3,600,000 to 86,400,000;
@@ -35,6 +36,14 @@ settingsValid g = settingsRanged g ⊓ settingsTicked g
 -- 12, then 13
 unfoldable pub settingsVerdict : Settings → Verdict
 settingsVerdict g = firstFailed (unless SettingsRange (settingsRanged g) ∷ unless SettingsOffTick (settingsTicked g) ∷ [])
+
+-- what settings in range are, as far as the test of their ticks needs it
+pub record Ranged (g : Settings) : Type 0 where
+  pub base-low : g .base < scale
+  pub close-low : g .close < scale
+  pub settle-low : g .settle < scale
+  pub tick-some : 1 ≤ g .tick
+  pub tick-small : g .tick ≤ tickMost
 
 -- what settings that 12 and 13 let pass are, as facts for those who compute with them
 pub record Valid (g : Settings) : Type 0 where

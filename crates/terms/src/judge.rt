@@ -4,9 +4,9 @@ use crate::Settings;
 use crate::Verdict;
 use crate::numbers;
 use crate::sizes;
+use crate::ticks;
 ghost use mathlib.Core.Path.{_≡_};
-ghost use Prim.Native.Nat.{_<_};
-ghost use Rattle.terms.specs.Settings.{settingsRanged, settingsTicked, settingsValid, settingsVerdict};
+ghost use Rattle.terms.specs.Settings.{settingsRanged, settingsTicked, settingsValid, settingsVerdict, Ranged};
 
 fn ranged(g: Settings) -> bool
     ensures { λ r. ⌜ r ≡ settingsRanged g ⌝ }
@@ -21,14 +21,16 @@ fn ranged(g: Settings) -> bool
     base & close & settle & tick & length & days & under
 }
 
+// With one division for the three prices.
 fn ticked(g: Settings) -> bool
-    requires { ⌜ 0 < g .tick ⌝ }
+    requires { ⌜ Ranged g ⌝ }
     ensures { λ r. ⌜ r ≡ settingsTicked g ⌝ }
 {
     let tick = g.tick;
-    let base = numbers::on_tick(tick, g.base);
-    let close = numbers::on_tick(tick, g.close);
-    let settle = numbers::on_tick(tick, g.settle);
+    let factor = ticks::factor(tick);
+    let base = ticks::on_tick(g.base, tick, factor);
+    let close = ticks::on_tick(g.close, tick, factor);
+    let settle = ticks::on_tick(g.settle, tick, factor);
     base & close & settle
 }
 

@@ -5,6 +5,7 @@
 pub mod judge;
 pub mod numbers;
 pub mod sizes;
+pub mod ticks;
 
 // What a contract is on (document 01, "Slabs"). The words are those of session lines.
 pub enum Category {

@@ -2,6 +2,7 @@
 use borrow.Author.Needs.{needs}
 use Rattle.terms.proofs.Logic.{conditions}
 use Rattle.soundness_law.specs.Sound.{rememberedSound}
+use Rattle.soundness_law.proofs.Lists.{full-tape}
 use Rattle.soundness.proofs.numbers.remembered_sound.Statement.{statement}
 use Rattle.soundness.proofs.numbers.remembered_sound.Tie as tie
 
@@ -11,19 +12,28 @@ remembered-requires c κs = search needs
 factor-requires : tie.Need-factor-requires
 factor-requires c κs = search needs
 
-prices-sound-requires : tie.Need-prices-sound-requires
-prices-sound-requires c κs = search needs
+full-sound-requires : tie.Need-full-sound-requires
+full-sound-requires c κs = search needs
 
 returns : tie.Need-returns
-unfolding rememberedSound
-returns c = rw (← c .before .before .before .remembered .ensures .0) (search conditions)
+returns c =
+    let a = c .before .before .before .before .before .before .args in
+    let n = c .before .before .before .remembered in
+    full-tape (a .tick) (a .t) (n .result) (c .full-sound .result) (search needs) (search needs) (n .ensures .0) (c .before .if1 .taken) (c .full-sound .ensures)
 
-sizes-sound-requires : tie.Need-sizes-sound-requires
-sizes-sound-requires c κs = search needs
+prices-sound-requires : tie.Need-prices-sound-requires
+prices-sound-requires c κs = search needs
 
 returns-2 : tie.Need-returns-2
 unfolding rememberedSound
 returns-2 c = rw (← c .before .before .before .before .remembered .ensures .0) (search conditions)
+
+sizes-sound-requires : tie.Need-sizes-sound-requires
+sizes-sound-requires c κs = search needs
+
+returns-3 : tie.Need-returns-3
+unfolding rememberedSound
+returns-3 c = rw (← c .before .before .before .before .before .remembered .ensures .0) (search conditions)
 
 pub remembered-sound-spec : {M : Type 1} → statement M
 remembered-sound-spec =
@@ -31,7 +41,9 @@ remembered-sound-spec =
     (tie.spec
     remembered-requires
     factor-requires
-    prices-sound-requires
+    full-sound-requires
     returns
+    prices-sound-requires
+    returns-2
     sizes-sound-requires
-    returns-2)
+    returns-3)

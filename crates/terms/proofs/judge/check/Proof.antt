@@ -1,11 +1,10 @@
--- A cascade of two refusals; the tick is tested only where 12 found it to be at least 1.
-use native.Mathlib.Omega.{arith}
+-- A cascade of two refusals; the ticks are tested only of settings in range.
 use borrow.Author.Needs.{needs}
 use borrow.Author.Tests.{not-false}
 use mathlib.Core.Path.{sym, _∙_}
 use Rattle.terms.specs.Settings.{settingsVerdict}
 use Rattle.terms.proofs.Cascade.{cascade}
-use Rattle.terms.proofs.Valid.{ranged-tick}
+use Rattle.terms.proofs.Valid.{ranged}
 use Rattle.terms.proofs.judge.check.Statement.{statement}
 use Rattle.terms.proofs.judge.check.Tie as tie
 
@@ -17,8 +16,7 @@ unfolding settingsVerdict
 returns c = search cascade depth 14
 
 ticked-requires : tie.Need-ticked-requires
-ticked-requires c κs =
-    ranged-tick (c .before .before .args .g) (sym (c .before .ranged .ensures) ∙ not-false _ (c .if1 .left)) .0
+ticked-requires c κs = ranged (c .before .before .args .g) (sym (c .before .ranged .ensures) ∙ not-false _ (c .if1 .left))
 
 returns-2 : tie.Need-returns-2
 unfolding settingsVerdict

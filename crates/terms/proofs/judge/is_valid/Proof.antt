@@ -1,10 +1,10 @@
--- The ticks are tested only where the tick is found to be at least 1.
+-- The ticks are tested only of settings in range.
 use borrow.Author.Needs.{needs}
 use mathlib.Core.Path.{sym, _∙_}
 use borrow.Author.Tests.{not-false}
 use Rattle.terms.specs.Settings.{settingsValid}
 use Rattle.terms.proofs.Logic.{conditions}
-use Rattle.terms.proofs.Valid.{ranged-tick}
+use Rattle.terms.proofs.Valid.{ranged}
 use Rattle.terms.proofs.judge.is_valid.Statement.{statement}
 use Rattle.terms.proofs.judge.is_valid.Tie as tie
 
@@ -16,7 +16,7 @@ unfolding settingsValid
 returns c = search conditions
 
 ticked-requires : tie.Need-ticked-requires
-ticked-requires c κs = ranged-tick (c .before .before .args .g) (sym (c .before .ranged .ensures) ∙ not-false _ (c .if1 .left)) .0
+ticked-requires c κs = ranged (c .before .before .args .g) (sym (c .before .ranged .ensures) ∙ not-false _ (c .if1 .left))
 
 returns-2 : tie.Need-returns-2
 unfolding settingsValid

@@ -1,9 +1,8 @@
 // Whether a price is a multiple of the tick, by a product and a shift where a division would take longest.
 ghost use mathlib.Core.Path.{_≡_};
 ghost use Prim.Native.Nat.{_≤_, _<_};
-ghost use Rattle.terms.specs.Sizes.{tickMost};
 ghost use Rattle.terms.specs.Numbers.{onTick};
-ghost use Rattle.audit_law.specs.Pass.{scale, factorOf};
+ghost use Rattle.terms.specs.Ticks.{scale, factorOf, Dividing};
 
 const SCALE: u64 = 4_294_967_296;
 
@@ -16,7 +15,7 @@ pub fn factor(tick: u64) -> u64
 }
 
 pub fn on_tick(price: u64, tick: u64, factor: u64) -> bool
-    requires { ⌜ (price < scale) × (1 ≤ tick) × (tick ≤ tickMost) × (factor ≡ factorOf tick) ⌝ }
+    requires { ⌜ (price < scale) × Dividing tick factor ⌝ }
     ensures { λ r. ⌜ r ≡ onTick tick price ⌝ }
 {
     let wide = price * factor;

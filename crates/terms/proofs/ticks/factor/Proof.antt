@@ -1,8 +1,8 @@
 -- The quotient is at most the scale.
 use borrow.Author.Needs.{needs}
-use Rattle.audit_law.proofs.Multiples.{factor-fits}
-use Rattle.audit.proofs.ticks.factor.Statement.{statement}
-use Rattle.audit.proofs.ticks.factor.Tie as tie
+use Rattle.terms.proofs.Multiples.{factor-fits}
+use Rattle.terms.proofs.ticks.factor.Statement.{statement}
+use Rattle.terms.proofs.ticks.factor.Tie as tie
 
 ruleset answers = (needs, factor-fits)
 

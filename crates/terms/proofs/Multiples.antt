@@ -8,14 +8,23 @@ use mathlib.Core.Bool.{Bool, true, false}
 use mathlib.Core.Path.{_≡_, refl, sym, ap, _∙_}
 use lib.Dec.{eqb}
 use borrow.Author.Tests.{eq-eqb, ne-eqb, eqb-true, eqb-false}
 use Rattle.terms.specs.Sizes.{tickMost}
 use Rattle.terms.specs.Numbers.{onTick}
-use Rattle.audit_law.specs.Pass.{scale, factorOf}
+use Rattle.terms.specs.Ticks.{scale, factorOf, Dividing}
 
 pub factor-fits : (tick : ℕ) → Fits w64 (scale / tick + 1)
 factor-fits tick = omega (arith, div-le-self scale tick)
 
-module _ (price tick factor : ℕ) (p : price < scale) (some : 1 ≤ tick) (small : tick ≤ tickMost) (e : factor ≡ factorOf tick) where
+module _ (price tick factor : ℕ) (p : price < scale) (d : Dividing tick factor) where
+  some : 1 ≤ tick
+  some = d .tick-some
+
+  small : tick ≤ tickMost
+  small = d .tick-small
+
+  e : factor ≡ factorOf tick
+  e = d .factor-is
+
   wide : price * factor ≤ 4294967295 * 4294967297
   wide =
       let l : price ≤ 4294967295 = omega arith in

@@ -1,8 +1,8 @@
 -- The products fit, and come back to the price just where it is a multiple of the tick.
 use borrow.Author.Needs.{needs}
-use Rattle.audit_law.proofs.Multiples.{wide-fits, back-fits, tick-is}
-use Rattle.audit.proofs.ticks.on_tick.Statement.{statement}
-use Rattle.audit.proofs.ticks.on_tick.Tie as tie
+use Rattle.terms.proofs.Multiples.{wide-fits, back-fits, tick-is}
+use Rattle.terms.proofs.ticks.on_tick.Statement.{statement}
+use Rattle.terms.proofs.ticks.on_tick.Tie as tie
 
 ruleset answers = (needs, wide-fits, back-fits, tick-is)
 

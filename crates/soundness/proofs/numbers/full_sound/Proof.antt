@@ -1,0 +1,38 @@
+-- A sound price is one in range and on the tick.
+use borrow.Author.Needs.{needs}
+use borrow.Author.Tests.{not-false}
+use mathlib.Core.Path.{sym, _∙_}
+use Rattle.terms.specs.Numbers.{isPrice, onTick}
+use Rattle.terms.proofs.Logic.{conditions}
+use Rattle.soundness_law.proofs.Lists.{both-tests}
+use Rattle.soundness.proofs.numbers.full_sound.Statement.{statement}
+use Rattle.soundness.proofs.numbers.full_sound.Tie as tie
+
+ten-priced-requires : tie.Need-ten-priced-requires
+ten-priced-requires c κs = search needs
+
+returns : tie.Need-returns
+returns c =
+    let a = c .before .before .args in
+    rw (both-tests isPrice (onTick (a .tick)) (a .prices)) (search conditions)
+
+ten-ticked-requires : tie.Need-ten-ticked-requires
+ten-ticked-requires c κs = (sym (c .before .ten-priced .ensures) ∙ not-false _ (c .if1 .left), c .before .before .pre)
+
+returns-2 : tie.Need-returns-2
+returns-2 c =
+    let a = c .before .before .before .before .args in
+    rw (both-tests isPrice (onTick (a .tick)) (a .prices)) (search conditions)
+
+ten-sized-requires : tie.Need-ten-sized-requires
+ten-sized-requires c κs = search needs
+
+returns-3 : tie.Need-returns-3
+returns-3 c =
+    let a = c .before .before .before .before .before .args in
+    rw (both-tests isPrice (onTick (a .tick)) (a .prices)) (search conditions)
+
+pub full-sound-spec : {M : Type 1} → statement M
+full-sound-spec =
+    tie.close
+    (tie.spec ten-priced-requires returns ten-ticked-requires returns-2 ten-sized-requires returns-3)
