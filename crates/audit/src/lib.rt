@@ -8,20 +8,18 @@ pub mod pass;
 use audit_law::Limits;
 use tables::orders;
 use terms::Band;
-use terms::ticks;
 ghost use mathlib.Core.Path.{_≡_};
 ghost use Prim.Native.Nat.{_≤_, _<_};
-ghost use Rattle.terms.specs.Sizes.{numbersMost, tickMost};
+ghost use Rattle.terms.specs.Sizes.{numbersMost};
 ghost use Rattle.tables.specs.Tables.{decode};
 ghost use Rattle.audit_law.specs.Sound.{uncrossed, bookSound};
-ghost use Rattle.terms.specs.Ticks.{scale};
+ghost use Rattle.terms.specs.Ticks.{scale, factorOf, Dividing};
 ghost use Rattle.audit_law.specs.Pass.{Room, limitsOf};
 
-fn held_to(given: u64, tick: u64, band: Band) -> Limits
-    requires { ⌜ 1 ≤ tick ⌝ }
+fn held_to(given: u64, tick: u64, factor: u64, band: Band) -> Limits
+    requires { ⌜ factor ≡ factorOf tick ⌝ }
     ensures { λ r. ⌜ r ≡ limitsOf given tick band ⌝ }
 {
-    let factor = ticks::factor(tick);
     Limits {
         given: given,
         tick: tick,
@@ -55,14 +53,15 @@ pub fn book_sound(
     nsells: usize,
     given: u64,
     tick: u64,
+    factor: u64,
     band: Band,
 ) -> bool
-    requires { ⌜ Room nbuys (now buys) × Room nsells (now sells) × (given ≤ numbersMost) × (1 ≤ tick) × (tick ≤ tickMost) × (band .high < scale) ⌝ }
+    requires { ⌜ Room nbuys (now buys) × Room nsells (now sells) × (given ≤ numbersMost) × Dividing tick factor × (band .high < scale) ⌝ }
     ensures { λ r. ⌜ r ≡ bookSound given tick band (decode nbuys (now (buys .entry))) (decode nsells (now (sells .entry))) ⌝ }
 {
     if !best_apart(buys, nbuys, sells, nsells) {
         return false;
     }
-    let l = held_to(given, tick, band);
+    let l = held_to(given, tick, factor, band);
     pass::sides(buys, nbuys, sells, nsells, l)
 }

@@ -10,7 +10,7 @@ use borrow.Author.Tests.{not-true, not-false}
 use Rattle.terms.specs.declared.Side.the-variants.{Buy, Sell}
 use Rattle.terms.specs.declared.Order.{Order}
 use Rattle.terms.specs.declared.Band.{Band}
-use Rattle.terms.specs.Sizes.{slots, numbersMost, tickMost}
+use Rattle.terms.specs.Sizes.{slots, numbersMost}
 use Rattle.terms.proofs.Logic.{same, no-both, split, join}
 use Rattle.tables.specs.Tables.{orderAt, decode}
 use Rattle.tables.proofs.Slots.{length-decode}
@@ -18,7 +18,7 @@ use Rattle.book_law.specs.Priority.{sorted}
 use Rattle.audit_law.specs.declared.Limits.{Limits}
 use Rattle.audit_law.specs.Sound.{eachSound, distinct, uncrossed, bookSound}
 use Rattle.audit_law.specs.Marks.{apart}
-use Rattle.terms.specs.Ticks.{scale}
+use Rattle.terms.specs.Ticks.{scale, Dividing}
 use Rattle.audit_law.specs.Pass.{Room, limitsOf, LimitsFit, sidesSound}
 use Rattle.audit_law.proofs.Facts.{book-fits, book-made}
 use Rattle.audit_law.proofs.Turns.{refuted}
@@ -74,10 +74,11 @@ module _ (given tick : ℕ) (band : Band) (xs ys : List Order) where
       (λ h. let k = book-fits given tick band xs ys h in
       r-is ∙ join _ _ (join _ _ (k .each-buy) (k .sorted-buys)) (join _ _ (join _ _ (k .each-sell) (k .sorted-sells)) (k .distinct-all)))
 
-pub limits-fit : (given tick : ℕ) (band : Band) → given ≤ numbersMost → 1 ≤ tick → tick ≤ tickMost → band .high < scale → (l : Limits) →
+pub limits-fit : (given tick factor : ℕ) (band : Band) → given ≤ numbersMost → Dividing tick factor → band .high < scale → (l : Limits) →
     l ≡ limitsOf given tick band → LimitsFit l
-limits-fit given tick band g some small h l e =
-    rw e (record { given-small = g; dividing = record { tick-some = some; tick-small = small; factor-is = refl }; high-small = h })
+limits-fit given tick factor band g d h l e =
+    rw e
+    (record { given-small = g; dividing = record { tick-some = d .tick-some; tick-small = d .tick-small; factor-is = refl }; high-small = h })
 
 pub tables-are : (given tick : ℕ) (band : Band) (nbuys nsells : ℕ) (t u : List ℕ) → Room nbuys t → Room nsells u → (v : Bool) →
     v ≡ uncrossed (decode nbuys t) (decode nsells u) → not v ≡ false → (l : Limits) → l ≡ limitsOf given tick band → (r : Bool) →

@@ -6,19 +6,23 @@ pub mod numbers;
 
 use state::force;
 use state_law::Session;
+use terms::judge;
+use terms::ticks;
 ghost use mathlib.Core.Path.{_≡_};
 ghost use Prim.Native.Nat.{_≤_};
 ghost use lib.ListN.{length};
 ghost use Rattle.terms.specs.Sizes.{tableLength};
+ghost use Rattle.terms.specs.Ticks.{factorOf};
 ghost use Rattle.state_law.specs.Now.{Clocked};
 ghost use Rattle.soundness_law.specs.Sound.{clockSound, tapeSound, sessionSound, sound, dayIn};
 
 // The settings are valid, the time, the counts, the slab and the single numbers within their bounds.
-fn clock_sound(s: Session) -> bool
+fn clock_sound(s: Session, factor: u64) -> bool
+    requires { ⌜ factor ≡ factorOf (s .settings .tick) ⌝ }
     ensures { λ r. ⌜ r ≡ clockSound s ⌝ }
 {
     let g = s.settings;
-    if !terms::judge::is_valid(g) {
+    if !judge::is_valid(g, factor) {
         return false;
     }
     if !numbers::time_sound(s) {
@@ -34,8 +38,8 @@ fn clock_sound(s: Session) -> bool
 }
 
 // What is remembered of trades is possible.
-fn tape_sound(s: Session) -> bool
-    requires { ⌜ Clocked s ⌝ }
+fn tape_sound(s: Session, factor: u64) -> bool
+    requires { ⌜ Clocked s × (factor ≡ factorOf (s .settings .tick)) ⌝ }
     ensures { λ r. ⌜ r ≡ tapeSound s ⌝ }
 {
     let tick = s.settings.tick;
@@ -50,29 +54,32 @@ fn tape_sound(s: Session) -> bool
     if !numbers::minute_sound(trades, minute) {
         return false;
     }
-    numbers::remembered_sound(tick, tape)
+    numbers::remembered_sound(tick, factor, tape)
 }
 
 // The numbers of a session, but for its live orders.
-pub fn session_sound(s: Session) -> bool
+fn session_sound(s: Session, factor: u64) -> bool
+    requires { ⌜ factor ≡ factorOf (s .settings .tick) ⌝ }
     ensures { λ r. ⌜ r ≡ sessionSound s ⌝ }
 {
-    if !clock_sound(s) {
+    if !clock_sound(s, factor) {
         return false;
     }
-    tape_sound(s)
+    tape_sound(s, factor)
 }
 
-// The session and its orders.
+// The session and its orders, with one division for every test of a tick.
 pub fn is_sound(s: Session, buys: &[u64], sells: &[u64]) -> bool
     requires { ⌜ (tableLength ≤ length (now buys)) × (tableLength ≤ length (now sells)) ⌝ }
     ensures { λ r. ⌜ r ≡ sound (dayIn s (now (buys .entry)) (now (sells .entry))) ⌝ }
 {
-    if !session_sound(s) {
+    let tick = s.settings.tick;
+    let factor = ticks::factor(tick);
+    if !session_sound(s, factor) {
         return false;
     }
     let nbuys = s.buys as usize;
     let nsells = s.sells as usize;
     let band = force::band_now(s);
-    audit::book_sound(buys, nbuys, sells, nsells, s.given, s.settings.tick, band)
+    audit::book_sound(buys, nbuys, sells, nsells, s.given, tick, factor, band)
 }

@@ -156,14 +156,13 @@ fn full_sound(prices: [u64; 10], lots: [u64; 10], tick: u64, factor: u64) -> boo
     ten_sized(lots)
 }
 
-pub fn remembered_sound(tick: u64, t: Tape) -> bool
-    requires { ⌜ (1 ≤ tick) × (tick ≤ tickMost) ⌝ }
+pub fn remembered_sound(tick: u64, factor: u64, t: Tape) -> bool
+    requires { ⌜ Dividing tick factor ⌝ }
     ensures { λ r. ⌜ r ≡ rememberedSound tick t ⌝ }
 {
     let prices = t.prices;
     let lots = t.sizes;
     let n = remembered(t.trades);
-    let factor = terms::ticks::factor(tick);
     if n == 10 {
         return full_sound(prices, lots, tick, factor);
     }

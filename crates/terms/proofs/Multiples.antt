@@ -1,5 +1,5 @@
 -- A price is a multiple of the tick just where the product with the factor, over the scale, comes back to it. Assumes nothing.
-use Prim.Native.Nat.{ℕ, _+_, _*_, _/_, _%_, _≤_, _<_}
+use Prim.Native.Nat.{ℕ, _+_, _-_, _*_, _/_, _%_, _≤_, _<_}
 use native.Mathlib.Omega.{arith}
 use native.Mathlib.Nat.{mul-le-mul, mul-le-mul-left, mul-mod-left, div-le-self, div-add-mod', mod-lt, add-mul, one-mul, mul-assoc, mul-comm, mul-add}
 use mir.Syntax.{w64}
@@ -12,8 +12,11 @@ use Rattle.terms.specs.Sizes.{tickMost}
 use Rattle.terms.specs.Numbers.{onTick}
 use Rattle.terms.specs.Ticks.{scale, factorOf, Dividing}
 
-pub factor-fits : (tick : ℕ) → Fits w64 (scale / tick + 1)
-factor-fits tick = omega (arith, div-le-self scale tick)
+abbrev below : ℕ
+below = scale - 1
+
+pub factor-fits : (tick : ℕ) → Fits w64 (below / tick + 1)
+factor-fits tick = omega (arith, div-le-self below tick)
 
 module _ (price tick factor : ℕ) (p : price < scale) (d : Dividing tick factor) where
   some : 1 ≤ tick
@@ -28,7 +31,7 @@ module _ (price tick factor : ℕ) (p : price < scale) (d : Dividing tick factor
   wide : price * factor ≤ 4294967295 * 4294967297
   wide =
       let l : price ≤ 4294967295 = omega arith in
-      let f : factor ≤ 4294967297 = omega (arith, div-le-self scale tick) in
+      let f : factor ≤ 4294967297 = omega (arith, div-le-self below tick) in
       mul-le-mul l f
 
   pub wide-fits : Fits w64 (price * factor)
@@ -40,9 +43,9 @@ module _ (price tick factor : ℕ) (p : price < scale) (d : Dividing tick factor
   -- k times the tick, times the factor, is k times the scale and less than a scale more
   exact : (k : ℕ) → price ≡ k * tick → price * factor / scale ≡ k
   exact k f =
-      let a : scale / tick * tick + scale % tick ≡ scale = div-add-mod' scale tick in
-      let r : scale % tick < tick = mod-lt scale some in
-      let b : factor * tick ≡ scale / tick * tick + tick = rw e (add-mul (scale / tick) 1 tick ∙ ap (λ (z : ℕ). scale / tick * tick + z) (one-mul tick)) in
+      let a : below / tick * tick + below % tick ≡ below = div-add-mod' below tick in
+      let r : below % tick < tick = mod-lt below some in
+      let b : factor * tick ≡ below / tick * tick + tick = rw e (add-mul (below / tick) 1 tick ∙ ap (λ (z : ℕ). below / tick * tick + z) (one-mul tick)) in
       let c : price * factor ≡ k * (factor * tick) = rw f (omega (arith, mul-assoc k tick factor, mul-comm tick factor)) in
       let least : k * scale ≤ k * (factor * tick) = mul-le-mul-left k (omega arith) in
       let most : k * (factor * tick) ≤ k * (scale + tick) = mul-le-mul-left k (omega arith) in

@@ -1,5 +1,5 @@
 -- How a multiple of the tick is told without a division: by a factor that stands for the tick.
-use Prim.Native.Nat.{ℕ, _+_, _/_, _≤_}
+use Prim.Native.Nat.{ℕ, _+_, _-_, _/_, _≤_}
 use mathlib.Core.Path.{_≡_}
 use Rattle.terms.specs.Sizes.{tickMost}
 
@@ -9,7 +9,7 @@ scale = 4294967296
 
 -- a price times this, over `scale`, is the price over the tick, where it is a multiple
 abbrev pub factorOf : ℕ → ℕ
-factorOf tick = scale / tick + 1
+factorOf tick = (scale - 1) / tick + 1
 
 -- a tick with the factor that divides by it
 pub record Dividing (tick factor : ℕ) : Type 0 where

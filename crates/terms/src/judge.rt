@@ -6,6 +6,7 @@ use crate::numbers;
 use crate::sizes;
 use crate::ticks;
 ghost use mathlib.Core.Path.{_≡_};
+ghost use Rattle.terms.specs.Ticks.{factorOf};
 ghost use Rattle.terms.specs.Settings.{settingsRanged, settingsTicked, settingsValid, settingsVerdict, Ranged};
 
 fn ranged(g: Settings) -> bool
@@ -21,13 +22,11 @@ fn ranged(g: Settings) -> bool
     base & close & settle & tick & length & days & under
 }
 
-// With one division for the three prices.
-fn ticked(g: Settings) -> bool
-    requires { ⌜ Ranged g ⌝ }
+fn ticked(g: Settings, factor: u64) -> bool
+    requires { ⌜ Ranged g × (factor ≡ factorOf (g .tick)) ⌝ }
     ensures { λ r. ⌜ r ≡ settingsTicked g ⌝ }
 {
     let tick = g.tick;
-    let factor = ticks::factor(tick);
     let base = ticks::on_tick(g.base, tick, factor);
     let close = ticks::on_tick(g.close, tick, factor);
     let settle = ticks::on_tick(g.settle, tick, factor);
@@ -41,18 +40,19 @@ pub fn check(g: Settings) -> Verdict
     if !ranged(g) {
         return Verdict::Refused(Refusal::SettingsRange);
     }
-    if !ticked(g) {
+    if !ticked(g, ticks::factor(g.tick)) {
         return Verdict::Refused(Refusal::SettingsOffTick);
     }
     Verdict::Fine
 }
 
-// Whether settings are valid: neither refusal applies.
-pub fn is_valid(g: Settings) -> bool
+// Whether settings are valid: neither refusal applies. The factor is the tick's.
+pub fn is_valid(g: Settings, factor: u64) -> bool
+    requires { ⌜ factor ≡ factorOf (g .tick) ⌝ }
     ensures { λ r. ⌜ r ≡ settingsValid g ⌝ }
 {
     if !ranged(g) {
         return false;
     }
-    ticked(g)
+    ticked(g, factor)
 }

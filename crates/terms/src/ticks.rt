@@ -1,17 +1,22 @@
 // Whether a price is a multiple of the tick, by a product and a shift where a division would take longest.
 ghost use mathlib.Core.Path.{_≡_};
-ghost use Prim.Native.Nat.{_≤_, _<_};
+ghost use Prim.Native.Nat.{_<_};
 ghost use Rattle.terms.specs.Numbers.{onTick};
 ghost use Rattle.terms.specs.Ticks.{scale, factorOf, Dividing};
 
 const SCALE: u64 = 4_294_967_296;
 
-// A price times this, over SCALE, is the price over the tick, where it is a multiple.
+// The greatest number of 32 bits, so that the division is a short one.
+const BELOW: u64 = 4_294_967_295;
+
+// A price times this, over SCALE, is the price over the tick, where it is a multiple. It is reckoned once a call.
 pub fn factor(tick: u64) -> u64
-    requires { ⌜ 1 ≤ tick ⌝ }
     ensures { λ r. ⌜ r ≡ factorOf tick ⌝ }
 {
-    SCALE / tick + 1
+    if tick == 0 {
+        return 1;
+    }
+    BELOW / tick + 1
 }
 
 pub fn on_tick(price: u64, tick: u64, factor: u64) -> bool

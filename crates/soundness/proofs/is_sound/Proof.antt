@@ -3,27 +3,39 @@ use borrow.Author.Needs.{needs}
 use mathlib.Core.Path.{sym, _∙_}
 use native.Mathlib.Omega.{arith}
 use borrow.Author.Tests.{not-false}
+use Rattle.terms.specs.Ticks.{Dividing}
 use Rattle.soundness_law.proofs.Clocked.{session-clocked}
 use Rattle.soundness_law.proofs.Border.{numbers-unsound, book-decides}
 use Rattle.soundness.proofs.is_sound.Statement.{statement}
 use Rattle.soundness.proofs.is_sound.Tie as tie
 
+factor-requires : tie.Need-factor-requires
+factor-requires c κs = search needs
+
 session-sound-requires : tie.Need-session-sound-requires
-session-sound-requires c κs = search needs
+session-sound-requires c κs = c .factor .ensures
 
 returns : tie.Need-returns
 returns c = numbers-unsound _ _ _ _ (c .before .session-sound .ensures) (c .if1 .taken)
 
 band-now-requires : tie.Need-band-now-requires
-band-now-requires c κs = session-clocked (c .before .before .before .before .args .s) (sym (c .before .session-sound .ensures) ∙ not-false _ (c .if1 .left))
+band-now-requires c κs =
+    session-clocked (c .before .before .before .before .before .args .s) (sym (c .before .session-sound .ensures) ∙ not-false _ (c .if1 .left))
 
 book-sound-requires : tie.Need-book-sound-requires
-book-sound-requires c κs = let k = session-clocked (c .before .before .before .before .before .args .s) (sym (c .before .before .session-sound .ensures) ∙ not-false _ (c .before .if1 .left)) in omega (arith, k, k .valid, c .band-now .ensures .1, c .before .before .before .before .before .pre)
+book-sound-requires c κs =
+    let a = c .before .before .before .before .before .before in
+    let k = session-clocked (a .args .s) (sym (c .before .before .session-sound .ensures) ∙ not-false _ (c .before .if1 .left)) in
+    let v = k .valid in
+    let d : Dividing (a .args .s .settings .tick) (c .before .before .before .factor .result) =
+    record { tick-some = v .tick-some; tick-small = v .tick-small; factor-is = c .before .before .before .factor .ensures } in
+    (search (needs, k), search (needs, k), search (needs, k), d, omega (arith, c .band-now .ensures .1))
 
 returns-2 : tie.Need-returns-2
-returns-2 c = book-decides _ _ _ _ (c .before .before .before .session-sound .ensures) _ _ (c .before .before .if1 .left) (c .before .band-now .ensures .0) (c .book-sound .ensures)
+returns-2 c =
+    book-decides _ _ _ _ (c .before .before .before .session-sound .ensures) _ _ (c .before .before .if1 .left) (c .before .band-now .ensures .0) (c .book-sound .ensures)
 
 pub is-sound-spec : {M : Type 1} → statement M
 is-sound-spec =
     tie.close
-    (tie.spec session-sound-requires returns band-now-requires book-sound-requires returns-2)
+    (tie.spec factor-requires session-sound-requires returns band-now-requires book-sound-requires returns-2)

@@ -16,7 +16,8 @@ unfolding sessionSound
 returns c = search conditions
 
 tape-sound-requires : tie.Need-tape-sound-requires
-tape-sound-requires c κs = clocked (c .before .before .args .s) (sym (c .before .clock-sound .ensures) ∙ not-false _ (c .if1 .left))
+tape-sound-requires c κs =
+    (clocked (c .before .before .args .s) (sym (c .before .clock-sound .ensures) ∙ not-false _ (c .if1 .left)), c .before .before .pre)
 
 returns-2 : tie.Need-returns-2
 unfolding sessionSound

@@ -9,16 +9,13 @@ use Rattle.soundness.proofs.numbers.remembered_sound.Tie as tie
 remembered-requires : tie.Need-remembered-requires
 remembered-requires c κs = search needs
 
-factor-requires : tie.Need-factor-requires
-factor-requires c κs = search needs
-
 full-sound-requires : tie.Need-full-sound-requires
 full-sound-requires c κs = search needs
 
 returns : tie.Need-returns
 returns c =
-    let a = c .before .before .before .before .before .before .args in
-    let n = c .before .before .before .remembered in
+    let a = c .before .before .before .before .before .args in
+    let n = c .before .before .remembered in
     full-tape (a .tick) (a .t) (n .result) (c .full-sound .result) (search needs) (search needs) (n .ensures .0) (c .before .if1 .taken) (c .full-sound .ensures)
 
 prices-sound-requires : tie.Need-prices-sound-requires
@@ -26,21 +23,20 @@ prices-sound-requires c κs = search needs
 
 returns-2 : tie.Need-returns-2
 unfolding rememberedSound
-returns-2 c = rw (← c .before .before .before .before .remembered .ensures .0) (search conditions)
+returns-2 c = rw (← c .before .before .before .remembered .ensures .0) (search conditions)
 
 sizes-sound-requires : tie.Need-sizes-sound-requires
 sizes-sound-requires c κs = search needs
 
 returns-3 : tie.Need-returns-3
 unfolding rememberedSound
-returns-3 c = rw (← c .before .before .before .before .before .remembered .ensures .0) (search conditions)
+returns-3 c = rw (← c .before .before .before .before .remembered .ensures .0) (search conditions)
 
 pub remembered-sound-spec : {M : Type 1} → statement M
 remembered-sound-spec =
     tie.close
     (tie.spec
     remembered-requires
-    factor-requires
     full-sound-requires
     returns
     prices-sound-requires

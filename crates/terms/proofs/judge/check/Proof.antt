@@ -15,8 +15,12 @@ returns : tie.Need-returns
 unfolding settingsVerdict
 returns c = search cascade depth 14
 
+factor-requires : tie.Need-factor-requires
+factor-requires c κs = search needs
+
 ticked-requires : tie.Need-ticked-requires
-ticked-requires c κs = ranged (c .before .before .args .g) (sym (c .before .ranged .ensures) ∙ not-false _ (c .if1 .left))
+ticked-requires c κs =
+    (ranged (c .before .before .before .args .g) (sym (c .before .before .ranged .ensures) ∙ not-false _ (c .before .if1 .left)), c .factor .ensures)
 
 returns-2 : tie.Need-returns-2
 unfolding settingsVerdict
@@ -27,4 +31,4 @@ unfolding settingsVerdict
 returns-3 c = search cascade depth 14
 
 pub check-spec : {M : Type 1} → statement M
-check-spec = tie.close (tie.spec ranged-requires returns ticked-requires returns-2 returns-3)
+check-spec = tie.close (tie.spec ranged-requires returns factor-requires ticked-requires returns-2 returns-3)

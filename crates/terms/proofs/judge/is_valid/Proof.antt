@@ -16,7 +16,7 @@ unfolding settingsValid
 returns c = search conditions
 
 ticked-requires : tie.Need-ticked-requires
-ticked-requires c κs = ranged (c .before .before .args .g) (sym (c .before .ranged .ensures) ∙ not-false _ (c .if1 .left))
+ticked-requires c κs = (ranged (c .before .before .args .g) (sym (c .before .ranged .ensures) ∙ not-false _ (c .if1 .left)), c .before .before .pre)
 
 returns-2 : tie.Need-returns-2
 unfolding settingsValid

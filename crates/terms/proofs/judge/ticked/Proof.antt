@@ -5,9 +5,6 @@ use Rattle.terms.specs.Settings.{settingsTicked}
 use Rattle.terms.proofs.judge.ticked.Statement.{statement}
 use Rattle.terms.proofs.judge.ticked.Tie as tie
 
-factor-requires : tie.Need-factor-requires
-factor-requires c κs = search needs
-
 on-tick-requires : tie.Need-on-tick-requires
 on-tick-requires c κs = search needs
 
@@ -22,4 +19,4 @@ unfolding settingsTicked _⊓_
 returns c = simp (c .on-tick3 .ensures, c .before .on-tick2 .ensures, c .before .before .on-tick .ensures)
 
 pub ticked-spec : {M : Type 1} → statement M
-ticked-spec = tie.close (tie.spec factor-requires on-tick-requires on-tick-requires-2 on-tick-requires-3 returns)
+ticked-spec = tie.close (tie.spec on-tick-requires on-tick-requires-2 on-tick-requires-3 returns)

@@ -1,19 +1,20 @@
--- The quotient is at most the scale.
+-- The quotient is at most the greatest number of 32 bits.
 use borrow.Author.Needs.{needs}
 use Rattle.terms.proofs.Multiples.{factor-fits}
 use Rattle.terms.proofs.ticks.factor.Statement.{statement}
 use Rattle.terms.proofs.ticks.factor.Tie as tie
 
-ruleset answers = (needs, factor-fits)
+returns : tie.Need-returns
+returns c = cc
 
 div-result : tie.Need-div-result
-div-result c = search answers
+div-result c = search needs
 
 add-result : tie.Need-add-result
-add-result c = search answers
+add-result c = factor-fits (c .before .args .tick)
 
-returns : tie.Need-returns
-returns c = search answers
+returns-2 : tie.Need-returns-2
+returns-2 c = search needs
 
 pub factor-spec : {M : Type 1} → statement M
-factor-spec = tie.close (tie.spec div-result add-result returns)
+factor-spec = tie.close (tie.spec returns div-result add-result returns-2)
