@@ -9,7 +9,7 @@ ghost use mathlib.Core.Bool.{true};
 ghost use Prim.Native.Nat.{_*_, _≤_};
 ghost use lib.ListN.{take};
 ghost use Rattle.terms.specs.Sizes.{priceMost, lotsMost, tradesMost, timeMost, tickMost};
-ghost use Rattle.terms.specs.Truth.{_⊓_};
+ghost use Rattle.terms.specs.Truth.{_⊓_, between};
 ghost use Rattle.terms.specs.Numbers.{isPrice, isLots, onTick};
 ghost use Rattle.terms.specs.Ticks.{Dividing};
 ghost use Rattle.rules_law.specs.Close.{kept};
@@ -102,33 +102,21 @@ fn remembered(trades: u64) -> usize
     trades as usize
 }
 
-// Ten prices are in range. No way leads out of the loop, so that all ten are compared side by side; the same below.
-fn ten_priced(prices: [u64; 10]) -> bool
-    ensures { λ r. ⌜ r ≡ every isPrice prices ⌝ }
+// Ten numbers are from 1 to the most. No way leads out of the loop, so that all ten are compared side by side.
+fn ten_within(xs: [u64; 10], most: u64) -> bool
+    ensures { λ r. ⌜ r ≡ every (λ x. between 1 x most) xs ⌝ }
 {
     let mut all = true;
     let mut i: usize = 0;
     while i < 10 {
-        all = all & terms::numbers::is_price(prices[i]);
+        let x = xs[i];
+        all = all & ((1 <= x) & (x <= most));
         i += 1;
     }
     all
 }
 
-// Ten sizes are in range.
-fn ten_sized(lots: [u64; 10]) -> bool
-    ensures { λ r. ⌜ r ≡ every isLots lots ⌝ }
-{
-    let mut all = true;
-    let mut i: usize = 0;
-    while i < 10 {
-        all = all & terms::numbers::is_lots(lots[i]);
-        i += 1;
-    }
-    all
-}
-
-// Ten prices are multiples of the tick.
+// Ten prices are multiples of the tick; again with no way out.
 fn ten_ticked(prices: [u64; 10], tick: u64, factor: u64) -> bool
     requires { ⌜ (every isPrice prices ≡ true) × Dividing tick factor ⌝ }
     ensures { λ r. ⌜ r ≡ every (onTick tick) prices ⌝ }
@@ -147,13 +135,13 @@ fn full_sound(prices: [u64; 10], lots: [u64; 10], tick: u64, factor: u64) -> boo
     requires { ⌜ Dividing tick factor ⌝ }
     ensures { λ r. ⌜ r ≡ (every (priceSound tick) prices ⊓ every isLots lots) ⌝ }
 {
-    if !ten_priced(prices) {
+    if !ten_within(prices, sizes::PRICE) {
         return false;
     }
     if !ten_ticked(prices, tick, factor) {
         return false;
     }
-    ten_sized(lots)
+    ten_within(lots, sizes::LOTS)
 }
 
 pub fn remembered_sound(tick: u64, factor: u64, t: Tape) -> bool

@@ -1,5 +1,4 @@
 -- What settings that 12 and 13 let pass are. Assumes nothing.
-use native.Mathlib.Omega.{arith}
 use mathlib.Core.Path.{_≡_}
 use mathlib.Core.Bool.{true}
 use borrow.Author.Tests.{leb-true}
@@ -13,24 +12,6 @@ use Rattle.terms.proofs.Cascade.{fine-first}
 pub ranged : (g : Settings) → settingsRanged g ≡ true → Ranged g
 unfolding settingsRanged
 ranged g h =
-    let ticks = both (both (both (both h .0) .0) .0) in
-    let settle = both (ticks .0) in
-    let close = both (settle .0) in
-    let base = between-facts 1 (g .base) baseMost (close .0) in
-    let closes = between-facts 1 (g .close) priceMost (close .1) in
-    let settles = between-facts 1 (g .settle) priceMost (settle .1) in
-    let tick = between-facts 1 (g .tick) tickMost (ticks .1) in
-    record {
-      base-low = omega (arith, base .1);
-      close-low = omega (arith, closes .1);
-      settle-low = omega (arith, settles .1);
-      tick-some = tick .0;
-      tick-small = tick .1;
-    }
-
-pub facts : (g : Settings) → settingsRanged g ≡ true → settingsTicked g ≡ true → Valid g
-unfolding settingsRanged settingsTicked
-facts g h k =
     let under = both h in
     let days = both (under .0) in
     let long = both (days .0) in
@@ -42,8 +23,6 @@ facts g h k =
     let settles = between-facts 1 (g .settle) priceMost (settle .1) in
     let tick = between-facts 1 (g .tick) tickMost (ticks .1) in
     let length = between-facts lengthLeast (g .length) timeMost (long .1) in
-    let last = both k in
-    let first = both (last .0) in
     record {
       base-some = base .0;
       base-small = base .1;
@@ -57,6 +36,27 @@ facts g h k =
       length-small = length .1;
       days-small = leb-true _ _ (days .1);
       under-small = leb-true _ _ (under .1);
+    }
+
+pub facts : (g : Settings) → settingsRanged g ≡ true → settingsTicked g ≡ true → Valid g
+unfolding settingsTicked
+facts g h k =
+    let r = ranged g h in
+    let last = both k in
+    let first = both (last .0) in
+    record {
+      base-some = r .base-some;
+      base-small = r .base-small;
+      close-some = r .close-some;
+      close-small = r .close-small;
+      settle-some = r .settle-some;
+      settle-small = r .settle-small;
+      tick-some = r .tick-some;
+      tick-small = r .tick-small;
+      length-long = r .length-long;
+      length-small = r .length-small;
+      days-small = r .days-small;
+      under-small = r .under-small;
       base-ticked = first .0;
       close-ticked = first .1;
       settle-ticked = last .1;

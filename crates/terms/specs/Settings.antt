@@ -1,5 +1,5 @@
 -- Document 01, "Numbers", its second paragraph: the settings, and refusals 12 and 13.
-use Prim.Native.Nat.{_≤_, _<_}
+use Prim.Native.Nat.{_≤_}
 use mathlib.Core.Path.{_≡_}
 use mathlib.Core.Bool.{Bool, true}
 use mathlib.Core.List.{[], _∷_}
@@ -10,7 +10,6 @@ use Rattle.terms.specs.declared.Verdict.{Verdict}
 use Rattle.terms.specs.Truth.{_⊓_, between}
 use Rattle.terms.specs.Sizes.{baseMost, tickMost, lengthLeast, timeMost, daysMost, priceMost}
 use Rattle.terms.specs.Numbers.{isPrice, onTick}
-use Rattle.terms.specs.Ticks.{scale}
 use Rattle.terms.specs.Refusals.{unless, firstFailed}
 
 -- "category; base 1 to 50,000,000; previous close and previous settlement, prices; tick 1 to 10,000; length 3,600,000 to 86,400,000;
@@ -37,13 +36,20 @@ settingsValid g = settingsRanged g ⊓ settingsTicked g
 unfoldable pub settingsVerdict : Settings → Verdict
 settingsVerdict g = firstFailed (unless SettingsRange (settingsRanged g) ∷ unless SettingsOffTick (settingsTicked g) ∷ [])
 
--- what settings in range are, as far as the test of their ticks needs it
+-- what settings that 12 lets pass are, as facts
 pub record Ranged (g : Settings) : Type 0 where
-  pub base-low : g .base < scale
-  pub close-low : g .close < scale
-  pub settle-low : g .settle < scale
+  pub base-some : 1 ≤ g .base
+  pub base-small : g .base ≤ baseMost
+  pub close-some : 1 ≤ g .close
+  pub close-small : g .close ≤ priceMost
+  pub settle-some : 1 ≤ g .settle
+  pub settle-small : g .settle ≤ priceMost
   pub tick-some : 1 ≤ g .tick
   pub tick-small : g .tick ≤ tickMost
+  pub length-long : lengthLeast ≤ g .length
+  pub length-small : g .length ≤ timeMost
+  pub days-small : g .days ≤ daysMost
+  pub under-small : g .under ≤ priceMost
 
 -- what settings that 12 and 13 let pass are, as facts for those who compute with them
 pub record Valid (g : Settings) : Type 0 where

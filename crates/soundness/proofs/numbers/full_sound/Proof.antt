@@ -8,8 +8,8 @@ use Rattle.soundness_law.proofs.Lists.{both-tests}
 use Rattle.soundness.proofs.numbers.full_sound.Statement.{statement}
 use Rattle.soundness.proofs.numbers.full_sound.Tie as tie
 
-ten-priced-requires : tie.Need-ten-priced-requires
-ten-priced-requires c κs = search needs
+ten-within-requires : tie.Need-ten-within-requires
+ten-within-requires c κs = search needs
 
 returns : tie.Need-returns
 returns c =
@@ -17,15 +17,15 @@ returns c =
     rw (both-tests isPrice (onTick (a .tick)) (a .prices)) (search conditions)
 
 ten-ticked-requires : tie.Need-ten-ticked-requires
-ten-ticked-requires c κs = (sym (c .before .ten-priced .ensures) ∙ not-false _ (c .if1 .left), c .before .before .pre)
+ten-ticked-requires c κs = (sym (c .before .ten-within .ensures) ∙ not-false _ (c .if1 .left), c .before .before .pre)
 
 returns-2 : tie.Need-returns-2
 returns-2 c =
     let a = c .before .before .before .before .args in
     rw (both-tests isPrice (onTick (a .tick)) (a .prices)) (search conditions)
 
-ten-sized-requires : tie.Need-ten-sized-requires
-ten-sized-requires c κs = search needs
+ten-within-requires-2 : tie.Need-ten-within-requires-2
+ten-within-requires-2 c κs = search needs
 
 returns-3 : tie.Need-returns-3
 returns-3 c =
@@ -35,4 +35,4 @@ returns-3 c =
 pub full-sound-spec : {M : Type 1} → statement M
 full-sound-spec =
     tie.close
-    (tie.spec ten-priced-requires returns ten-ticked-requires returns-2 ten-sized-requires returns-3)
+    (tie.spec ten-within-requires returns ten-ticked-requires returns-2 ten-within-requires-2 returns-3)
