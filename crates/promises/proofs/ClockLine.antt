@@ -37,8 +37,9 @@ use Rattle.refusal_law.specs.Refusals.{numbersRight, inHours, ticksRight, bandR
 use Rattle.refusal_law.proofs.Accepted.{Accepted, accepted, closed-refused}
 use Rattle.acts_law.specs.Acts.{Acted, only, clockReports, sweepIn, entered, withdrawn, silent, finished, afterClock, acted, act}
 use Rattle.acts_law.proofs.Stays.{act-stays}
-use Rattle.engine_law.specs.Outcome.{Outcome, decided, outcome, after}
+use Rattle.engine_law.specs.Outcome.{Outcome, decided, outcome, after, told}
 use Rattle.engine_law.proofs.Kept.{outcome-verdict, accepted-sound}
+use Rattle.promises.proofs.Runs.{told-append}
 use Rattle.promises.specs.ClockLine.{clockAt, plainOne, plain, Reply, replies, From, ClockLine}
 
 -- ---- the day after an accepted clock event
@@ -263,3 +264,41 @@ clock-changes-nothing d t es h f =
 
 pub clock-line : ClockLine
 clock-line g before later t h f = clock-changes-nothing (after (opened g) before) t later h f
+
+-- ---- and of all that is told
+
+-- what a run of replies says
+said : List Reply → List Report
+said [] = []
+said (r ∷ rs) = r .reports ++ said rs
+
+told-plain : (d : Day) (es : List Event) → plain (told d es) ≡ said (replies d es)
+unfolding told replies plain said
+told-plain d [] = refl
+told-plain d (e ∷ es) =
+    plain-append (outcome d e .reports) (told (outcome d e .day) es)
+    ∙ ap (λ (l : List Report). plain (outcome d e .reports) ++ l) (told-plain (outcome d e .day) es)
+
+-- an accepted clock event says slab and ref at most
+clock-says : (d : Day) (t : ℕ) → outcome d (clockAt t) .verdict ≡ Fine → plain (outcome d (clockAt t) .reports) ≡ []
+unfolding outcome act plain
+clock-says d t h =
+    let z : refusalOf d (clockAt t) ≡ Fine = sym (outcome-verdict d (clockAt t)) ∙ h in
+    let s : Session = clockStep (d .session) t in
+    ap (λ (o : Outcome). plain (o .reports)) (decided-fine (refusalOf d (clockAt t)) d (act d (clockAt t)) z) ∙ after-plain (d .session) s (silent s d)
+
+pub clock-unheard : (d : Day) (before later : List Event) (t : ℕ) → outcome (after d before) (clockAt t) .verdict ≡ Fine → From t later →
+    plain (told d (before ++ (clockAt t ∷ later))) ≡ plain (told d (before ++ later))
+unfolding told
+clock-unheard d before later t h f =
+    let n : Day = after d before in
+    let c : Outcome = outcome n (clockAt t) in
+    let clock : plain (c .reports ++ told (c .day) later) ≡ plain (told (c .day) later) =
+        plain-append (c .reports) (told (c .day) later) ∙ ap (λ (l : List Report). l ++ plain (told (c .day) later)) (clock-says n t h) in
+    let same : plain (told (c .day) later) ≡ plain (told n later) =
+        told-plain (c .day) later ∙ ap said (clock-changes-nothing n t later h f) ∙ sym (told-plain n later) in
+    ap plain (told-append d before (clockAt t ∷ later))
+    ∙ plain-append (told d before) (c .reports ++ told (c .day) later)
+    ∙ ap (λ (l : List Report). plain (told d before) ++ l) (clock ∙ same)
+    ∙ sym (plain-append (told d before) (told n later))
+    ∙ sym (ap plain (told-append d before later))

@@ -37,11 +37,13 @@ use Rattle.engine_law.specs.Outcome.{Outcome, decided, outcome, after, told}
 use Rattle.engine_law.specs.Calls.{roomy, callVerdict, called, answerBy, tableBy}
 use Rattle.engine_law.proofs.Kept.{outcome-verdict, accepted-sound, refused-nothing}
 use Rattle.engine_law.proofs.Applies.{called-outcome, called-short}
-use Rattle.promises.specs.Runs.{Held, dayHeld, openedOn, Call, HandsOut, Called, counting, Run, RunsAsDefined, CallsKeepLots, CallsKeepOrders, CallsTradeWithin, CallsStaySound, CallsNeverTwo, CallsGiveInOrder, CallsGoForward, CallsWritable, CallsWiden, SameRuns}
+use Rattle.promises.specs.Runs.{Held, dayHeld, openedOn, Call, HandsOut, Called, counting, Run, RunsAsDefined, CallsKeepLots, CallsKeepOrders, CallsTradeWithin, CallsStaySound, CallsNeverTwo, CallsGiveInOrder, CallsGoForward, CallsWritable, CallsWiden, SameRuns, CallsClockLine}
+use Rattle.promises.specs.ClockLine.{clockAt, plain}
 use Rattle.promises.specs.Runs.Run.{ends, calls}
 use Rattle.promises.proofs.Records.{records-tell}
 use Rattle.promises.proofs.Kept.{lots-kept, order-kept, given-in-order, always-sound, trades-within, never-narrows, widens-after-touch, widens-to-enhanced, reports-forward}
 use Rattle.promises.proofs.Writable.{runs-writable}
+use Rattle.promises.proofs.ClockLine.{clock-unheard}
 
 -- ---- the reports that a call hands out
 
@@ -238,3 +240,9 @@ same-runs g buys sells buys′ sells′ es rs rs′ h h′ run run′ =
     let p = runs-as-defined g buys sells es rs h run in
     let q = runs-as-defined g buys′ sells′ es rs′ h′ run′ in
     (p .0 ∙ sym (q .0), p .1 ∙ sym (q .1))
+
+pub calls-clock-line : CallsClockLine
+calls-clock-line g buys sells buys′ sells′ before later t rs rs′ h h′ run run′ v f =
+    ap plain (runs-as-defined g buys′ sells′ (before ++ (clockAt t ∷ later)) rs′ h′ run′ .0)
+    ∙ clock-unheard (opened g) before later t v f
+    ∙ sym (ap plain (runs-as-defined g buys sells (before ++ later) rs h run .0))

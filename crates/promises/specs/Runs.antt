@@ -38,6 +38,7 @@ use Rattle.engine_law.specs.declared.Answer.{Answer}
 use Rattle.engine_law.specs.declared.Applied.{Applied}
 use Rattle.engine_law.specs.Calls.{roomy, AppliedAs, viewCall}
 use Rattle.promises.specs.Lots.{asked}
+use Rattle.promises.specs.ClockLine.{clockAt, plain, From}
 use Rattle.promises.specs.Writable.{AllWritable}
 
 -- ---- what a caller holds between calls, and the day that it is
@@ -163,3 +164,11 @@ abbrev pub SameRuns : Type 0
 SameRuns =
     (g : Settings) (buys sells buys′ sells′ : List ℕ) (es : List Event) (rs rs′ : List Report) (h h′ : Held) →
     Run (openedOn g buys sells) es rs h → Run (openedOn g buys′ sells′) es rs′ h′ → (rs ≡ rs′) × (dayHeld h ≡ dayHeld h′)
+
+-- A CLOCK LINE MAKES NO TRADE: two runs, without and with a clock event that is accepted and not later than what follows, hand out the
+-- same reports but for slab and ref
+abbrev pub CallsClockLine : Type 0
+CallsClockLine =
+    (g : Settings) (buys sells buys′ sells′ : List ℕ) (before later : List Event) (t : ℕ) (rs rs′ : List Report) (h h′ : Held) →
+    Run (openedOn g buys sells) (before ++ later) rs h → Run (openedOn g buys′ sells′) (before ++ (clockAt t ∷ later)) rs′ h′ →
+    outcome (after (opened g) before) (clockAt t) .verdict ≡ Fine → From t later → plain rs′ ≡ plain rs
