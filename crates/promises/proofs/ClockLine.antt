@@ -294,9 +294,9 @@ clock-unheard d before later t h f =
     let n : Day = after d before in
     let c : Outcome = outcome n (clockAt t) in
     let clock : plain (c .reports ++ told (c .day) later) ≡ plain (told (c .day) later) =
-        plain-append (c .reports) (told (c .day) later) ∙ ap (λ (l : List Report). l ++ plain (told (c .day) later)) (clock-says n t h) in
+    plain-append (c .reports) (told (c .day) later) ∙ ap (λ (l : List Report). l ++ plain (told (c .day) later)) (clock-says n t h) in
     let same : plain (told (c .day) later) ≡ plain (told n later) =
-        told-plain (c .day) later ∙ ap said (clock-changes-nothing n t later h f) ∙ sym (told-plain n later) in
+    told-plain (c .day) later ∙ ap said (clock-changes-nothing n t later h f) ∙ sym (told-plain n later) in
     ap plain (told-append d before (clockAt t ∷ later))
     ∙ plain-append (told d before) (c .reports ++ told (c .day) later)
     ∙ ap (λ (l : List Report). plain (told d before) ++ l) (clock ∙ same)
