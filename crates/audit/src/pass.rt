@@ -8,10 +8,10 @@ use terms::sizes;
 use terms::ticks;
 ghost use mathlib.Core.Path.{_≡_};
 ghost use mathlib.Core.Bool.{cond};
-ghost use Prim.Native.Nat.{_+_, _*_, _<_};
+ghost use Prim.Native.Nat.{_+_, _≤_};
 ghost use lib.ListN.{length, replicate};
 ghost use Rattle.tables.specs.Tables.{decode};
-ghost use Rattle.audit_law.specs.Marks.{marked};
+ghost use Rattle.audit_law.specs.Marks.{wordsTo, marked};
 ghost use Rattle.audit_law.specs.Pass.{Room, LimitsFit, Keyed, fine, keyOf, lowBits, passOf, sidesBy, leastMask, sidesSound};
 
 // Order numbers are below it.
@@ -44,7 +44,7 @@ fn key(side: Side, l: Limits, o: Order) -> u64
 
 // The orders of a side: each fine, its key above the key before, the low bits of its number not marked in the map before, and then.
 fn side_by(t: &[u64], n: usize, side: Side, l: Limits, mask: u64, map: &mut [u64]) -> bool
-    requires { ⌜ Room n (now t) × LimitsFit l × (mask < 64 * length (now map)) ⌝ }
+    requires { ⌜ Room n (now t) × LimitsFit l × (wordsTo mask ≤ length (now map)) ⌝ }
     ensures { λ r. ⌜ (r ≡ passOf side l mask 0 (now (map .entry)) (decode n (now (t .entry))))
         × (now (map .exit) ≡ cond r (marked (now (map .entry)) (lowBits mask (decode n (now (t .entry))))) (now (map .exit))) ⌝ }
 {
@@ -79,7 +79,7 @@ fn sides_by(
     mask: u64,
     map: &mut [u64],
 ) -> bool
-    requires { ⌜ Room nbuys (now buys) × Room nsells (now sells) × LimitsFit l × (mask < 64 * length (now map)) × (now map ≡ replicate (length (now map)) 0) ⌝ }
+    requires { ⌜ Room nbuys (now buys) × Room nsells (now sells) × LimitsFit l × (wordsTo mask ≤ length (now map)) × (now map ≡ replicate (length (now map)) 0) ⌝ }
     ensures { λ r. ⌜ r ≡ sidesBy mask l (decode nbuys (now (buys .entry))) (decode nsells (now (sells .entry))) ⌝ }
 {
     if !side_by(buys, nbuys, Side::Buy, l, mask, map) {

@@ -1,14 +1,14 @@
 -- A number marked: it is marked, and no other. Assumes nothing.
 use Prim.Native.Nat.{ℕ, zero, suc, _+_, _*_, _/_, _%_, _^_, _<_}
 use native.Mathlib.Omega.{arith}
-use native.Mathlib.Nat.{mul-div-mul-left, pow-succ', div-self, div-eq-of-lt, mod-lt, div-one, mul-mod-right, one-mul, zero-div, div-add-mod', div-lt-iff-lt-mul}
+use native.Mathlib.Nat.{mul-div-mul-left, pow-succ', div-self, div-eq-of-lt, mod-lt, div-one, mul-mod-right, one-mul, zero-div}
 use mathlib.Core.Bool.{Bool, true, false, _||_}
 use mathlib.Core.Path.{_≡_, refl, sym, ap, _∙_}
 use mathlib.Core.List.{List}
 use lib.Dec.{eqb, lit<}
 use lib.Pow.{pow-pos, pow-lt, shl-exact}
 use lib.Bits.{bitOr, or-shr, or-mod, or-zero-r}
-use lib.ListN.{length, getD, replicate, length-set}
+use lib.ListN.{length, getD, replicate}
 use lib.Seq.{getD-set-same, getD-set-other}
 use borrow.Author.Tests.{eqb-true, eqb-false}
 use Rattle.audit_law.specs.Marks.{bitOf, withBit, wordFor, bitFor, hasMark, withMark}
@@ -47,40 +47,37 @@ module _ (w b i : ℕ) (h : b < 64) where
 -- ---- a number marked in a map
 
 -- a number is told by its word and its bit
-told : (n x y : ℕ) → x % n ≡ y % n → x / n ≡ y / n → x ≡ y
-told n x y q r = sym (div-add-mod' x n) ∙ (ap (λ (z : ℕ). z * n + x % n) r ∙ (ap (λ (z : ℕ). y / n * n + z) q ∙ div-add-mod' y n))
+made : (x : ℕ) → x ≡ x / 1024 * 1024 + (bitFor x * 16 + x % 16)
+made x = omega arith
 
-module _ (m : List ℕ) (x y : ℕ) (w : wordFor m x < length m) (h : bitFor m x < 64) where
-  same : length (withMark m x) ≡ length m
-  same = length-set m _ _
+parts : (a b r s : ℕ) → r < 16 → s < 16 → a * 16 + r ≡ b * 16 + s → (a ≡ b) × (r ≡ s)
+parts a b r s h k e = (omega arith, omega arith)
 
-  in-word : wordFor m x ≡ wordFor m y → getD (withMark m x) (wordFor m y) 0 ≡ withBit (getD m (wordFor m x) 0) (bitFor m x)
-  in-word e = rw (← e) (getD-set-same m (wordFor m x) (withBit (getD m (wordFor m x) 0) (bitFor m x)) 0 w)
+told : (x y : ℕ) → wordFor x ≡ wordFor y → bitFor x ≡ bitFor y → x ≡ y
+told x y q r =
+    let p = parts (x / 1024) (y / 1024) (x % 16) (y % 16) (mod-lt x (lit< tt)) (mod-lt y (lit< tt)) q in
+    made x ∙ (λ i. p .0 i * 1024 + (r i * 16 + p .1 i)) ∙ sym (made y)
 
-  mark-by : (b c : Bool) → eqb y x ≡ b → eqb (wordFor m x) (wordFor m y) ≡ c →
-      bitOf (getD (withMark m x) (wordFor m y) 0) (bitFor m y) ≡ (b || hasMark m y)
+bit-small : (x : ℕ) → bitFor x < 64
+bit-small x = omega arith
+
+module _ (m : List ℕ) (x y : ℕ) (h : wordFor x < length m) where
+  in-word : wordFor x ≡ wordFor y → getD (withMark m x) (wordFor y) 0 ≡ withBit (getD m (wordFor x) 0) (bitFor x)
+  in-word e = rw (← e) (getD-set-same m (wordFor x) (withBit (getD m (wordFor x) 0) (bitFor x)) 0 h)
+
+  mark-by : (b c : Bool) → eqb y x ≡ b → eqb (wordFor x) (wordFor y) ≡ c → hasMark (withMark m x) y ≡ (b || hasMark m y)
   mark-by true c e f =
       let q : x ≡ y = sym (eqb-true y x e) in
-      rw (in-word (ap (wordFor m) q)) (with-same (getD m (wordFor m x) 0) (bitFor m x) (bitFor m y) h (ap (bitFor m) q))
+      rw (in-word (ap wordFor q)) (with-same (getD m (wordFor x) 0) (bitFor x) (bitFor y) (bit-small x) (ap bitFor q))
   mark-by false true e f =
-      let q : wordFor m x ≡ wordFor m y = eqb-true (wordFor m x) (wordFor m y) f in
+      let q : wordFor x ≡ wordFor y = eqb-true (wordFor x) (wordFor y) f in
       let ne : y ≡ x → ⊥ = eqb-false y x e in
-      rw (in-word q) (with-other (getD m (wordFor m x) 0) (bitFor m x) (bitFor m y) h (λ r. ne (sym (told (length m) x y q r))) ∙ rw q)
+      rw (in-word q) (with-other (getD m (wordFor x) 0) (bitFor x) (bitFor y) (bit-small x) (λ r. ne (sym (told x y q r))) ∙ rw q)
   mark-by false false e f =
-      rw (getD-set-other m (wordFor m x) (wordFor m y) (withBit (getD m (wordFor m x) 0) (bitFor m x)) 0 (λ q. eqb-false (wordFor m x) (wordFor m y) f (sym q)))
+      rw (getD-set-other m (wordFor x) (wordFor y) (withBit (getD m (wordFor x) 0) (bitFor x)) 0 (λ q. eqb-false (wordFor x) (wordFor y) f (sym q)))
 
-  marks : hasMark (withMark m x) y ≡ (eqb y x || hasMark m y)
-  marks = rw same (mark-by (eqb y x) (eqb (wordFor m x) (wordFor m y)) refl refl)
-
--- a map has a word and a bit for every number below 64 times its length
-pub word-inside : (m : List ℕ) (x : ℕ) → x < 64 * length m → wordFor m x < length m
-word-inside m x h = mod-lt x (omega arith)
-
-pub bit-inside : (m : List ℕ) (x : ℕ) → x < 64 * length m → bitFor m x < 64
-bit-inside m x h = div-lt-iff-lt-mul {k = length m} {x = x} {y = 64} (omega arith) .1 h
-
-pub mark-tells : (m : List ℕ) (x y : ℕ) → x < 64 * length m → hasMark (withMark m x) y ≡ (eqb y x || hasMark m y)
-mark-tells m x y h = marks m x y (word-inside m x h) (bit-inside m x h)
+pub mark-tells : (m : List ℕ) (x y : ℕ) → wordFor x < length m → hasMark (withMark m x) y ≡ (eqb y x || hasMark m y)
+mark-tells m x y h = mark-by m x y h (eqb y x) (eqb (wordFor x) (wordFor y)) refl refl
 
 zeros : (k x : ℕ) → _≡_ {A = ℕ} (getD (replicate k 0) x 0) 0
 zeros zero x = refl
@@ -88,6 +85,4 @@ zeros (suc k) zero = refl
 zeros (suc k) (suc x) = zeros k x
 
 pub no-marks : (words x : ℕ) → hasMark (replicate words 0) x ≡ false
-no-marks words x =
-    let m : List ℕ = replicate words 0 in
-    rw (zeros words (wordFor m x), zero-div (2 ^ bitFor m x))
+no-marks words x = rw (zeros words (wordFor x), zero-div (2 ^ bitFor x))

@@ -1,5 +1,5 @@
 -- Two passes with one map: the second goes on from the marks of the first. Assumes nothing.
-use Prim.Native.Nat.{ℕ, _*_, _<_}
+use Prim.Native.Nat.{ℕ, _≤_}
 use native.Mathlib.Omega.{arith}
 use mathlib.Core.Bool.{Bool, true, false, _&&_, not, cond, false≢true}
 use mathlib.Core.Path.{_≡_, refl, sym, _∙_}
@@ -10,15 +10,15 @@ use borrow.Author.Tests.{not-true, not-false}
 use Rattle.terms.specs.declared.Side.the-variants.{Buy, Sell}
 use Rattle.terms.specs.declared.Order.{Order}
 use Rattle.audit_law.specs.declared.Limits.{Limits}
-use Rattle.audit_law.specs.Marks.{fresh, marked, apart}
+use Rattle.audit_law.specs.Marks.{wordsTo, fresh, marked, apart}
 use Rattle.audit_law.specs.Pass.{LimitsFit, lowBits, passOf, sideSound, sidesBy}
-use Rattle.audit_law.proofs.Fresh.{Below, both-fresh}
+use Rattle.audit_law.proofs.Fresh.{Inside, both-fresh}
 use Rattle.audit_law.proofs.Keys.{pass-is}
 
-bits-below : (mask k : ℕ) (os : List Order) → mask < k → Below k (lowBits mask os)
+bits-inside : (mask words : ℕ) (os : List Order) → wordsTo mask ≤ words → Inside words (lowBits mask os)
 unfolding lowBits
-bits-below mask k [] h = tt
-bits-below mask k (o ∷ os) h = (omega (arith, and-le-r (o .number) mask), bits-below mask k os h)
+bits-inside mask words [] h = tt
+bits-inside mask words (o ∷ os) h = (omega (arith, and-le-r (o .number) mask), bits-inside mask words os h)
 
 stop-by : (sb fb ss x : Bool) → (sb && fb) ≡ false → false ≡ (sb && (ss && (fb && x)))
 stop-by true true ss x e = absurd (false≢true (sym e))
@@ -31,10 +31,10 @@ end-by true true ss x e = refl
 end-by true false ss x e = absurd (false≢true e)
 end-by false fb ss x e = absurd (false≢true e)
 
-module _ (l : Limits) (k : LimitsFit l) (mask : ℕ) (m₀ : List ℕ) (h : mask < 64 * length m₀) (z : m₀ ≡ replicate (length m₀) 0)
+module _ (l : Limits) (k : LimitsFit l) (mask : ℕ) (m₀ : List ℕ) (h : wordsTo mask ≤ length m₀) (z : m₀ ≡ replicate (length m₀) 0)
     (xs ys : List Order) (p : Bool) (e : p ≡ passOf Buy l mask 0 m₀ xs) where
   all-fresh : apart (lowBits mask xs ++ lowBits mask ys) ≡ (fresh m₀ (lowBits mask xs) && fresh (marked m₀ (lowBits mask xs)) (lowBits mask ys))
-  all-fresh = both-fresh m₀ (lowBits mask xs) (lowBits mask ys) z (bits-below mask (64 * length m₀) xs h) (bits-below mask (64 * length m₀) ys h)
+  all-fresh = both-fresh m₀ (lowBits mask xs) (lowBits mask ys) z (bits-inside mask (length m₀) xs h) (bits-inside mask (length m₀) ys h)
 
   first-is : p ≡ (sideSound Buy l xs && fresh m₀ (lowBits mask xs))
   first-is = e ∙ pass-is Buy l mask (k .given-small) m₀ xs

@@ -1,21 +1,21 @@
 -- A run of marks, begun on an empty map, goes through just where the numbers are distinct. Assumes nothing.
-use Prim.Native.Nat.{ℕ, _*_, _<_}
+use Prim.Native.Nat.{ℕ, _<_}
 use mathlib.Core.Bool.{Bool, true, false, _&&_, _||_, not}
 use mathlib.Core.Path.{_≡_, refl, sym, ap, _∙_}
 use mathlib.Core.List.{List, [], _∷_, _++_}
 use lib.Dec.{eqb}
 use lib.ListN.{length, replicate, length-set, length-replicate}
-use Rattle.audit_law.specs.Marks.{hasMark, withMark, fresh, marked, isIn, apart}
+use Rattle.audit_law.specs.Marks.{wordFor, hasMark, withMark, fresh, marked, isIn, apart}
 use Rattle.audit_law.proofs.Bits.{mark-tells, no-marks}
 
--- all numbers are below k
-abbrev pub Below : ℕ → List ℕ → Type 0
-Below k [] = Unit {0}
-Below k (x ∷ xs) = (x < k) × Below k xs
+-- all numbers have their words in a map of so many
+abbrev pub Inside : ℕ → List ℕ → Type 0
+Inside words [] = Unit {0}
+Inside words (x ∷ xs) = (wordFor x < words) × Inside words xs
 
-below-append : (k : ℕ) (xs ys : List ℕ) → Below k xs → Below k ys → Below k (xs ++ ys)
-below-append k [] ys p q = q
-below-append k (x ∷ xs) ys p q = (p .0, below-append k xs ys (p .1) q)
+inside-append : (words : ℕ) (xs ys : List ℕ) → Inside words xs → Inside words ys → Inside words (xs ++ ys)
+inside-append words [] ys p q = q
+inside-append words (x ∷ xs) ys p q = (p .0, inside-append words xs ys (p .1) q)
 
 -- none of the numbers is marked
 none : List ℕ → List ℕ → Bool
@@ -29,7 +29,7 @@ mix false true false n = refl
 mix false false true n = refl
 mix false false false n = refl
 
-none-mark : (m : List ℕ) (x : ℕ) (ys : List ℕ) → x < 64 * length m → none (withMark m x) ys ≡ (not (isIn x ys) && none m ys)
+none-mark : (m : List ℕ) (x : ℕ) (ys : List ℕ) → wordFor x < length m → none (withMark m x) ys ≡ (not (isIn x ys) && none m ys)
 unfolding none isIn
 none-mark m x [] h = refl
 none-mark m x (y ∷ ys) h = rw (mark-tells m x y h, none-mark m x ys h) (mix (eqb y x) (hasMark m y) (isIn x ys) (none m ys))
@@ -40,7 +40,7 @@ regroup true false true a = refl
 regroup true false false a = refl
 regroup false i n a = refl
 
-fresh-is : (m xs : List ℕ) → Below (64 * length m) xs → fresh m xs ≡ (none m xs && apart xs)
+fresh-is : (m xs : List ℕ) → Inside (length m) xs → fresh m xs ≡ (none m xs && apart xs)
 unfolding none apart fresh
 fresh-is m [] b = refl
 fresh-is m (x ∷ xs) b =
@@ -52,7 +52,7 @@ unfolding none
 none-empty words [] = refl
 none-empty words (x ∷ xs) = rw (no-marks words x) (none-empty words xs)
 
-fresh-apart : (words : ℕ) (xs : List ℕ) → Below (64 * words) xs → fresh (replicate words 0) xs ≡ apart xs
+fresh-apart : (words : ℕ) (xs : List ℕ) → Inside words xs → fresh (replicate words 0) xs ≡ apart xs
 fresh-apart words xs b =
     let same : length {A = ℕ} (replicate words 0) ≡ words = length-replicate words 0 in
     rw (none-empty words xs) at (fresh-is (replicate words 0) xs (rw same b))
@@ -69,8 +69,8 @@ fresh-append m (x ∷ xs) ys =
     rw (fresh-append (withMark m x) xs ys)
     (and-assoc (not (hasMark m x)) (fresh (withMark m x) xs) (fresh (marked (withMark m x) xs) ys))
 
-pub both-fresh : (m xs ys : List ℕ) → m ≡ replicate (length m) 0 → Below (64 * length m) xs → Below (64 * length m) ys →
+pub both-fresh : (m xs ys : List ℕ) → m ≡ replicate (length m) 0 → Inside (length m) xs → Inside (length m) ys →
     apart (xs ++ ys) ≡ (fresh m xs && fresh (marked m xs) ys)
 both-fresh m xs ys z b c =
-    let all : fresh (replicate (length m) 0) (xs ++ ys) ≡ apart (xs ++ ys) = fresh-apart (length m) (xs ++ ys) (below-append (64 * length m) xs ys b c) in
+    let all : fresh (replicate (length m) 0) (xs ++ ys) ≡ apart (xs ++ ys) = fresh-apart (length m) (xs ++ ys) (inside-append (length m) xs ys b c) in
     sym (ap (λ (e : List ℕ). fresh e (xs ++ ys)) z ∙ all) ∙ fresh-append m xs ys

@@ -18,7 +18,7 @@ use Rattle.tables.specs.Tables.{orderAt, decode}
 use Rattle.tables.proofs.Slots.{decode-read, decode-end}
 use Rattle.audit_law.specs.declared.Limits.{Limits}
 use Rattle.audit_law.specs.Sound.{OrderFits}
-use Rattle.audit_law.specs.Marks.{hasMark, withMark, marked}
+use Rattle.audit_law.specs.Marks.{wordFor, wordsTo, hasMark, withMark, marked}
 use Rattle.terms.specs.Ticks.{scale}
 use Rattle.audit_law.specs.Pass.{bandOf, fine, Keyed, keyStep, keyOf, lowBits, passOf}
 use Rattle.audit_law.proofs.Facts.{order-fits, order-made}
@@ -89,7 +89,7 @@ key-sell s l o e = rw e
 
 -- ---- a turn of the pass
 
-pub inside : (x mask : ℕ) (m m₀ : List ℕ) → mask < 64 * length m₀ → length m ≡ length m₀ → bitAnd x mask < 64 * length m
+pub inside : (x mask : ℕ) (m m₀ : List ℕ) → wordsTo mask ≤ length m₀ → length m ≡ length m₀ → wordFor (bitAnd x mask) < length m
 inside x mask m m₀ p q = omega (arith, and-le-r x mask)
 
 bits-read : (mask n : ℕ) (t : List ℕ) (i : ℕ) (o : Order) → i < n → o ≡ orderAt t i →
