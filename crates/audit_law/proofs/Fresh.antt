@@ -5,6 +5,8 @@ use mathlib.Core.Path.{_≡_, refl, sym, ap, _∙_}
 use mathlib.Core.List.{List, [], _∷_, _++_}
 use lib.Dec.{eqb}
 use lib.ListN.{length, replicate, length-set, length-replicate}
+use Rattle.terms.specs.Truth.{_⊓_}
+use Rattle.terms.proofs.Logic.{regroup}
 use Rattle.audit_law.specs.Marks.{wordFor, hasMark, withMark, fresh, marked, isIn, apart}
 use Rattle.audit_law.proofs.Bits.{mark-tells, no-marks}
 
@@ -34,18 +36,18 @@ unfolding none isIn
 none-mark m x [] h = refl
 none-mark m x (y ∷ ys) h = rw (mark-tells m x y h, none-mark m x ys h) (mix (eqb y x) (hasMark m y) (isIn x ys) (none m ys))
 
-regroup : (h i n a : Bool) → (h && ((i && n) && a)) ≡ ((h && n) && (i && a))
-regroup true true n a = refl
-regroup true false true a = refl
-regroup true false false a = refl
-regroup false i n a = refl
+reorder : (h i n a : Bool) → (h && ((i && n) && a)) ≡ ((h && n) && (i && a))
+reorder true true n a = refl
+reorder true false true a = refl
+reorder true false false a = refl
+reorder false i n a = refl
 
 fresh-is : (m xs : List ℕ) → Inside (length m) xs → fresh m xs ≡ (none m xs && apart xs)
 unfolding none apart fresh
 fresh-is m [] b = refl
 fresh-is m (x ∷ xs) b =
     let same : length (withMark m x) ≡ length m = length-set m _ _ in
-    rw (fresh-is (withMark m x) xs (rw same (b .1)), none-mark m x xs (b .0)) (regroup (not (hasMark m x)) (not (isIn x xs)) (none m xs) (apart xs))
+    rw (fresh-is (withMark m x) xs (rw same (b .1)), none-mark m x xs (b .0)) (reorder (not (hasMark m x)) (not (isIn x xs)) (none m xs) (apart xs))
 
 none-empty : (words : ℕ) (xs : List ℕ) → none (replicate words 0) xs ≡ true
 unfolding none
@@ -58,16 +60,12 @@ fresh-apart words xs b =
     rw (none-empty words xs) at (fresh-is (replicate words 0) xs (rw same b))
 
 -- two runs, one after the other
-and-assoc : (a b c : Bool) → (a && (b && c)) ≡ ((a && b) && c)
-and-assoc true b c = refl
-and-assoc false b c = refl
-
 fresh-append : (m xs ys : List ℕ) → fresh m (xs ++ ys) ≡ (fresh m xs && fresh (marked m xs) ys)
-unfolding fresh marked
+unfolding fresh marked _⊓_
 fresh-append m [] ys = refl
 fresh-append m (x ∷ xs) ys =
     rw (fresh-append (withMark m x) xs ys)
-    (and-assoc (not (hasMark m x)) (fresh (withMark m x) xs) (fresh (marked (withMark m x) xs) ys))
+    (regroup _ (not (hasMark m x)) (fresh (withMark m x) xs) (fresh (marked (withMark m x) xs) ys) refl)
 
 pub both-fresh : (m xs ys : List ℕ) → m ≡ replicate (length m) 0 → Inside (length m) xs → Inside (length m) ys →
     apart (xs ++ ys) ≡ (fresh m xs && fresh (marked m xs) ys)

@@ -48,7 +48,7 @@ calledOn run event buys sells room =
     (called (sessionFrom run) (eventFrom event) buys sells room)
     (record { verdict = Refused SmallRoom; day = dayIn (sessionFrom run) buys sells; reports = [] })
 
--- what it comes to on numbers that are no session's: "1: a table under 768 numbers ..", "2: session not sound"
+-- what it comes to on numbers that are no session's: "1: a table under .. numbers", "2: session not sound"
 unfoldable pub strangeVerdict : List ℕ → List ℕ → List ℕ → Verdict
 strangeVerdict buys sells room = cond (roomy buys sells room) (Refused Unsound) (Refused SmallRoom)
 

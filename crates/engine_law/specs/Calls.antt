@@ -27,7 +27,7 @@ use Rattle.engine_law.specs.declared.Answer.{Answer}
 use Rattle.engine_law.specs.declared.Applied.{Applied}
 use Rattle.engine_law.specs.Outcome.{Outcome, decided}
 
--- 1: "a table under 768 numbers, or report room under 3,120"
+-- 1: "a table under .. numbers, or report room under .."
 unfoldable pub roomy : List ℕ → List ℕ → List ℕ → Bool
 roomy buys sells room = leb tableLength (length buys) ⊓ leb tableLength (length sells) ⊓ leb roomLength (length room)
 
@@ -44,7 +44,7 @@ abbrev pub answerBy : Verdict → ℕ → Answer
 answerBy Fine count = Answer.Reported count
 answerBy (Refused r) count = Answer.Refused r
 
--- "After acceptance the rest of the 768 is zero and everything past it is untouched"; a refusal writes nothing
+-- "After acceptance the rest .. is zero and everything past it is untouched"; a refusal writes nothing
 abbrev pub tableBy : Verdict → List Order → List ℕ → List ℕ
 tableBy Fine os t = tableOf os t
 tableBy (Refused r) os t = t

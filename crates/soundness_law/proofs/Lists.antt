@@ -10,7 +10,7 @@ use lib.ListN.{length, getD, take, drop, length-take, drop-of-length-le}
 use lib.Seq.{take-all, drop-cons, getD-take}
 use Rattle.terms.specs.Truth.{_⊓_}
 use Rattle.terms.specs.Numbers.{isLots}
-use Rattle.terms.proofs.Logic.{both}
+use Rattle.terms.proofs.Logic.{both, regroup}
 use Rattle.rules_law.specs.declared.Tape.{Tape}
 use Rattle.rules_law.specs.Close.{kept}
 use Rattle.soundness_law.specs.Sound.{every, priceSound, rememberedSound}
@@ -50,16 +50,11 @@ unfolding _⊓_
 and-true true = refl
 and-true false = refl
 
-and-assoc : (a b c : Bool) → (a ⊓ (b ⊓ c)) ≡ ((a ⊓ b) ⊓ c)
-unfolding _⊓_
-and-assoc true b c = refl
-and-assoc false b c = refl
-
 next-tested : (test : ℕ → Bool) (a : List ℕ) (i : ℕ) → i < length a → every test (take (suc i) a) ≡ (every test (take i a) ⊓ test (getD a i 0))
 unfolding every _⊓_
 next-tested test [] i h = absurd (omega arith)
 next-tested test (x ∷ xs) zero h = and-true (test x)
-next-tested test (x ∷ xs) (suc i) h = rw (next-tested test xs i (omega arith)) (and-assoc (test x) (every test (take i xs)) (test (getD xs i 0)))
+next-tested test (x ∷ xs) (suc i) h = rw (next-tested test xs i (omega arith)) (regroup _ (test x) (every test (take i xs)) (test (getD xs i 0)) refl)
 
 module _ (test : ℕ → Bool) (a : List ℕ) (i : ℕ) (all : Bool) (e : all ≡ every test (take i a)) where
   pub one-more : (found : Bool) → found ≡ test (getD a i 0) → i < length a → (all && found) ≡ every test (take (i + 1) a)

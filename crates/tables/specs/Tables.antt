@@ -1,5 +1,5 @@
--- Document 01, "Book and report room": "Each side has a lent table of 768 64-bit numbers, 256 orders of number, price and lots
--- left, best first. After acceptance the rest of the 768 is zero and everything past it is untouched."
+-- Document 01, "Book and report room": "Each side has a lent table of .. 64-bit numbers, .. orders of number, price and lots left,
+-- best first. After acceptance the rest of the .. is zero and everything past it is untouched." How many: `terms`, Sizes.
 use Prim.Native.Nat.{ℕ, zero, suc, _+_, _-_, _*_, _≤_}
 use mathlib.Core.Path.{_≡_}
 use mathlib.Core.List.{List, [], _∷_, _++_}
@@ -25,7 +25,7 @@ unfoldable pub encode : List Order → List ℕ
 encode [] = []
 encode (o ∷ os) = numbersOf o ++ encode os
 
--- the table of these orders: "the rest of the 768 is zero and everything past it is untouched", as it is in t
+-- the table of these orders: "the rest .. is zero and everything past it is untouched", as it is in t
 unfoldable pub tableOf : List Order → List ℕ → List ℕ
 tableOf os t = encode os ++ (replicate (tableLength - width * length os) 0 ++ drop tableLength t)
 
