@@ -2,37 +2,38 @@
 use Prim.Native.Nat.{ℕ}
 use native.Mathlib.Omega.{arith}
 use mathlib.Core.Path.{_≡_, refl}
-use mathlib.Core.Bool.{Bool, true, _&&_, not}
+use mathlib.Core.Bool.{Bool, true, cond, _&&_, not}
 use mathlib.Core.List.{List, [], _∷_}
 use borrow.Author.Tests.{eqb-false, not-true}
 use lib.Dec.{leb, eqb}
 use Rattle.terms.specs.declared.Event.{Event}
 use Rattle.terms.specs.declared.Refusal.{Refusal}
-use Rattle.terms.specs.declared.Refusal.the-variants.{Closed}
+use Rattle.terms.specs.declared.Refusal.the-variants.{Unsound, Closed, NumberRange, TimeBack, OutOfHours, OffTick, OutsideBand, NotResting, SideFull, DayFull}
 use Rattle.terms.specs.declared.Verdict.the-variants.{Fine, Refused}
 use Rattle.terms.specs.Truth.{_⊓_}
 use Rattle.terms.specs.Numbers.{isTime}
 use Rattle.terms.specs.Refusals.{numberOf, Rule, firstFailed, codeOf}
-use Rattle.terms.proofs.Logic.{cases, split}
+use Rattle.terms.proofs.Logic.{by, cases, split}
 use Rattle.state_law.specs.Now.{bandNow}
 use Rattle.state_law.specs.Clock.{clockStep}
 use Rattle.state_law.specs.Day.{Day}
 use Rattle.soundness_law.specs.Sound.{sound}
 use Rattle.refusal_law.specs.Refusals.{numbersRight, inHours, ticksRight, bandRight, finds, hasPlace, hasNumbers, laterRules, rules, refusalOf}
 
-abbrev AllHold : List Rule → Type 0
-AllHold [] = Unit {0}
-AllHold (r ∷ rs) = (r .holds ≡ true) × AllHold rs
+-- what the row with that number tests
+unfoldable rowOf : ℕ → List Rule → Bool
+rowOf n [] = true
+rowOf n (r ∷ rs) = cond (eqb (numberOf (r .refusal)) n) (r .holds) (rowOf n rs)
 
 not-fine : {P : Type 0} (r : Refusal) → Refused r ≡ Fine → P
 not-fine r e = absurd (let z : _≡_ {A = ℕ} 0 1 = cc in omega arith)
 
-all-hold : (rs : List Rule) → firstFailed rs ≡ Fine → AllHold rs
-unfolding firstFailed
-all-hold [] e = tt
-all-hold (r ∷ rs) e =
+row-holds : (rs : List Rule) → firstFailed rs ≡ Fine → (n : ℕ) → rowOf n rs ≡ true
+unfolding firstFailed rowOf
+row-holds [] e n = refl
+row-holds (r ∷ rs) e n =
     cases (r .holds)
-    (λ h. (h, all-hold rs (rw h at e)))
+    (λ h. by (λ (x : Bool). x ≡ true) (eqb (numberOf (r .refusal)) n) (r .holds) (rowOf n rs) (λ z. h) (λ z. row-holds rs (rw h at e) n))
     (λ h. not-fine (r .refusal) (rw h at e))
 
 -- rows 2 to 11, none of which applies
@@ -49,20 +50,20 @@ pub record Accepted (d : Day) (e : Event) : Type 0 where
   pub numbered : hasNumbers (d .session .given) (d .session .tape .trades) (e .act) ≡ true
 
 pub accepted : (d : Day) (e : Event) → refusalOf d e ≡ Fine → Accepted d e
-unfolding refusalOf
+unfolding refusalOf rowOf
 accepted d e h =
-    let p : AllHold (rules d e) = all-hold (rules d e) h in
+    let row : (n : ℕ) → rowOf n (rules d e) ≡ true = row-holds (rules d e) h in
     record {
-      whole = p .0;
-      running = p .1 .0;
-      ranged = p .1 .1 .0;
-      forward = p .1 .1 .1 .0;
-      timely = p .1 .1 .1 .1 .0;
-      ticked = p .1 .1 .1 .1 .1 .0;
-      banded = p .1 .1 .1 .1 .1 .1 .0;
-      found = p .1 .1 .1 .1 .1 .1 .1 .0;
-      placed = p .1 .1 .1 .1 .1 .1 .1 .1 .0;
-      numbered = p .1 .1 .1 .1 .1 .1 .1 .1 .1 .0;
+      whole = row (numberOf Unsound);
+      running = row (numberOf Closed);
+      ranged = row (numberOf NumberRange);
+      forward = row (numberOf TimeBack);
+      timely = row (numberOf OutOfHours);
+      ticked = row (numberOf OffTick);
+      banded = row (numberOf OutsideBand);
+      found = row (numberOf NotResting);
+      placed = row (numberOf SideFull);
+      numbered = row (numberOf DayFull);
     }
 
 -- ---- rows 2 and 3
