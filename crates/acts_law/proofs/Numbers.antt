@@ -26,6 +26,7 @@ use Rattle.state_law.specs.Clock.{clockStep}
 use Rattle.state_law.specs.Trades.{withTrades}
 use Rattle.state_law.specs.Day.{Day, own, across, dayWith}
 use Rattle.state_law.proofs.Leaves.{trades-leave}
+use Rattle.refusal_law.specs.Carried.{maybe, carries}
 use Rattle.acts_law.specs.Acts.{Acted, only, clockReports, sweepIn, fateIn, entered, withdrawn, silent, cancelReports, closeReport, finished, afterClock, acted, act}
 use Rattle.acts_law.specs.Asked.{acceptsIn, accepts, numbersTo}
 
@@ -155,11 +156,7 @@ act-counts d e = acted-counts d (e .time) (e .act)
 -- ---- how many are given: one more by an order
 
 abbrev pub givenBy : ℕ → Act → ℕ
-givenBy given (Enter n) = given + 1
-givenBy given (Withdraw number) = given
-givenBy given (Under price) = given
-givenBy given Clock = given
-givenBy given (Finish settle) = given
+givenBy given a = maybe given (λ n. given + 1) (carries a .entry)
 
 acted-given : (d : Day) (t : ℕ) (a : Act) → acted d t (clockStep (d .session) t) a .day .session .given ≡ givenBy (d .session .given) a
 unfolding clockStep entered withdrawn finished

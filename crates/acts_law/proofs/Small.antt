@@ -2,8 +2,7 @@
 -- prices. Each is within a bound that the refusals or a sound session give.
 use Prim.Native.Nat.{ℕ, _+_, _≤_, _<_}
 use native.Mathlib.Omega.{arith}
-use borrow.Author.Tests.{leb-true, ltb-true}
-use mathlib.Core.Path.{_≡_}
+use mathlib.Core.Path.{_≡_, refl}
 use mathlib.Core.Bool.{Bool, true, false, not}
 use mathlib.Core.List.{List, [], _∷_, _++_}
 use lib.Dec.{eqb}
@@ -28,7 +27,7 @@ use Rattle.terms.specs.declared.Why.the-variants.{Asked, Immediate, OutOfRange,
 use Rattle.terms.specs.Sizes.{lotsMost, priceMost, timeMost, numbersMost, writtenMost}
 use Rattle.terms.specs.Reports.{kindOf, whyOf}
 use Rattle.terms.specs.Records.{fieldsOf, recordOf}
-use Rattle.terms.proofs.Logic.{by, both, between-facts}
+use Rattle.terms.proofs.Logic.{by, between-facts}
 use Rattle.terms.proofs.Valid.{valid-facts}
 use Rattle.rules_law.specs.Slabs.{inBand}
 use Rattle.rules_law.proofs.Bands.{low-small, high-small}
@@ -47,8 +46,7 @@ use Rattle.soundness_law.specs.Sound.{sound}
 use Rattle.soundness_law.proofs.Parts.{Parts}
 use Rattle.soundness_law.proofs.Days.{BookOf, sound-day, now-priced}
 use Rattle.soundness_law.proofs.Closes.{close-small, base-small}
-use Rattle.refusal_law.specs.Refusals.{numbersRight, inHours, hasNumbers}
-use Rattle.refusal_law.proofs.Accepted.{Accepted}
+use Rattle.refusal_law.proofs.Accepted.{Accepted, time-right, lots-right, price-right, number-right, numbers-left}
 use Rattle.acts_law.specs.Acts.{Acted, only, clockReports, sweepIn, fateIn, entered, ended, withdrawn, cancelReports, closeReport, finished, acted, act}
 use Rattle.acts_law.specs.Small.{AllSmall, SmallReport, SmallReports}
 use Rattle.acts_law.proofs.Stays.{Ready, fills-fit, begins}
@@ -274,21 +272,22 @@ fewer s t h = h
 
 acted-small : (d : Day) (t : ℕ) (a : Act) → Accepted d (record { time = t; act = a }) → length (d .session .tape .prices) ≡ 10 →
     SmallReports (acted d t (clockStep (d .session) t) a .reports)
-unfolding numbersRight inHours hasNumbers SmallReports
+unfolding SmallReports
 acted-small d t (Enter n) k l =
+    let e : Event = record { time = t; act = Enter n } in
     let s : Session = clockStep (d .session) t in
-    let r : Ready s d = begins d t (Enter n) k (k .timely) in
+    let r : Ready s d = begins d t (Enter n) k refl in
     after-small (d .session) s _ (r .parts)
-    (entered-small s n d r (between-facts 1 (n .lots) lotsMost (both (both (k .ranged) .1) .0) .1)
-    (fewer (d .session) t (ltb-true (d .session .given) numbersMost (both (k .numbered) .0))))
+    (entered-small s n d r (lots-right d e k (n .lots) refl .1) (fewer (d .session) t (numbers-left d e k n refl .0)))
 acted-small d t (Withdraw number) k l =
     let s : Session = clockStep (d .session) t in
-    let r : Ready s d = begins d t (Withdraw number) k (k .timely) in
-    after-small (d .session) s _ (r .parts) (withdrawn-small s number d r (between-facts 1 number numbersMost (both (k .ranged) .1) .1))
-acted-small d t (Under price) k l = after-small (d .session) (clockStep (d .session) t) _ (begins d t (Under price) k (k .timely) .parts) tt
-acted-small d t Clock k l = after-small (d .session) (clockStep (d .session) t) _ (begins d t Clock k (k .timely) .parts) tt
+    let r : Ready s d = begins d t (Withdraw number) k refl in
+    after-small (d .session) s _ (r .parts) (withdrawn-small s number d r (number-right d (record { time = t; act = Withdraw number }) k number refl .1))
+acted-small d t (Under price) k l = after-small (d .session) (clockStep (d .session) t) _ (begins d t (Under price) k refl .parts) tt
+acted-small d t Clock k l = after-small (d .session) (clockStep (d .session) t) _ (begins d t Clock k refl .parts) tt
 acted-small d t (Finish settle) k l =
-    finished-small d t settle (k .whole) (leb-true t timeMost (both (k .ranged) .0)) (between-facts 1 settle priceMost (both (k .ranged) .1) .1) l
+    let e : Event = record { time = t; act = Finish settle } in
+    finished-small d t settle (k .whole) (time-right d e k) (price-right d e k settle refl .1) l
 
 -- EVERY NUMBER IN A REPORT CAN BE WRITTEN. The session's array holds ten prices
 pub act-small : (d : Day) (e : Event) → Accepted d e → length (d .session .tape .prices) ≡ 10 → SmallReports (act d e .reports)

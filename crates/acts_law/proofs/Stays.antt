@@ -3,8 +3,8 @@ use Prim.Native.Nat.{ℕ, _+_, _≤_, _<_}
 use native.Mathlib.Omega.{arith}
 use native.Mathlib.Nat.{le-refl}
 use borrow.Author.Tests.{leb-true, ltb-true}
-use mathlib.Core.Path.{_≡_, sym, subst₃}
-use mathlib.Core.Bool.{true, _||_}
+use mathlib.Core.Path.{_≡_, refl, sym, subst₃}
+use mathlib.Core.Bool.{true, false, _||_}
 use mathlib.Core.List.{List, []}
 use lib.Dec.{ltb}
 use lib.ListN.{length}
@@ -18,8 +18,8 @@ use Rattle.terms.specs.declared.Side.{Side}
 use Rattle.terms.specs.declared.Side.the-variants.{Buy, Sell}
 use Rattle.terms.specs.declared.Kind.{Kind}
 use Rattle.terms.specs.declared.Life.{Life}
-use Rattle.terms.specs.Sizes.{slots, lotsMost, priceMost, timeMost, numbersMost, tradesBefore}
-use Rattle.terms.proofs.Logic.{by, both, or-last, between-facts}
+use Rattle.terms.specs.Sizes.{slots, priceMost, timeMost, numbersMost, tradesBefore}
+use Rattle.terms.proofs.Logic.{by, or-last}
 use Rattle.terms.proofs.Valid.{valid-facts}
 use Rattle.rules_law.specs.declared.Range.{Range}
 use Rattle.rules_law.specs.Slabs.{slabOf, percentOf, bandAt}
@@ -41,8 +41,9 @@ use Rattle.soundness_law.specs.Sound.{sound}
 use Rattle.soundness_law.proofs.Parts.{Parts}
 use Rattle.soundness_law.proofs.Kept.{Tradable, clock-kept, trades-kept, given-kept, under-kept, closed-kept, last-ticked}
 use Rattle.soundness_law.proofs.Days.{BookOf, SoundDay, sound-day, day-sound, each-tradable}
-use Rattle.refusal_law.specs.Refusals.{numbersRight, inHours, ticksRight, bandRight, hasPlace, hasNumbers}
-use Rattle.refusal_law.proofs.Accepted.{Accepted}
+use Rattle.refusal_law.specs.Carried.{carries}
+use Rattle.refusal_law.specs.Refusals.{ticksRight, bandRight, hasPlace}
+use Rattle.refusal_law.proofs.Accepted.{Accepted, time-right, lots-right, price-right, in-day, numbers-left}
 use Rattle.acts_law.specs.Acts.{Acted, sweepIn, lastIn, fateIn, entered, withdrawn, silent, finished, acted, act}
 use Rattle.acts_law.proofs.Few.{swept-few}
 
@@ -148,22 +149,20 @@ finished-stays d t settle h k m =
 -- ---- an event
 
 -- what every event but the close starts from
-pub begins : (d : Day) (t : ℕ) (a : Act) → Accepted d (record {
-  time = t;
-  act = a;
-}) → ltb t (d .session .settings .length) ≡ true → Ready (clockStep (d .session) t) d
-begins d t a k h =
-    ready d t (k .whole) (leb-true (d .session .time) t (k .forward)) (leb-true t timeMost (both (k .ranged) .0))
-    (or-last (d .session .closed) (ltb t (d .session .settings .length)) (λ z. h))
+pub begins : (d : Day) (t : ℕ) (a : Act) → Accepted d (record { time = t; act = a }) → carries a .closes ≡ false → Ready (clockStep (d .session) t) d
+begins d t a k c =
+    let e : Event = record { time = t; act = a } in
+    ready d t (k .whole) (leb-true (d .session .time) t (k .forward)) (time-right d e k)
+    (or-last (d .session .closed) (ltb t (d .session .settings .length)) (λ z. in-day d e k c))
 
 -- the steps leave the tick, so a limit is judged by the session's
 admits : (d : Day) (t : ℕ) (n : Entry) → Accepted d (record { time = t; act = Enter n }) → Ready (clockStep (d .session) t) d →
     Admits (clockStep (d .session) t) (n .life) (n .kind) (n .lots) (length (own (n .side) d))
-unfolding clockStep numbersRight ticksRight bandRight hasPlace
+unfolding clockStep ticksRight bandRight hasPlace
 admits d t n k r =
     let s : Session = clockStep (d .session) t in
     record {
-      few = between-facts 1 (n .lots) lotsMost (both (both (k .ranged) .1) .0) .1;
+      few = lots-right d (record { time = t; act = Enter n }) k (n .lots) refl .1;
       place = λ e. ltb-true (length (own (n .side) d)) slots (rw e at (k .placed));
       limit-ticked = λ p e. rw e at (k .ticked);
       limit-banded = λ p e. rw e at (k .banded);
@@ -171,19 +170,18 @@ admits d t n k r =
     }
 
 pub acted-stays : (d : Day) (t : ℕ) (a : Act) → Accepted d (record { time = t; act = a }) → sound (acted d t (clockStep (d .session) t) a .day) ≡ true
-unfolding numbersRight inHours hasNumbers
 acted-stays d t (Enter n) k =
-    let r = begins d t (Enter n) k (k .timely) in
-    let q = both (k .numbered) in
-    enters d t n r (admits d t n k r) (ltb-true (d .session .given) numbersMost (q .0)) (leb-true (d .session .tape .trades) tradesBefore (q .1))
-acted-stays d t (Withdraw number) k = withdrawn-stays (clockStep (d .session) t) number d (begins d t (Withdraw number) k (k .timely))
+    let r = begins d t (Enter n) k refl in
+    let q = numbers-left d (record { time = t; act = Enter n }) k n refl in
+    enters d t n r (admits d t n k r) (q .0) (q .1)
+acted-stays d t (Withdraw number) k = withdrawn-stays (clockStep (d .session) t) number d (begins d t (Withdraw number) k refl)
 acted-stays d t (Under price) k =
-    silent-stays (clockStep (d .session) t) price d (between-facts 1 price priceMost (both (k .ranged) .1) .1) (begins d t (Under price) k (k .timely))
+    silent-stays (clockStep (d .session) t) price d (price-right d (record { time = t; act = Under price }) k price refl .1) (begins d t (Under price) k refl)
 acted-stays d t Clock k =
-    let r = begins d t Clock k (k .timely) in
+    let r = begins d t Clock k refl in
     silent-stays (clockStep (d .session) t) (clockStep (d .session) t .under) d (r .parts .numbered .under-small) r
 acted-stays d t (Finish settle) k =
-    finished-stays d t settle (k .whole) (leb-true (d .session .time) t (k .forward)) (leb-true t timeMost (both (k .ranged) .0))
+    finished-stays d t settle (k .whole) (leb-true (d .session .time) t (k .forward)) (time-right d (record { time = t; act = Finish settle }) k)
 
 -- AN ACCEPTED EVENT LEAVES A SOUND DAY
 pub act-stays : (d : Day) (e : Event) → Accepted d e → sound (act d e .day) ≡ true

@@ -3,21 +3,17 @@
 use Prim.Native.Nat.{ℕ, zero, suc, _+_}
 use mathlib.Core.List.{List, [], _∷_, _++_}
 use Rattle.terms.specs.declared.Act.{Act}
-use Rattle.terms.specs.declared.Act.the-variants.{Enter, Withdraw, Under, Clock, Finish}
 use Rattle.terms.specs.declared.Report.{Report}
 use Rattle.terms.specs.declared.Said.{Said}
 use Rattle.terms.specs.declared.Said.the-variants.{Accept, Trade, Convert, Cancel, Slab, Ref, Close}
 use Rattle.book_law.specs.Over.{mine, lotsOf}
 use Rattle.book_law.specs.Told.{total}
 use Rattle.state_law.specs.Day.{Day}
+use Rattle.refusal_law.specs.Carried.{maybe, carries}
 
 -- the lots that an act asks for
 abbrev pub wanted : Act → ℕ
-wanted (Enter n) = n .lots
-wanted (Withdraw number) = 0
-wanted (Under price) = 0
-wanted Clock = 0
-wanted (Finish settle) = 0
+wanted a = maybe 0 (λ n. n .lots) (carries a .entry)
 
 -- and the order that asks: the report of acceptance gives it its number
 abbrev pub askedIn : ℕ → ℕ → Said → ℕ

@@ -2,7 +2,7 @@
 use Prim.Native.Nat.{ℕ, _+_, _*_, _/_, _≤_}
 use native.Mathlib.Omega.{arith}
 use mathlib.Core.Path.{_≡_, refl, sym, ap, _∙_}
-use mathlib.Core.Bool.{true, _||_}
+use mathlib.Core.Bool.{true, false, _||_}
 use mathlib.Core.List.{List, [], append-nil}
 use lib.Dec.{ltb}
 use lib.ListN.{length}
@@ -23,7 +23,9 @@ use Rattle.state_law.specs.Day.{dayOf}
 use Rattle.soundness_law.specs.Sound.{dayIn}
 use Rattle.soundness_law.proofs.Clocked.{steady}
 use Rattle.soundness_law.proofs.Border.{sound-session}
-use Rattle.refusal_law.specs.Refusals.{inHours, finds}
+use Rattle.refusal_law.specs.Carried.{carries}
+use Rattle.refusal_law.specs.Refusals.{finds}
+use Rattle.refusal_law.proofs.Accepted.{in-day}
 use Rattle.acts_law.specs.Acts.{Acted, clockReports, act, withdrawn, finished}
 use Rattle.acts_law.specs.Written.{Written, RestsIn, WithdrawnAs, Finished}
 use Rattle.acts_law.specs.declared.Withdrawn.{Withdrawn}
@@ -50,14 +52,13 @@ done-as a s bs ss nbuys nsells at buys sells room buys′ sells′ room′ d b c
 
 -- ---- under and clock
 
-quiet-hours : {s : Session} {u : ℕ} {a : Act} (t l : ℕ) → Quiet s u a → inHours a t l ≡ true → ltb t l ≡ true
-unfolding inHours
-quiet-hours t l (under price) h = h
-quiet-hours t l clock h = h
+quiet-open : {s : Session} {u : ℕ} {a : Act} → Quiet s u a → carries a .closes ≡ false
+quiet-open (under price) = refl
+quiet-open clock = refl
 
 module _ (s : Session) (t u : ℕ) (a : Act) (buys sells room : List ℕ) (r : Ready s t a buys sells room) (q : Quiet s u a) where
   pub quiet-time : ltb t (s .settings .length) ≡ true
-  quiet-time = quiet-hours t (s .settings .length) q (accepts s t a buys sells room r .timely)
+  quiet-time = in-day (dayIn s buys sells) (eventAt t a) (accepts s t a buys sells room r) (quiet-open q)
 
 quiet-day : (s : Session) (t u : ℕ) (a : Act) (buys sells : List ℕ) → Quiet s u a → act (dayIn s buys sells) (eventAt t a) .day ≡ dayOf (setUnder (clockStep s t) u) (decode (s .buys) buys) (decode (s .sells) sells)
 unfolding act clockStep
@@ -84,8 +85,7 @@ quiet-done s t u a buys sells room q s′ e buys₁ sells₁ room₁ at k =
 
 module _ (s : Session) (t number : ℕ) (buys sells room : List ℕ) (r : Ready s t (Withdraw number) buys sells room) where
   pub cancel-time : ltb t (s .settings .length) ≡ true
-  unfolding inHours
-  cancel-time = accepts s t (Withdraw number) buys sells room r .timely
+  cancel-time = in-day (dayIn s buys sells) (eventAt t (Withdraw number)) (accepts s t (Withdraw number) buys sells room r) refl
 
   found : (rests number (decode (s .buys) buys) || rests number (decode (s .sells) sells)) ≡ true
   unfolding finds

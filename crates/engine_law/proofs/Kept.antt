@@ -8,11 +8,11 @@ use borrow.Author.Tests.{leb-true, eq-eqb, ne-eqb}
 use mathlib.Core.Path.{_≡_, refl, _∙_}
 use mathlib.Core.Bool.{true}
 use mathlib.Core.List.{[], _++_, append-nil}
+use mathlib.Core.Option.{Option, some, none}
 use lib.ListN.{length}
 use Rattle.terms.specs.declared.Entry.{Entry}
 use Rattle.terms.specs.declared.Event.{Event}
-use Rattle.terms.specs.declared.Act.{Act}
-use Rattle.terms.specs.declared.Act.the-variants.{Enter, Withdraw, Under, Clock, Finish}
+use Rattle.terms.specs.declared.Act.the-variants.{Enter}
 use Rattle.terms.specs.declared.Refusal.{Refusal}
 use Rattle.terms.specs.declared.Verdict.{Verdict}
 use Rattle.terms.specs.declared.Verdict.the-variants.{Fine, Refused}
@@ -23,6 +23,7 @@ use Rattle.book_law.specs.Told.{total, traded, cancelled}
 use Rattle.state_law.specs.Tens.{Ten}
 use Rattle.state_law.specs.Day.{Day}
 use Rattle.soundness_law.specs.Sound.{sound}
+use Rattle.refusal_law.specs.Carried.{maybe, carries}
 use Rattle.refusal_law.specs.Refusals.{refusalOf}
 use Rattle.refusal_law.proofs.Accepted.{Accepted, accepted}
 use Rattle.acts_law.specs.Acts.{act}
@@ -142,17 +143,14 @@ accepted-asks d t n =
     (λ r h. absurd (let z : _≡_ {A = ℕ} 0 1 = cc in omega arith))
 
 -- numbers are never taken back
-given-grows : (given : ℕ) (a : Act) → given ≤ givenBy given a
-given-grows given (Enter n) = omega arith
-given-grows given (Withdraw number) = omega arith
-given-grows given (Under price) = omega arith
-given-grows given Clock = omega arith
-given-grows given (Finish settle) = omega arith
+given-grows : (given : ℕ) (n : Option Entry) → given ≤ maybe given (λ n. given + 1) n
+given-grows given none = le-refl given
+given-grows given (some n) = omega arith
 
 pub outcome-given : (d : Day) (e : Event) → d .session .given ≤ outcome d e .day .session .given
 outcome-given d e =
     by-verdict (λ (o : Outcome). d .session .given ≤ o .day .session .given) d e
-    (λ k. omega (arith, act-given d e, given-grows (d .session .given) (e .act)))
+    (λ k. omega (arith, act-given d e, given-grows (d .session .given) (carries (e .act) .entry)))
     (λ r. le-refl (d .session .given))
 
 not-mine : (id number lots : ℕ) → (number ≡ id → ⊥) → mine id number lots ≡ 0
@@ -166,17 +164,14 @@ asks-old id d e h =
     (λ k. act-asks id d e ∙ not-mine id (d .session .given + 1) (wanted (e .act)) (λ z. omega arith))
     (λ r. refl)
 
-asked-new : (id given : ℕ) (a : Act) → givenBy given a < id → mine id (given + 1) (wanted a) ≡ 0
-asked-new id given (Enter n) h = not-mine id (given + 1) (n .lots) (λ z. omega arith)
-asked-new id given (Withdraw number) h = mine-zero id (given + 1)
-asked-new id given (Under price) h = mine-zero id (given + 1)
-asked-new id given Clock h = mine-zero id (given + 1)
-asked-new id given (Finish settle) h = mine-zero id (given + 1)
+asked-new : (id given : ℕ) (n : Option Entry) → maybe given (λ n. given + 1) n < id → mine id (given + 1) (maybe 0 (λ n. n .lots) n) ≡ 0
+asked-new id given none h = mine-zero id (given + 1)
+asked-new id given (some n) h = not-mine id (given + 1) (n .lots) (λ z. omega arith)
 
 -- and one that is not given yet is not asked for
 pub asks-new : (id : ℕ) (d : Day) (e : Event) → outcome d e .day .session .given < id → askedBy id (e .act) (outcome d e .reports) ≡ 0
 unfolding total
 asks-new id d e =
     by-verdict (λ (o : Outcome). o .day .session .given < id → askedBy id (e .act) (o .reports) ≡ 0) d e
-    (λ k h. act-asks id d e ∙ asked-new id (d .session .given) (e .act) (omega (arith, act-given d e)))
+    (λ k h. act-asks id d e ∙ asked-new id (d .session .given) (carries (e .act) .entry) (omega (arith, act-given d e)))
     (λ r h. refl)

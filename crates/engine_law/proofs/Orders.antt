@@ -1,10 +1,10 @@
 -- An order on both tables: proved once, over its own side's table and the one across. Assumes nothing.
 use Prim.Native.Nat.{ℕ, _+_, _≤_, _<_}
 use native.Mathlib.Omega.{arith}
-use mathlib.Core.Path.{_≡_, _∙_}
+use mathlib.Core.Path.{_≡_, refl, _∙_}
 use mathlib.Core.Bool.{true}
 use mathlib.Core.List.{List, _++_}
-use borrow.Author.Tests.{ltb-true, leb-true}
+use borrow.Author.Tests.{ltb-true}
 use lib.Dec.{ltb}
 use lib.ListN.{length}
 use Rattle.terms.specs.declared.Act.the-variants.{Enter}
@@ -14,7 +14,6 @@ use Rattle.terms.specs.declared.Life.the-variants.{AllDay}
 use Rattle.terms.specs.declared.Order.{Order}
 use Rattle.terms.specs.declared.Side.the-variants.{Buy, Sell}
 use Rattle.terms.specs.Sizes.{slots, numbersMost, tradesBefore}
-use Rattle.terms.proofs.Logic.{both}
 use Rattle.tables.specs.Tables.{decode, tableOf}
 use Rattle.tables.proofs.Slots.{length-decode}
 use Rattle.tables.proofs.Whole.{After}
@@ -26,7 +25,8 @@ use Rattle.state_law.specs.Clock.{clockStep}
 use Rattle.state_law.specs.Trades.{withTrades}
 use Rattle.state_law.specs.Day.{own}
 use Rattle.soundness_law.specs.Sound.{dayIn}
-use Rattle.refusal_law.specs.Refusals.{inHours, lifeHasPlace, hasPlace, hasNumbers}
+use Rattle.refusal_law.specs.Refusals.{lifeHasPlace, hasPlace}
+use Rattle.refusal_law.proofs.Accepted.{in-day, numbers-left}
 use Rattle.acts_law.specs.Acts.{clockReports, act, sweepIn, fateIn, entered}
 use Rattle.acts_law.specs.Written.{Written, Deals}
 use Rattle.acts_law.specs.declared.Entered.{Entered}
@@ -42,14 +42,10 @@ has-place life held h e = ltb-true held slots (rw e at h)
 
 module _ (s : Session) (t : ℕ) (n : Entry) (buys sells room : List ℕ) (r : Ready s t (Enter n) buys sells room) where
   pub order-time : ltb t (s .settings .length) ≡ true
-  unfolding inHours
-  order-time = accepts s t (Enter n) buys sells room r .timely
+  order-time = in-day (dayIn s buys sells) (eventAt t (Enter n)) (accepts s t (Enter n) buys sells room r) refl
 
   numbered : (s .given < numbersMost) × (s .tape .trades ≤ tradesBefore)
-  unfolding hasNumbers
-  numbered =
-      let p = both (accepts s t (Enter n) buys sells room r .numbered) in
-      (ltb-true (s .given) numbersMost (p .0), leb-true (s .tape .trades) tradesBefore (p .1))
+  numbered = numbers-left (dayIn s buys sells) (eventAt t (Enter n)) (accepts s t (Enter n) buys sells room r) n refl
 
   placed : lifeHasPlace (n .life) (length (own (n .side) (dayIn s buys sells))) ≡ true
   unfolding hasPlace

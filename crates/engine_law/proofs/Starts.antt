@@ -9,8 +9,8 @@ use borrow.Author.Tests.{leb-true}
 use lib.Dec.{ltb}
 use lib.ListN.{length}
 use Rattle.terms.specs.declared.Act.{Act}
-use Rattle.terms.specs.Sizes.{recordLength, slots, timeMost, tradesBefore}
-use Rattle.terms.proofs.Logic.{both, or-last}
+use Rattle.terms.specs.Sizes.{recordLength, slots, tradesBefore}
+use Rattle.terms.proofs.Logic.{or-last}
 use Rattle.tables.specs.Tables.{decode}
 use Rattle.tables.proofs.Whole.{After, cleared}
 use Rattle.book_law.specs.Over.{Each}
@@ -27,7 +27,7 @@ use Rattle.soundness_law.proofs.Border.{sound-session}
 use Rattle.soundness_law.proofs.Parts.{parts-made}
 use Rattle.soundness_law.proofs.Kept.{Tradable}
 use Rattle.soundness_law.proofs.Days.{each-tradable}
-use Rattle.refusal_law.proofs.Accepted.{Accepted, accepted}
+use Rattle.refusal_law.proofs.Accepted.{Accepted, accepted, time-right}
 use Rattle.acts_law.specs.Acts.{clockReports}
 use Rattle.acts_law.specs.Written.{Deals}
 use Rattle.acts_law.proofs.Stays as stays
@@ -57,7 +57,7 @@ module _ (s : Session) (t : ℕ) (a : Act) (buys sells room : List ℕ) (r : Rea
 
   module _ (u : ltb t (s .settings .length) ≡ true) where
     pub start : stays.Ready (clockStep s t) day
-    start = stays.ready day t (accepts .whole) forward (leb-true t timeMost (both (accepts .ranged) .0)) (or-last (s .closed) (ltb t (s .settings .length)) (λ e. u))
+    start = stays.ready day t (accepts .whole) forward (time-right day (eventAt t a) accepts) (or-last (s .closed) (ltb t (s .settings .length)) (λ e. u))
 
     pub clocked-after : Clocked (clockStep s t)
     unfolding clockStep

@@ -33,7 +33,9 @@ use Rattle.state_law.specs.Day.{Day, own, across, opened}
 use Rattle.state_law.proofs.Steps.{clock-twice}
 use Rattle.soundness_law.specs.Sound.{sound}
 use Rattle.soundness_law.proofs.Days.{SoundDay, sound-day}
+use Rattle.refusal_law.specs.Carried.{carries}
 use Rattle.refusal_law.specs.Refusals.{numbersRight, inHours, ticksRight, bandRight, finds, lifeHasPlace, hasPlace, hasNumbers, refusalOf}
+use Rattle.refusal_law.proofs.Carried.{any-same}
 use Rattle.refusal_law.proofs.Accepted.{Accepted, accepted, closed-refused}
 use Rattle.acts_law.specs.Acts.{Acted, only, clockReports, sweepIn, entered, withdrawn, silent, finished, afterClock, acted, act}
 use Rattle.acts_law.proofs.Stays.{act-stays}
@@ -107,21 +109,9 @@ across-ticked : (side : Side) (d : Day) (t : ℕ) → across side (ticked d t) �
 across-ticked Buy d t = refl
 across-ticked Sell d t = refl
 
-finds-ticked : (d : Day) (t : ℕ) (a : Act) → finds (ticked d t) a ≡ finds d a
-unfolding finds
-finds-ticked d t (Enter n) = refl
-finds-ticked d t (Withdraw number) = refl
-finds-ticked d t (Under price) = refl
-finds-ticked d t Clock = refl
-finds-ticked d t (Finish settle) = refl
-
 place-ticked : (d : Day) (t : ℕ) (a : Act) → hasPlace (ticked d t) a ≡ hasPlace d a
 unfolding hasPlace
-place-ticked d t (Enter n) = ap (λ (l : List Order). lifeHasPlace (n .life) (length l)) (own-ticked (n .side) d t)
-place-ticked d t (Withdraw number) = refl
-place-ticked d t (Under price) = refl
-place-ticked d t Clock = refl
-place-ticked d t (Finish settle) = refl
+place-ticked d t a = any-same _ _ (λ n. ap (λ (l : List Order). lifeHasPlace (n .life) (length l)) (own-ticked (n .side) d t)) (carries a .entry)
 
 -- what the accepted clock event gives: both days are sound, and it is not before the last accepted time
 record Ticks (d : Day) (t : ℕ) : Type 0 where
@@ -140,7 +130,7 @@ ticks d t h =
 
 -- every row of the table is the same for both
 refusal-ticked : (d : Day) (t : ℕ) (e : Event) → Ticks d t → t ≤ e .time → refusalOf (ticked d t) e ≡ refusalOf d e
-unfolding refusalOf clockStep
+unfolding refusalOf clockStep finds
 refusal-ticked d t e k h =
     λ i. firstFailed (
     unless Unsound ((k .then-whole ∙ sym (k .whole)) i)
@@ -150,7 +140,7 @@ refusal-ticked d t e k h =
     ∷ unless OutOfHours (inHours (e .act) (e .time) (d .session .settings .length))
     ∷ unless OffTick (ticksRight (d .session .settings .tick) (e .act))
     ∷ unless OutsideBand (bandRight (bandNow (clock-twice (d .session) t (e .time) (k .forward) h i)) (e .act))
-    ∷ unless NotResting (finds-ticked d t (e .act) i)
+    ∷ unless NotResting (finds d (e .act))
     ∷ unless SideFull (place-ticked d t (e .act) i)
     ∷ unless DayFull (hasNumbers (d .session .given) (d .session .tape .trades) (e .act))
     ∷ [])

@@ -1,23 +1,27 @@
 -- What an accepted event has passed: every row of the table. Assumes nothing.
-use Prim.Native.Nat.{ℕ}
+use Prim.Native.Nat.{ℕ, _≤_, _<_}
 use native.Mathlib.Omega.{arith}
 use mathlib.Core.Path.{_≡_, refl}
-use mathlib.Core.Bool.{Bool, true, cond, _&&_, not}
+use mathlib.Core.Bool.{Bool, true, false, cond, _&&_, not}
 use mathlib.Core.List.{List, [], _∷_}
-use borrow.Author.Tests.{eqb-false, not-true}
-use lib.Dec.{leb, eqb}
+use mathlib.Core.Option.{Option, some}
+use borrow.Author.Tests.{leb-true, ltb-true, eqb-false, not-true}
+use lib.Dec.{leb, ltb, eqb}
+use Rattle.terms.specs.declared.Entry.{Entry}
 use Rattle.terms.specs.declared.Event.{Event}
 use Rattle.terms.specs.declared.Refusal.{Refusal}
 use Rattle.terms.specs.declared.Refusal.the-variants.{Unsound, Closed, NumberRange, TimeBack, OutOfHours, OffTick, OutsideBand, NotResting, SideFull, DayFull}
 use Rattle.terms.specs.declared.Verdict.the-variants.{Fine, Refused}
 use Rattle.terms.specs.Truth.{_⊓_}
-use Rattle.terms.specs.Numbers.{isTime}
+use Rattle.terms.specs.Sizes.{timeMost, lotsMost, priceMost, numbersMost, tradesBefore}
+use Rattle.terms.specs.Numbers.{isTime, isLots, isPrice, isNumber}
 use Rattle.terms.specs.Refusals.{numberOf, Rule, firstFailed, codeOf}
-use Rattle.terms.proofs.Logic.{by, cases, split}
+use Rattle.terms.proofs.Logic.{by, cases, split, both, between-facts}
 use Rattle.state_law.specs.Now.{bandNow}
 use Rattle.state_law.specs.Clock.{clockStep}
 use Rattle.state_law.specs.Day.{Day}
 use Rattle.soundness_law.specs.Sound.{sound}
+use Rattle.refusal_law.specs.Carried.{ofAny, carries}
 use Rattle.refusal_law.specs.Refusals.{numbersRight, inHours, ticksRight, bandRight, finds, hasPlace, hasNumbers, laterRules, rules, refusalOf}
 
 -- what the row with that number tests
@@ -65,6 +69,40 @@ accepted d e h =
       placed = row (numberOf SideFull);
       numbered = row (numberOf DayFull);
     }
+
+-- ---- the numbers of an accepted event, by what its act carries
+
+any-some : {A : Type 0} (f : A → Bool) (x : Option A) (y : A) → ofAny f x ≡ true → x ≡ some y → f y ≡ true
+any-some f x y h e = rw e at h
+
+module _ (d : Day) (e : Event) (k : Accepted d e) where
+  right : (ofAny isLots (carries (e .act) .lots) ⊓ ofAny isPrice (carries (e .act) .price) ⊓ ofAny isNumber (carries (e .act) .number)) ≡ true
+  unfolding numbersRight
+  right = both (k .ranged) .1
+
+  pub time-right : e .time ≤ timeMost
+  time-right = leb-true (e .time) timeMost (both (k .ranged) .0)
+
+  pub lots-right : (lots : ℕ) → carries (e .act) .lots ≡ some lots → (1 ≤ lots) × (lots ≤ lotsMost)
+  lots-right lots c = between-facts 1 lots lotsMost (any-some isLots (carries (e .act) .lots) lots (both (both right .0) .0) c)
+
+  pub price-right : (price : ℕ) → carries (e .act) .price ≡ some price → (1 ≤ price) × (price ≤ priceMost)
+  price-right price c = between-facts 1 price priceMost (any-some isPrice (carries (e .act) .price) price (both (both right .0) .1) c)
+
+  pub number-right : (number : ℕ) → carries (e .act) .number ≡ some number → (1 ≤ number) × (number ≤ numbersMost)
+  number-right number c = between-facts 1 number numbersMost (any-some isNumber (carries (e .act) .number) number (both right .1) c)
+
+  -- every event but the close is within the day
+  pub in-day : carries (e .act) .closes ≡ false → ltb (e .time) (d .session .settings .length) ≡ true
+  unfolding inHours
+  in-day c = rw c at (k .timely)
+
+  -- an order finds its number and room for its trades
+  pub numbers-left : (n : Entry) → carries (e .act) .entry ≡ some n → (d .session .given < numbersMost) × (d .session .tape .trades ≤ tradesBefore)
+  unfolding hasNumbers
+  numbers-left n c =
+      let q = both (any-some (λ (x : Entry). ltb (d .session .given) numbersMost ⊓ leb (d .session .tape .trades) tradesBefore) (carries (e .act) .entry) n (k .numbered) c) in
+      (ltb-true (d .session .given) numbersMost (q .0), leb-true (d .session .tape .trades) tradesBefore (q .1))
 
 -- ---- rows 2 and 3
 

@@ -1,3 +1,4 @@
+pub mod Carried
 pub mod Places
 pub mod Accepted
 pub mod Rows

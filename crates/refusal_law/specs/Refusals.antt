@@ -1,14 +1,12 @@
 -- Document 01, "Refusal numbers, first that applies": 2 to 11, those of an event on a day.
 use Prim.Native.Nat.{ℕ}
-use mathlib.Core.Bool.{Bool, true, _||_, not}
+use mathlib.Core.Bool.{Bool, true, cond, _||_, not}
 use mathlib.Core.List.{List, [], _∷_}
 use lib.Dec.{leb, ltb}
 use lib.ListN.{length}
 use Rattle.terms.specs.declared.Event.{Event}
 use Rattle.terms.specs.declared.Act.{Act}
-use Rattle.terms.specs.declared.Act.the-variants.{Enter, Withdraw, Under, Clock, Finish}
 use Rattle.terms.specs.declared.Kind.{Kind}
-use Rattle.terms.specs.declared.Kind.the-variants.{Limit, Market}
 use Rattle.terms.specs.declared.Life.{Life}
 use Rattle.terms.specs.declared.Life.the-variants.{AllDay, Ioc}
 use Rattle.terms.specs.declared.Band.{Band}
@@ -24,51 +22,31 @@ use Rattle.state_law.specs.Now.{bandNow}
 use Rattle.state_law.specs.Clock.{clockStep}
 use Rattle.state_law.specs.Day.{Day, own}
 use Rattle.soundness_law.specs.Sound.{sound}
+use Rattle.refusal_law.specs.Carried.{ofAny, limitOf, carries}
 
 -- a test of the limit price; a market order has none
 abbrev pub ofLimit : (ℕ → Bool) → Kind → Bool
-ofLimit test (Limit price) = test price
-ofLimit test Market = true
+ofLimit test kind = ofAny test (limitOf kind)
 
 -- 4: "a number of the event out of its range"
 unfoldable pub numbersRight : Act → Bool
-numbersRight (Enter n) = isLots (n .lots) ⊓ ofLimit isPrice (n .kind)
-numbersRight (Withdraw number) = isNumber number
-numbersRight (Under price) = isPrice price
-numbersRight Clock = true
-numbersRight (Finish settle) = isPrice settle
+numbersRight a = ofAny isLots (carries a .lots) ⊓ ofAny isPrice (carries a .price) ⊓ ofAny isNumber (carries a .number)
 
 -- 6: "close before the length, any other at or after it"
 unfoldable pub inHours : Act → ℕ → ℕ → Bool
-inHours (Enter n) t length = ltb t length
-inHours (Withdraw number) t length = ltb t length
-inHours (Under price) t length = ltb t length
-inHours Clock t length = ltb t length
-inHours (Finish settle) t length = leb length t
+inHours a t length = cond (carries a .closes) (leb length t) (ltb t length)
 
 -- 7: "limit or settlement not a tick multiple"
 unfoldable pub ticksRight : ℕ → Act → Bool
-ticksRight tick (Enter n) = ofLimit (onTick tick) (n .kind)
-ticksRight tick (Withdraw number) = true
-ticksRight tick (Under price) = true
-ticksRight tick Clock = true
-ticksRight tick (Finish settle) = onTick tick settle
+ticksRight tick a = ofAny (onTick tick) (carries a .ticked)
 
 -- 8: "limit outside the band"
 unfoldable pub bandRight : Band → Act → Bool
-bandRight band (Enter n) = ofLimit (inBand band) (n .kind)
-bandRight band (Withdraw number) = true
-bandRight band (Under price) = true
-bandRight band Clock = true
-bandRight band (Finish settle) = true
+bandRight band a = ofAny (inBand band) (carries a .limit)
 
 -- 9: "cancel: no such resting order"
 unfoldable pub finds : Day → Act → Bool
-finds d (Enter n) = true
-finds d (Withdraw number) = rests number (d .buys) || rests number (d .sells)
-finds d (Under price) = true
-finds d Clock = true
-finds d (Finish settle) = true
+finds d a = ofAny (λ number. rests number (d .buys) || rests number (d .sells)) (carries a .number)
 
 abbrev pub lifeHasPlace : Life → ℕ → Bool
 lifeHasPlace AllDay held = ltb held slots
@@ -76,19 +54,11 @@ lifeHasPlace Ioc held = true
 
 -- 10: "day order, its own side holds 256"
 unfoldable pub hasPlace : Day → Act → Bool
-hasPlace d (Enter n) = lifeHasPlace (n .life) (length (own (n .side) d))
-hasPlace d (Withdraw number) = true
-hasPlace d (Under price) = true
-hasPlace d Clock = true
-hasPlace d (Finish settle) = true
+hasPlace d a = ofAny (λ n. lifeHasPlace (n .life) (length (own (n .side) d))) (carries a .entry)
 
 -- 11: "order, and 60,000 orders given or over 59,744 trades made"
 unfoldable pub hasNumbers : ℕ → ℕ → Act → Bool
-hasNumbers given trades (Enter n) = ltb given numbersMost ⊓ leb trades tradesBefore
-hasNumbers given trades (Withdraw number) = true
-hasNumbers given trades (Under price) = true
-hasNumbers given trades Clock = true
-hasNumbers given trades (Finish settle) = true
+hasNumbers given trades a = ofAny (λ n. ltb given numbersMost ⊓ leb trades tradesBefore) (carries a .entry)
 
 -- rows 8 to 11; "bands are judged after the clock steps"
 abbrev pub bookRules : Day → Event → List Rule

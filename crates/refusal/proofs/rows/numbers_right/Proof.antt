@@ -1,6 +1,8 @@
 -- An arm for each act.
 use Rattle.refusal_law.specs.Refusals.{numbersRight}
 use borrow.Author.Needs.{needs}
+use Rattle.terms.specs.Truth.{_⊓_}
+use Rattle.refusal_law.proofs.Carried.{under-right, settle-right}
 use Rattle.refusal.proofs.rows.numbers_right.Statement.{statement}
 use Rattle.refusal.proofs.rows.numbers_right.Tie as tie
 
@@ -36,20 +38,18 @@ unfolding numbersRight
 returns c = simp (c .entry-right .ensures, c .before .before .act .given .1)
 
 returns-2 : tie.Need-returns-2
-unfolding numbersRight
+unfolding numbersRight _⊓_
 returns-2 c = simp (c .is-number .ensures, c .before .before .act2 .given .1)
 
 returns-3 : tie.Need-returns-3
-unfolding numbersRight
-returns-3 c = simp (c .is-price .ensures, c .before .before .act3 .given .1)
+returns-3 c = under-right _ _ _ (c .before .before .act3 .given .1) (c .is-price .ensures)
 
 returns-4 : tie.Need-returns-4
-unfolding numbersRight
+unfolding numbersRight _⊓_
 returns-4 c = simp (c .enum-told .given .1)
 
 returns-5 : tie.Need-returns-5
-unfolding numbersRight
-returns-5 c = simp (c .is-price2 .ensures, c .before .before .act4 .given .1)
+returns-5 c = settle-right _ _ _ (c .before .before .act4 .given .1) (c .is-price2 .ensures)
 
 pub numbers-right-spec : {M : Type 1} → statement M
 numbers-right-spec =

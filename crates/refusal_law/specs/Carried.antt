@@ -1,0 +1,53 @@
+-- What an act carries, listed once: the rows of the table are tests of these.
+use Prim.Native.Nat.{ℕ}
+use mathlib.Core.Bool.{Bool, true, false}
+use mathlib.Core.Option.{Option, some, none}
+use Rattle.terms.specs.declared.Act.{Act}
+use Rattle.terms.specs.declared.Act.the-variants.{Enter, Withdraw, Under, Clock, Finish}
+use Rattle.terms.specs.declared.Entry.{Entry}
+use Rattle.terms.specs.declared.Kind.{Kind}
+use Rattle.terms.specs.declared.Kind.the-variants.{Limit, Market}
+
+-- something that may be there: what is made of it, or else another thing
+abbrev pub maybe : {A B : Type 0} → B → (A → B) → Option A → B
+maybe other f none = other
+maybe other f (some x) = f x
+
+-- a test of something that may be there
+abbrev pub ofAny : {A : Type 0} → (A → Bool) → Option A → Bool
+ofAny test x = maybe true test x
+
+-- a market order has no limit
+abbrev pub limitOf : Kind → Option ℕ
+limitOf (Limit price) = some price
+limitOf Market = none
+
+pub record Carried : Type 0 where
+  -- an order that comes in
+  pub entry : Option Entry
+  -- the number of an order
+  pub number : Option ℕ
+  pub lots : Option ℕ
+  -- any price: a limit, a settlement, an underlying
+  pub price : Option ℕ
+  -- a limit or a settlement
+  pub ticked : Option ℕ
+  pub limit : Option ℕ
+  -- it ends the day
+  pub closes : Bool
+
+abbrev pub carries : Act → Carried
+carries (Enter n) =
+    record {
+      entry = some n;
+      number = none;
+      lots = some (n .lots);
+      price = limitOf (n .kind);
+      ticked = limitOf (n .kind);
+      limit = limitOf (n .kind);
+      closes = false;
+    }
+carries (Withdraw number) = record { entry = none; number = some number; lots = none; price = none; ticked = none; limit = none; closes = false }
+carries (Under price) = record { entry = none; number = none; lots = none; price = some price; ticked = none; limit = none; closes = false }
+carries Clock = record { entry = none; number = none; lots = none; price = none; ticked = none; limit = none; closes = false }
+carries (Finish settle) = record { entry = none; number = none; lots = none; price = some settle; ticked = some settle; limit = none; closes = true }
