@@ -8,7 +8,7 @@ use lib.ListN.{length}
 use Rattle.terms.specs.declared.Closing.{Closing}
 use Rattle.terms.specs.declared.Order.{Order}
 use Rattle.terms.specs.declared.Said.the-variants.{Close}
-use Rattle.terms.specs.declared.Why.the-variants.{Asked}
+use Rattle.terms.specs.declared.Why.the-variants.{Asked, DayEnd}
 use Rattle.terms.specs.Sizes.{recordLength, slots}
 use Rattle.rules_law.specs.Close.{closingOf}
 use Rattle.tables.specs.Tables.{decode, tableOf, Holds}
@@ -76,28 +76,28 @@ module _ (number time : ℕ) (tb : List ℕ) (nb : ℕ) (ts : List ℕ) (ns : �
 -- ---- the close
 
 -- the cancels of a side take a record for each of its orders
-behind-all : (room : List ℕ) (at time n : ℕ) (t room₁ : List ℕ) (next : ℕ) → Written room at (cancelReports time (decode n t)) room₁ next →
+behind-all : (room : List ℕ) (at time n : ℕ) (t room₁ : List ℕ) (next : ℕ) → Written room at (cancelReports DayEnd time (decode n t)) room₁ next →
     next ≡ at + recordLength * n
-behind-all room at time n t room₁ next w = omega (arith, w .behind, length-cancels time (decode n t), length-decode n t)
+behind-all room at time n t room₁ next w = omega (arith, w .behind, length-cancels DayEnd time (decode n t), length-decode n t)
 
 module _ (time n : ℕ) (tb : List ℕ) (few : n ≤ slots) (k : ℕ) (ts : List ℕ) (short : k ≤ slots) (room : List ℕ)
-    (long : recordLength * (slots + slots + 1) ≤ length room) (room₁ : List ℕ) (bought : ℕ) (w : Written room 0 (cancelReports time (decode n tb)) room₁ bought) where
-  fits-buys : 0 + recordLength * length (cancelReports time (decode n tb)) ≤ length room
-  fits-buys = omega (arith, length-cancels time (decode n tb), length-decode n tb)
+    (long : recordLength * (slots + slots + 1) ≤ length room) (room₁ : List ℕ) (bought : ℕ) (w : Written room 0 (cancelReports DayEnd time (decode n tb)) room₁ bought) where
+  fits-buys : 0 + recordLength * length (cancelReports DayEnd time (decode n tb)) ≤ length room
+  fits-buys = omega (arith, length-cancels DayEnd time (decode n tb), length-decode n tb)
 
   length-bought : length room₁ ≡ length room
-  length-bought = written-length room 0 (cancelReports time (decode n tb)) room₁ bought w fits-buys
+  length-bought = written-length room 0 (cancelReports DayEnd time (decode n tb)) room₁ bought w fits-buys
 
   -- there is room for the sells' cancels behind the buys',
   pub sells-fit : bought + recordLength * k ≤ length room₁
   sells-fit = omega (arith, behind-all room 0 time n tb room₁ bought w, length-bought)
 
-  module _ (room₂ : List ℕ) (sold : ℕ) (v : Written room₁ bought (cancelReports time (decode k ts)) room₂ sold) where
-    fits-sells : bought + recordLength * length (cancelReports time (decode k ts)) ≤ length room₁
-    fits-sells = omega (arith, sells-fit, length-cancels time (decode k ts), length-decode k ts)
+  module _ (room₂ : List ℕ) (sold : ℕ) (v : Written room₁ bought (cancelReports DayEnd time (decode k ts)) room₂ sold) where
+    fits-sells : bought + recordLength * length (cancelReports DayEnd time (decode k ts)) ≤ length room₁
+    fits-sells = omega (arith, sells-fit, length-cancels DayEnd time (decode k ts), length-decode k ts)
 
     length-sold : length room₂ ≡ length room₁
-    length-sold = written-length room₁ bought (cancelReports time (decode k ts)) room₂ sold v fits-sells
+    length-sold = written-length room₁ bought (cancelReports DayEnd time (decode k ts)) room₂ sold v fits-sells
 
     -- and for the close report behind those
     pub close-fits : sold + recordLength ≤ length room₂
@@ -110,8 +110,8 @@ module _ (time n : ℕ) (tb : List ℕ) (few : n ≤ slots) (k : ℕ) (ts : List
         Finished s time settle (decode n tb) (decode k ts) tb ts room tb₁ ts₁ room₃ next
     unfolding finished decode
     closed s settle closing d room₃ next z tb₁ ts₁ e f =
-        let buys = cancelReports time (decode n tb) in
-        let sells = cancelReports time (decode k ts) in
+        let buys = cancelReports DayEnd time (decode n tb) in
+        let sells = cancelReports DayEnd time (decode k ts) in
         let last = closeReport s time settle ∷ [] in
         record {
           bought = e;

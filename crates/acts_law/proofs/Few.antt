@@ -3,48 +3,43 @@
 use Prim.Native.Nat.{ℕ, _+_, _≤_}
 use native.Mathlib.Omega.{arith}
 use mathlib.Core.Path.{_≡_, refl}
-use mathlib.Core.Bool.{Bool, true, false, not}
+use mathlib.Core.Bool.{Bool, true, false}
 use mathlib.Core.List.{List, [], _∷_, _++_}
-use lib.Dec.{eqb}
 use lib.ListN.{length, length-append}
 use Rattle.terms.specs.declared.Order.{Order}
 use Rattle.terms.specs.declared.Entry.{Entry}
 use Rattle.terms.specs.declared.Event.{Event}
 use Rattle.terms.specs.declared.Act.{Act}
-use Rattle.terms.specs.declared.Act.the-variants.{Enter, Withdraw, Under, Clock, Finish}
 use Rattle.terms.specs.declared.Side.{Side}
 use Rattle.terms.specs.declared.Side.the-variants.{Buy, Sell}
 use Rattle.terms.specs.declared.Report.{Report}
-use Rattle.terms.specs.declared.Said.the-variants.{Slab, Ref}
+use Rattle.terms.specs.declared.Why.{Why}
+use Rattle.terms.specs.declared.Why.the-variants.{DayEnd}
 use Rattle.terms.specs.Sizes.{slots, reportsMost}
-use Rattle.terms.proofs.Logic.{by}
-use Rattle.book_law.specs.Priority.{rests}
-use Rattle.book_law.specs.Matching.{Swept, reportAt, tradeReports, fateReports}
+use Rattle.book_law.specs.Matching.{Swept, tradeReports, fateReports}
 use Rattle.book_law.proofs.Conserve.{sweep-fewer}
 use Rattle.book_law.proofs.Remainder.{length-trades, fate-placed}
 use Rattle.audit_law.specs.Sound.{BookFits}
 use Rattle.audit_law.proofs.Facts.{book-fits}
 use Rattle.state_law.specs.declared.Session.{Session}
-use Rattle.state_law.specs.Set.{setUnder}
-use Rattle.state_law.specs.Now.{percentNow, bandNow}
+use Rattle.state_law.specs.Now.{bandNow}
 use Rattle.state_law.specs.Clock.{clockStep}
 use Rattle.state_law.specs.Day.{Day, own, across}
 use Rattle.soundness_law.specs.Sound.{sound}
 use Rattle.soundness_law.proofs.Days.{sound-day}
-use Rattle.acts_law.specs.Acts.{Acted, only, clockReports, sweepIn, fateIn, entered, withdrawn, silent, cancelReports, closeReport, finished, afterClock, acted, act}
+use Rattle.acts_law.specs.Acts.{Acted, only, slabMoved, slabReport, refMoved, refReport, clockReports, sweepIn, fateIn, entered, dropped, cancelReports, closeReport, finished, dayBy, timed, does, act}
+use Rattle.acts_law.proofs.Does.{ends, does-by, begun-by}
 
 pub only-few : (b : Bool) (r : Report) → length (only b r) ≤ 1
 only-few true r = omega arith
 only-few false r = omega arith
 
-two-few : (a b : Bool) (x y : Report) → length (only a x ++ only b y) ≤ 2
-two-few a b x y = omega (arith, length-append (only a x) (only b y), only-few a x, only-few b y)
-
 pub clock-few : (s s′ : Session) → length (clockReports s s′) ≤ 2
 unfolding clockReports
 clock-few s s′ =
-    two-few (not (eqb (percentNow s) (percentNow s′))) (not (eqb (s .reckoning .reference) (s′ .reckoning .reference)))
-    (reportAt (s′ .time) (Slab (bandNow s′))) (reportAt (s′ .time) (Ref (s′ .reckoning .reference)))
+    let slab : List Report = only (slabMoved s s′) (slabReport s′) in
+    let ref : List Report = only (refMoved s s′) (refReport s′) in
+    omega (arith, length-append slab ref, only-few (slabMoved s s′) (slabReport s′), only-few (refMoved s s′) (refReport s′))
 
 pub swept-few : (s : Session) (n : Entry) (theirs : List Order) → length (sweepIn s n theirs .fills) ≤ length theirs
 unfolding sweepIn
@@ -67,57 +62,47 @@ entered-few s n mine theirs =
       fate-few s n w number,
     )
 
-withdrawn-few : (s : Session) (number : ℕ) (buys sells : List Order) → length (withdrawn s number buys sells .reports) ≤ 1
-unfolding withdrawn
-withdrawn-few s number buys sells =
-    by (λ (a : Acted). length (a .reports) ≤ 1) (rests number buys) _ _ (λ e. omega arith) (λ e. omega arith)
-
-cancels-few : (t : ℕ) (os : List Order) → length (cancelReports t os) ≡ length os
+cancels-few : (why : Why) (t : ℕ) (os : List Order) → length (cancelReports why t os) ≡ length os
 unfolding cancelReports
-cancels-few t [] = refl
-cancels-few t (o ∷ os) = omega (arith, cancels-few t os)
+cancels-few why t [] = refl
+cancels-few why t (o ∷ os) = omega (arith, cancels-few why t os)
 
-finished-few : (s : Session) (t settle : ℕ) (buys sells : List Order) →
-    length (finished s t settle buys sells .reports) ≡ length buys + length sells + 1
+ends-few : (d : Day) (settle : ℕ) → length (ends d settle .reports) ≡ length (d .buys) + length (d .sells) + 1
 unfolding finished
-finished-few s t settle buys sells =
-    let end : List Report = closeReport s t settle ∷ [] in
-    omega (
-      arith,
-      length-append (cancelReports t buys) (cancelReports t sells ++ end),
-      length-append (cancelReports t sells) end,
-      cancels-few t buys,
-      cancels-few t sells,
-    )
+ends-few d settle =
+    let t : ℕ = d .session .time in
+    let bs : List Report = cancelReports DayEnd t (d .buys) in
+    let ss : List Report = cancelReports DayEnd t (d .sells) in
+    let end : List Report = closeReport (d .session) t settle ∷ [] in
+    omega (arith, length-append bs (ss ++ end), length-append ss end, cancels-few DayEnd t (d .buys), cancels-few DayEnd t (d .sells))
 
--- a side of a sound book holds no more than it has slots
-across-few : (side : Side) (d : Day) → length (d .buys) ≤ slots → length (d .sells) ≤ slots → length (across side d) ≤ slots
-across-few Buy d b s = s
-across-few Sell d b s = b
+-- the orders across are of the two sides
+across-few : (side : Side) (d : Day) → length (across side d) ≤ length (d .buys) + length (d .sells)
+across-few Buy d = omega arith
+across-few Sell d = omega arith
 
-after-few : (s s′ : Session) (a : Acted) (n : ℕ) → length (a .reports) ≤ n → length (afterClock s s′ a .reports) ≤ 2 + n
-after-few s s′ a n h = omega (arith, length-append (clockReports s s′) (a .reports), clock-few s s′)
+does-few : (d : Day) (a : Act) → length (does d a .reports) ≤ 2 + (length (d .buys) + length (d .sells))
+unfolding dropped
+does-few d a =
+    does-by (λ (x : Acted). length (x .reports) ≤ 2 + (length (d .buys) + length (d .sells))) d a
+    (λ n e. omega (arith, entered-few (d .session) n (own (n .side) d) (across (n .side) d), across-few (n .side) d))
+    (λ number e. omega arith)
+    (λ s q. omega arith)
+    (λ settle e. omega (arith, ends-few d settle))
 
-acted-few : (d : Day) (t : ℕ) (s : Session) (a : Act) → length (d .buys) ≤ slots → length (d .sells) ≤ slots →
-    length (acted d t s a .reports) ≤ reportsMost
-acted-few d t s (Enter n) b c =
-    let w : Swept = sweepIn s n (across (n .side) d) in
-    omega (
-      arith,
-      after-few (d .session) s (entered s n (own (n .side) d) w) (2 + length (across (n .side) d)) (entered-few s n (own (n .side) d) (across (n .side) d)),
-      across-few (n .side) d b c,
-    )
-acted-few d t s (Withdraw number) b c =
-    omega (arith, after-few (d .session) s (withdrawn s number (d .buys) (d .sells)) 1 (withdrawn-few s number (d .buys) (d .sells)))
-acted-few d t s (Under price) b c = omega (arith, after-few (d .session) s (silent (setUnder s price) d) 0 (omega arith))
-acted-few d t s Clock b c = omega (arith, after-few (d .session) s (silent s d) 0 (omega arith))
-acted-few d t s (Finish settle) b c = omega (arith, finished-few (d .session) t settle (d .buys) (d .sells))
+-- an event on any day has a report for each order, and four
+pub act-each : (d : Day) (e : Event) → length (act d e .reports) ≤ 4 + (length (d .buys) + length (d .sells))
+act-each d e =
+    let s : Session = d .session in
+    let s′ : Session = clockStep s (e .time) in
+    begun-by (λ (x : Acted). length (x .reports) ≤ 4 + (length (d .buys) + length (d .sells))) d e
+    (λ h. omega (arith, does-few (timed d (e .time) .day) (e .act)))
+    (λ h. omega (arith, length-append (clockReports s s′) (does (dayBy s′ d) (e .act) .reports), clock-few s s′, does-few (dayBy s′ d) (e .act)))
 
 -- THE REPORTS FIT THE ROOM
 pub act-few : (d : Day) (e : Event) → sound d ≡ true → length (act d e .reports) ≤ reportsMost
-unfolding act
 act-few d e h =
     let s : Session = d .session in
     let f : BookFits (s .given) (s .settings .tick) (bandNow s) (d .buys) (d .sells) =
     book-fits (s .given) (s .settings .tick) (bandNow s) (d .buys) (d .sells) (sound-day d h .book) in
-    acted-few d (e .time) (clockStep s (e .time)) (e .act) (f .few-buys) (f .few-sells)
+    omega (arith, act-each d e, f .few-buys, f .few-sells)

@@ -1,3 +1,4 @@
+pub mod Does
 pub mod Ends
 pub mod Entries
 pub mod Few
@@ -6,6 +7,7 @@ pub mod Leftovers
 pub mod Lots
 pub mod Meets
 pub mod Numbers
+pub mod Pieces
 pub mod Recalled
 pub mod Reports
 pub mod Says

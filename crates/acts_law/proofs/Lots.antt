@@ -2,97 +2,67 @@
 -- afterwards. Assumes nothing, not even a sound day.
 use Prim.Native.Nat.{ℕ, _+_}
 use native.Mathlib.Omega.{arith}
-use mathlib.Core.Path.{_≡_, refl, sym, _∙_}
-use mathlib.Core.Bool.{Bool, true, false, not}
+use mathlib.Core.Path.{_≡_, refl, sym, ap, _∙_}
 use mathlib.Core.List.{List, [], _∷_, _++_}
-use lib.Dec.{eqb}
-use Rattle.terms.specs.declared.Band.{Band}
-use Rattle.terms.specs.declared.Deal.{Deal}
-use Rattle.terms.specs.declared.Ended.{Ended}
 use Rattle.terms.specs.declared.Order.{Order}
 use Rattle.terms.specs.declared.Entry.{Entry}
 use Rattle.terms.specs.declared.Event.{Event}
 use Rattle.terms.specs.declared.Act.{Act}
-use Rattle.terms.specs.declared.Act.the-variants.{Enter, Withdraw, Under, Clock, Finish}
 use Rattle.terms.specs.declared.Side.{Side}
 use Rattle.terms.specs.declared.Side.the-variants.{Buy, Sell}
 use Rattle.terms.specs.declared.Report.{Report}
 use Rattle.terms.specs.declared.Said.{Said}
-use Rattle.terms.specs.declared.Said.the-variants.{Trade, Convert, Cancel, Slab, Ref}
-use Rattle.terms.specs.declared.Why.the-variants.{DayEnd}
-use Rattle.terms.proofs.Logic.{by}
-use Rattle.book_law.specs.Priority.{rests}
-use Rattle.book_law.specs.Matching.{taker, Swept, reportAt, dealOf, tradeReports, Fate, Done, Rests, Turns, Ends, settled, fateReports}
+use Rattle.terms.specs.declared.Why.{Why}
+use Rattle.terms.specs.declared.Why.the-variants.{Asked, DayEnd}
+use Rattle.book_law.specs.Priority.{removed}
+use Rattle.book_law.specs.Matching.{taker, Swept, tradeReports, settled, fateReports}
 use Rattle.book_law.specs.Over.{tally, mine, lotsOf}
 use Rattle.book_law.specs.Told.{total, tradedIn, cancelledIn, traded, cancelled}
 use Rattle.book_law.proofs.Over.{mine-zero, lots-removed}
 use Rattle.book_law.proofs.Remainder.{total-append, Balanced, entered-balanced}
 use Rattle.state_law.specs.declared.Session.{Session}
-use Rattle.state_law.specs.Set.{setUnder}
-use Rattle.state_law.specs.Now.{percentNow, bandNow}
 use Rattle.state_law.specs.Clock.{clockStep}
 use Rattle.state_law.specs.Day.{Day, own, across, dayWith}
-use Rattle.acts_law.specs.Acts.{Acted, only, clockReports, sweepIn, fateIn, entered, withdrawn, silent, cancelReports, closeReport, finished, afterClock, acted, act}
+use Rattle.refusal_law.specs.Carried.{maybe}
+use Rattle.acts_law.specs.Acts.{Acted, clockReports, sweepIn, fateIn, entered, dropped, sideOf, cancelReports, closeReport, finished, dayBy, stepped, timed, does, act}
 use Rattle.acts_law.specs.Asked.{wanted, askedIn, askedBy, resting}
+use Rattle.acts_law.proofs.Does.{sets-alike, enters, ends, does-by, Chains, begun-by, act-by}
+use Rattle.acts_law.proofs.Pieces.{each-append, clock-each, trades-each, fate-each, cancels-each, finished-each, total-none}
 
--- ---- sums that reports of a kind do not touch
-
-only-nothing : (f : Said → ℕ) (b : Bool) (r : Report) → f (r .said) ≡ 0 → total f (only b r) ≡ 0
-unfolding total
-only-nothing f true r e = omega (arith, e)
-only-nothing f false r e = refl
-
-two-nothing : (f : Said → ℕ) (a b : Bool) (x y : Report) → f (x .said) ≡ 0 → f (y .said) ≡ 0 → total f (only a x ++ only b y) ≡ 0
-two-nothing f a b x y e g = omega (arith, total-append f (only a x) (only b y), only-nothing f a x e, only-nothing f b y g)
-
--- slab and ref reports
-clock-nothing : (f : Said → ℕ) → ((b : Band) → f (Slab b) ≡ 0) → ((p : ℕ) → f (Ref p) ≡ 0) → (s s′ : Session) → total f (clockReports s s′) ≡ 0
-unfolding clockReports
-clock-nothing f slab ref s s′ =
-    two-nothing f (not (eqb (percentNow s) (percentNow s′))) (not (eqb (s .reckoning .reference) (s′ .reckoning .reference)))
-    (reportAt (s′ .time) (Slab (bandNow s′))) (reportAt (s′ .time) (Ref (s′ .reckoning .reference))) (slab (bandNow s′)) (ref (s′ .reckoning .reference))
-
--- trade reports
-trades-nothing : (f : Said → ℕ) → ((deal : Deal) → f (Trade deal) ≡ 0) → (time : ℕ) (side : Side) (number : ℕ) (fs : List Order) →
-    total f (tradeReports time side number fs) ≡ 0
-unfolding total tradeReports
-trades-nothing f trade time side number [] = refl
-trades-nothing f trade time side number (o ∷ os) = omega (arith, trade (dealOf side number o), trades-nothing f trade time side number os)
-
--- the reports of a remainder
-fate-nothing : (f : Said → ℕ) → ((o : Order) → f (Convert o) ≡ 0) → ((e : Ended) → f (Cancel e) ≡ 0) → (time number left : ℕ) (fate : Fate) →
-    total f (fateReports time number left fate) ≡ 0
-unfolding total
-fate-nothing f convert cancel time number left Done = refl
-fate-nothing f convert cancel time number left (Rests price) = refl
-fate-nothing f convert cancel time number left (Turns price) = omega (arith, convert (record { number = number; price = price; lots = left }))
-fate-nothing f convert cancel time number left (Ends why) = omega (arith, cancel (record { number = number; lots = left; why = why }))
-
--- the cancels of a close
-cancels-nothing : (f : Said → ℕ) → ((e : Ended) → f (Cancel e) ≡ 0) → (time : ℕ) (os : List Order) → total f (cancelReports time os) ≡ 0
-unfolding total cancelReports
-cancels-nothing f cancel time [] = refl
-cancels-nothing f cancel time (o ∷ os) = omega (
-  arith,
-  cancel (record {
-    number = o .number;
-    lots = o .lots;
-    why = DayEnd;
-  }),
-  cancels-nothing f cancel time os,
-)
-
--- and what they tell as cancelled
-cancels-cancelled : (id time : ℕ) (os : List Order) → cancelled id (cancelReports time os) ≡ lotsOf id os
+-- what the cancels of a side tell as cancelled
+cancels-cancelled : (id : ℕ) (why : Why) (time : ℕ) (os : List Order) → cancelled id (cancelReports why time os) ≡ lotsOf id os
 unfolding total cancelReports tally
-cancels-cancelled id time [] = refl
-cancels-cancelled id time (o ∷ os) = omega (arith, cancels-cancelled id time os)
+cancels-cancelled id why time [] = refl
+cancels-cancelled id why time (o ∷ os) = omega (arith, cancels-cancelled id why time os)
 
 -- ---- an act
 
--- what an act tells and leaves, against the lots that it asks for and those that rested before
-abbrev pub Accounted : ℕ → ℕ → ℕ → Acted → Type 0
-Accounted lots id before a = total (askedIn id lots) (a .reports) + before ≡ traded id (a .reports) + cancelled id (a .reports) + resting id (a .day)
+-- what is told and left, against the lots that are asked for and those that rested before
+abbrev pub Accounted : ℕ → ℕ → Day → Acted → Type 0
+Accounted lots id d a =
+    total (askedIn id lots) (a .reports) + resting id d ≡ traded id (a .reports) + cancelled id (a .reports) + resting id (a .day)
+
+kept-then : (lots id : ℕ) → Chains (Accounted lots id)
+kept-then lots id d a b h k =
+    omega (
+      arith,
+      h,
+      k,
+      total-append (askedIn id lots) (a .reports) (b .reports),
+      total-append (tradedIn id) (a .reports) (b .reports),
+      total-append (cancelledIn id) (a .reports) (b .reports),
+    )
+
+clock-kept : (lots id : ℕ) (d : Day) (t : ℕ) → Accounted lots id d (stepped d t)
+clock-kept lots id d t =
+    let s : Session = d .session in
+    let s′ : Session = clockStep s t in
+    omega (
+      arith,
+      total-none (askedIn id lots) (clockReports s s′) (clock-each _ (λ b. refl) (λ p. refl) s s′),
+      total-none (tradedIn id) (clockReports s s′) (clock-each _ (λ b. refl) (λ p. refl) s s′),
+      total-none (cancelledIn id) (clockReports s s′) (clock-each _ (λ b. refl) (λ p. refl) s s′),
+    )
 
 -- the orders of a day, whichever side is one's own
 resting-own : (id : ℕ) (side : Side) (d : Day) → resting id d ≡ lotsOf id (own side d) + lotsOf id (across side d)
@@ -110,151 +80,107 @@ entry-balanced : (s : Session) (n : Entry) (id : ℕ) (mine theirs : List Order)
 unfolding sweepIn fateIn
 entry-balanced s n id mine theirs = entered-balanced id (s .time) (taker (n .side) (n .kind) _) (s .given + 1) (n .lots) (n .life) _ _ mine theirs
 
-entered-kept : (s : Session) (n : Entry) (id : ℕ) (mine theirs : List Order) →
-    Accounted (n .lots) id (lotsOf id mine + lotsOf id theirs) (entered s n mine (sweepIn s n theirs))
+-- what an order asks for
+entered-asks : (s : Session) (n : Entry) (id lots : ℕ) (mine₀ : List Order) (w : Swept) →
+    total (askedIn id lots) (entered s n mine₀ w .reports) ≡ mine id (s .given + 1) lots
 unfolding entered total
-entered-kept s n id mine theirs =
-    let time : ℕ = s .time in
-    let number : ℕ = s .given + 1 in
-    let w : Swept = sweepIn s n theirs in
-    let fate : Fate = fateIn s n w in
-    let ts : List Report = tradeReports time (n .side) number (w .fills) in
-    let fs : List Report = fateReports time number (w .left) fate in
-    let rest : resting id (entered s n mine w .day) ≡ lotsOf id (settled (n .side) number (w .left) fate mine) + lotsOf id (w .rest) =
-    resting-with id (n .side) _ _ _ in
+entered-asks s n id lots mine₀ w =
+    let ts : List Report = tradeReports (s .time) (n .side) (s .given + 1) (w .fills) in
+    let fs : List Report = fateReports (s .time) (s .given + 1) (w .left) (fateIn s n w) in
     omega (
       arith,
-      total-append (askedIn id (n .lots)) ts fs,
-      trades-nothing (askedIn id (n .lots)) (λ deal. refl) time (n .side) number (w .fills),
-      fate-nothing (askedIn id (n .lots)) (λ o. refl) (λ e. refl) time number (w .left) fate,
-      entry-balanced s n id mine theirs,
-      rest,
+      total-none (askedIn id lots) (ts ++ fs)
+          (each-append _ ts fs (trades-each _ (λ deal. refl) (s .time) (n .side) (s .given + 1) (w .fills))
+          (fate-each _ (λ o. refl) (λ e. refl) (s .time) (s .given + 1) (w .left) (fateIn s n w))),
     )
 
-enter-kept : (s : Session) (n : Entry) (id : ℕ) (d : Day) →
-    Accounted (n .lots) id (resting id d) (entered s n (own (n .side) d) (sweepIn s n (across (n .side) d)))
-enter-kept s n id d = rw (resting-own id (n .side) d) (entered-kept s n id (own (n .side) d) (across (n .side) d))
+entered-kept : (s : Session) (n : Entry) (id : ℕ) (own₀ theirs : List Order) →
+    total (askedIn id (n .lots)) (entered s n own₀ (sweepIn s n theirs) .reports) + (lotsOf id own₀ + lotsOf id theirs)
+    ≡ traded id (entered s n own₀ (sweepIn s n theirs) .reports) + cancelled id (entered s n own₀ (sweepIn s n theirs) .reports)
+    + resting id (entered s n own₀ (sweepIn s n theirs) .day)
+unfolding entered total
+entered-kept s n id own₀ theirs =
+    let w : Swept = sweepIn s n theirs in
+    let rest : resting id (entered s n own₀ w .day) ≡ lotsOf id (settled (n .side) (s .given + 1) (w .left) (fateIn s n w) own₀) + lotsOf id (w .rest) =
+    resting-with id (n .side) _ _ _ in
+    omega (arith, entered-asks s n id (n .lots) own₀ w, entry-balanced s n id own₀ theirs, rest)
 
-withdrawn-kept : (s : Session) (number id : ℕ) (buys sells : List Order) →
-    Accounted 0 id (lotsOf id buys + lotsOf id sells) (withdrawn s number buys sells)
-unfolding withdrawn total
-withdrawn-kept s number id buys sells =
-    by (Accounted 0 id (lotsOf id buys + lotsOf id sells)) (rests number buys) _ _
-    (λ e. omega (arith, lots-removed id number buys))
-    (λ e. omega (arith, lots-removed id number sells))
+enter-kept : (id : ℕ) (d : Day) (n : Entry) → Accounted (n .lots) id d (enters d n)
+enter-kept id d n = rw (resting-own id (n .side) d) (entered-kept (d .session) n id (own (n .side) d) (across (n .side) d))
 
-finished-kept : (s : Session) (time settle id : ℕ) (buys sells : List Order) →
-    Accounted 0 id (lotsOf id buys + lotsOf id sells) (finished s time settle buys sells)
-unfolding finished total tally
-finished-kept s time settle id buys sells =
-    let end : List Report = closeReport s time settle ∷ [] in
-    let bs : List Report = cancelReports time buys in
-    let ss : List Report = cancelReports time sells in
+dropped-kept : (lots id : ℕ) (d : Day) (number : ℕ) (why : Why) (side : Side) →
+    Accounted lots id d (dropped (d .session) number why side (own side d) (across side d))
+unfolding dropped total
+dropped-kept lots id d number why side =
     omega (
       arith,
-      total-append (askedIn id 0) bs (ss ++ end),
-      total-append (askedIn id 0) ss end,
-      cancels-nothing (askedIn id 0) (λ e. refl) time buys,
-      cancels-nothing (askedIn id 0) (λ e. refl) time sells,
+      resting-own id side d,
+      resting-with id side (d .session) (removed number (own side d)) (across side d),
+      lots-removed id number (own side d),
+    )
+
+finished-kept : (lots id : ℕ) (d : Day) (settle : ℕ) → Accounted lots id d (ends d settle)
+unfolding finished total tally
+finished-kept lots id d settle =
+    let time : ℕ = d .session .time in
+    let end : List Report = closeReport (d .session) time settle ∷ [] in
+    let bs : List Report = cancelReports DayEnd time (d .buys) in
+    let ss : List Report = cancelReports DayEnd time (d .sells) in
+    omega (
+      arith,
+      total-append (askedIn id lots) bs (ss ++ end),
+      total-append (askedIn id lots) ss end,
+      total-none (askedIn id lots) bs (cancels-each _ (λ e. refl) DayEnd time (d .buys)),
+      total-none (askedIn id lots) ss (cancels-each _ (λ e. refl) DayEnd time (d .sells)),
       total-append (tradedIn id) bs (ss ++ end),
       total-append (tradedIn id) ss end,
-      cancels-nothing (tradedIn id) (λ e. refl) time buys,
-      cancels-nothing (tradedIn id) (λ e. refl) time sells,
+      total-none (tradedIn id) bs (cancels-each _ (λ e. refl) DayEnd time (d .buys)),
+      total-none (tradedIn id) ss (cancels-each _ (λ e. refl) DayEnd time (d .sells)),
       total-append (cancelledIn id) bs (ss ++ end),
       total-append (cancelledIn id) ss end,
-      cancels-cancelled id time buys,
-      cancels-cancelled id time sells,
+      cancels-cancelled id DayEnd time (d .buys),
+      cancels-cancelled id DayEnd time (d .sells),
     )
 
--- the reports of the clock steps count for nothing
-clock-balanced : (lots id before : ℕ) (s s′ : Session) (a : Acted) → Accounted lots id before a → Accounted lots id before (afterClock s s′ a)
-clock-balanced lots id before s s′ a h =
-    let c : List Report = clockReports s s′ in
-    omega (
-      arith,
-      h,
-      total-append (askedIn id lots) c (a .reports),
-      clock-nothing (askedIn id lots) (λ b. refl) (λ p. refl) s s′,
-      total-append (tradedIn id) c (a .reports),
-      clock-nothing (tradedIn id) (λ b. refl) (λ p. refl) s s′,
-      total-append (cancelledIn id) c (a .reports),
-      clock-nothing (cancelledIn id) (λ b. refl) (λ p. refl) s s′,
-    )
-
-acted-kept : (id : ℕ) (d : Day) (time : ℕ) (s : Session) (a : Act) → Accounted (wanted a) id (resting id d) (acted d time s a)
+does-kept : (id : ℕ) (d : Day) (a : Act) → Accounted (wanted a) id d (does d a)
 unfolding total
-acted-kept id d time s (Enter n) =
-    clock-balanced (n .lots) id (resting id d) (d .session) s (entered s n (own (n .side) d) (sweepIn s n (across (n .side) d))) (enter-kept s n id d)
-acted-kept id d time s (Withdraw number) =
-    clock-balanced 0 id (resting id d) (d .session) s (withdrawn s number (d .buys) (d .sells)) (withdrawn-kept s number id (d .buys) (d .sells))
-acted-kept id d time s (Under price) = clock-balanced 0 id (resting id d) (d .session) s (silent (setUnder s price) d) (omega arith)
-acted-kept id d time s Clock = clock-balanced 0 id (resting id d) (d .session) s (silent s d) (omega arith)
-acted-kept id d time s (Finish settle) = finished-kept (d .session) time settle id (d .buys) (d .sells)
+does-kept id d a =
+    does-by (Accounted (wanted a) id d) d a
+    (λ n e. rw e (enter-kept id d n))
+    (λ number e. dropped-kept (wanted a) id d number Asked (sideOf number (d .buys)))
+    (λ s q. omega arith)
+    (λ settle e. finished-kept (wanted a) id d settle)
 
 -- EVERY LOT IS ACCOUNTED FOR, by each event on any day
-pub act-kept : (id : ℕ) (d : Day) (e : Event) → Accounted (wanted (e .act)) id (resting id d) (act d e)
-unfolding act
-act-kept id d e = acted-kept id d (e .time) (clockStep (d .session) (e .time)) (e .act)
+pub act-kept : (id : ℕ) (d : Day) (e : Event) → Accounted (wanted (e .act)) id d (act d e)
+unfolding total
+act-kept id d e =
+    act-by (Accounted (wanted (e .act)) id) (kept-then (wanted (e .act)) id) d e (omega arith) (clock-kept (wanted (e .act)) id d (e .time))
+    (λ d′. does-kept id d′ (e .act))
 
 -- ---- what an act asks for is of the next number
 
-entered-asks : (s : Session) (n : Entry) (id : ℕ) (own₀ : List Order) (w : Swept) →
-    total (askedIn id (n .lots)) (entered s n own₀ w .reports) ≡ mine id (s .given + 1) (n .lots)
-unfolding entered total
-entered-asks s n id own₀ w =
-    let time : ℕ = s .time in
-    let number : ℕ = s .given + 1 in
-    let ts : List Report = tradeReports time (n .side) number (w .fills) in
-    let fs : List Report = fateReports time number (w .left) (fateIn s n w) in
-    omega (
-      arith,
-      total-append (askedIn id (n .lots)) ts fs,
-      trades-nothing (askedIn id (n .lots)) (λ deal. refl) time (n .side) number (w .fills),
-      fate-nothing (askedIn id (n .lots)) (λ o. refl) (λ e. refl) time number (w .left) (fateIn s n w),
-    )
-
-withdrawn-asks : (s : Session) (number id : ℕ) (buys sells : List Order) → total (askedIn id 0) (withdrawn s number buys sells .reports) ≡ 0
-unfolding withdrawn total
-withdrawn-asks s number id buys sells =
-    by (λ (a : Acted). total (askedIn id 0) (a .reports) ≡ 0) (rests number buys) _ _ (λ e. refl) (λ e. refl)
-
-finished-asks : (s : Session) (time settle id : ℕ) (buys sells : List Order) → total (askedIn id 0) (finished s time settle buys sells .reports) ≡ 0
-unfolding finished total
-finished-asks s time settle id buys sells =
-    let end : List Report = closeReport s time settle ∷ [] in
-    omega (
-      arith,
-      total-append (askedIn id 0) (cancelReports time buys) (cancelReports time sells ++ end),
-      total-append (askedIn id 0) (cancelReports time sells) end,
-      cancels-nothing (askedIn id 0) (λ e. refl) time buys,
-      cancels-nothing (askedIn id 0) (λ e. refl) time sells,
-    )
-
-clock-asks : (id lots n : ℕ) (s s′ : Session) (a : Acted) → total (askedIn id lots) (a .reports) ≡ n →
-    total (askedIn id lots) (afterClock s s′ a .reports) ≡ n
-clock-asks id lots n s s′ a h =
-    omega (arith, h, total-append (askedIn id lots) (clockReports s s′) (a .reports), clock-nothing (askedIn id lots) (λ b. refl) (λ p. refl) s s′)
-
-acted-asks : (id : ℕ) (d : Day) (t : ℕ) (a : Act) →
-    askedBy id a (acted d t (clockStep (d .session) t) a .reports) ≡ mine id (d .session .given + 1) (wanted a)
-unfolding clockStep total
-acted-asks id d t (Enter n) =
-    let s : Session = clockStep (d .session) t in
-    let w : Swept = sweepIn s n (across (n .side) d) in
-    clock-asks id (n .lots) (mine id (s .given + 1) (n .lots)) (d .session) s (entered s n (own (n .side) d) w) (entered-asks s n id (own (n .side) d) w)
-acted-asks id d t (Withdraw number) =
-    let s : Session = clockStep (d .session) t in
-    clock-asks id 0 0 (d .session) s (withdrawn s number (d .buys) (d .sells)) (withdrawn-asks s number id (d .buys) (d .sells))
-    ∙ sym (mine-zero id (d .session .given + 1))
-acted-asks id d t (Under price) =
-    let s : Session = clockStep (d .session) t in
-    clock-asks id 0 0 (d .session) s (silent (setUnder s price) d) refl ∙ sym (mine-zero id (d .session .given + 1))
-acted-asks id d t Clock =
-    let s : Session = clockStep (d .session) t in
-    clock-asks id 0 0 (d .session) s (silent s d) refl ∙ sym (mine-zero id (d .session .given + 1))
-acted-asks id d t (Finish settle) =
-    finished-asks (d .session) t settle id (d .buys) (d .sells) ∙ sym (mine-zero id (d .session .given + 1))
+does-asks : (id : ℕ) (d : Day) (a : Act) → askedBy id a (does d a .reports) ≡ mine id (d .session .given + 1) (wanted a)
+unfolding total dropped
+does-asks id d a =
+    let number : ℕ = d .session .given + 1 in
+    let none : wanted a ≡ 0 → 0 ≡ mine id number (wanted a) = λ z. rw z (sym (mine-zero id number)) in
+    does-by (λ (x : Acted). askedBy id a (x .reports) ≡ mine id number (wanted a)) d a
+    (λ n e. entered-asks (d .session) n id (wanted a) (own (n .side) d) _)
+    (λ number e. none (ap wanted e))
+    (λ s q. none (ap (maybe 0 (λ n. n .lots)) (sets-alike q .entry)))
+    (λ settle e. total-none (askedIn id (wanted a)) (ends d settle .reports)
+    (finished-each _ (λ x. refl) (λ c. refl) (d .session) (d .session .time) settle (d .buys) (d .sells)) ∙ none (ap wanted e))
 
 pub act-asks : (id : ℕ) (d : Day) (e : Event) → askedBy id (e .act) (act d e .reports) ≡ mine id (d .session .given + 1) (wanted (e .act))
-unfolding act
-act-asks id d e = acted-asks id d (e .time) (e .act)
+unfolding total clockStep
+act-asks id d e =
+    begun-by (λ (x : Acted). askedBy id (e .act) (x .reports) ≡ mine id (d .session .given + 1) (wanted (e .act))) d e
+    (λ h. does-asks id (timed d (e .time) .day) (e .act))
+    (λ h. let f : Said → ℕ = askedIn id (wanted (e .act)) in let s : Session = d .session in let s′ : Session = clockStep s (e .time) in
+    omega (
+      arith,
+      total-append f (clockReports s s′) (does (dayBy s′ d) (e .act) .reports),
+      total-none f (clockReports s s′) (clock-each _ (λ b. refl) (λ p. refl) s s′),
+      does-asks id (dayBy s′ d) (e .act),
+    ))

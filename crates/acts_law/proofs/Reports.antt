@@ -13,7 +13,7 @@ use Rattle.terms.specs.declared.Order.{Order}
 use Rattle.terms.specs.declared.Report.{Report}
 use Rattle.terms.specs.declared.Said.{Said}
 use Rattle.terms.specs.declared.Said.the-variants.{Slab}
-use Rattle.terms.specs.declared.Why.the-variants.{DayEnd}
+use Rattle.terms.specs.declared.Why.{Why}
 use Rattle.terms.specs.Sizes.{recordLength}
 use Rattle.terms.specs.Records.{recordOf, recordsOf}
 use Rattle.tables.specs.Put.{put}
@@ -86,43 +86,43 @@ module _ (room : List ℕ) (at : ℕ) (b : Bool) (r : Report) (room₁ : List �
 
 -- ---- the cancels of a side, order after order
 
-pub length-cancels : (time : ℕ) (os : List Order) → length (cancelReports time os) ≡ length os
+pub length-cancels : (why : Why) (time : ℕ) (os : List Order) → length (cancelReports why time os) ≡ length os
 unfolding cancelReports
-length-cancels time [] = refl
-length-cancels time (o ∷ os) = omega (arith, length-cancels time os)
+length-cancels why time [] = refl
+length-cancels why time (o ∷ os) = omega (arith, length-cancels why time os)
 
-cancels-append : (time : ℕ) (xs ys : List Order) → cancelReports time (xs ++ ys) ≡ cancelReports time xs ++ cancelReports time ys
+cancels-append : (why : Why) (time : ℕ) (xs ys : List Order) → cancelReports why time (xs ++ ys) ≡ cancelReports why time xs ++ cancelReports why time ys
 unfolding cancelReports
-cancels-append time [] ys = refl
-cancels-append time (o ∷ xs) ys = ap (λ (l : List Report). ended time (o .number) (o .lots) DayEnd ∷ l) (cancels-append time xs ys)
+cancels-append why time [] ys = refl
+cancels-append why time (o ∷ xs) ys = ap (λ (l : List Report). ended time (o .number) (o .lots) why ∷ l) (cancels-append why time xs ys)
 
-pub cancels-none : (room : List ℕ) (at time n : ℕ) (t : List ℕ) → Written room at (cancelReports time (take 0 (decode n t))) room at
+pub cancels-none : (room : List ℕ) (at : ℕ) (why : Why) (time n : ℕ) (t : List ℕ) → Written room at (cancelReports why time (take 0 (decode n t))) room at
 unfolding cancelReports
-cancels-none room at time n t = written-none room at
+cancels-none room at why time n t = written-none room at
 
 -- the first i orders are told
-module _ (room : List ℕ) (at time n : ℕ) (t : List ℕ) (i : ℕ) (room₁ : List ℕ) (next : ℕ)
-    (w : Written room at (cancelReports time (take i (decode n t))) room₁ next) where
-  pub cancels-all : i ≤ n → n ≤ i → Written room at (cancelReports time (decode n t)) room₁ next
+module _ (room : List ℕ) (at : ℕ) (why : Why) (time n : ℕ) (t : List ℕ) (i : ℕ) (room₁ : List ℕ) (next : ℕ)
+    (w : Written room at (cancelReports why time (take i (decode n t))) room₁ next) where
+  pub cancels-all : i ≤ n → n ≤ i → Written room at (cancelReports why time (decode n t)) room₁ next
   cancels-all g k = rw (take-all i (decode n t) (omega (arith, length-decode n t))) at w
 
   module _ (g : i < n) (h : at + recordLength * n ≤ length room) where
-    so-many : length (cancelReports time (take i (decode n t))) ≡ i
-    so-many = length-cancels time (take i (decode n t)) ∙ simp length-take (omega (arith, length-decode n t))
+    so-many : length (cancelReports why time (take i (decode n t))) ≡ i
+    so-many = length-cancels why time (take i (decode n t)) ∙ simp length-take (omega (arith, length-decode n t))
 
-    below : at + recordLength * length (cancelReports time (take i (decode n t))) ≤ length room
+    below : at + recordLength * length (cancelReports why time (take i (decode n t))) ≤ length room
     below = omega (arith, so-many)
 
     pub cancels-leave : next + recordLength ≤ length room₁
-    cancels-leave = omega (arith, so-many, w .behind, written-length room at (cancelReports time (take i (decode n t))) room₁ next w below)
+    cancels-leave = omega (arith, so-many, w .behind, written-length room at (cancelReports why time (take i (decode n t))) room₁ next w below)
 
     module _ (o : Order) (d : o ≡ orderAt t i) where
       one-more : take (i + 1) (decode n t) ≡ take i (decode n t) ++ (o ∷ [])
       one-more = rw (take-add i 1 (decode n t), decode-read n t i o g d)
 
-      pub cancels-turn : (room₂ : List ℕ) (m : ℕ) → Written room₁ next (ended time (o .number) (o .lots) DayEnd ∷ []) room₂ m →
-          Written room at (cancelReports time (take (i + 1) (decode n t))) room₂ m
+      pub cancels-turn : (room₂ : List ℕ) (m : ℕ) → Written room₁ next (ended time (o .number) (o .lots) why ∷ []) room₂ m →
+          Written room at (cancelReports why time (take (i + 1) (decode n t))) room₂ m
       unfolding cancelReports
       cancels-turn room₂ m v =
-          rw (one-more, cancels-append time (take i (decode n t)) (o ∷ []))
-          (written-then room at (cancelReports time (take i (decode n t))) room₁ next (ended time (o .number) (o .lots) DayEnd ∷ []) room₂ m w v below)
+          rw (one-more, cancels-append why time (take i (decode n t)) (o ∷ []))
+          (written-then room at (cancelReports why time (take i (decode n t))) room₁ next (ended time (o .number) (o .lots) why ∷ []) room₂ m w v below)

@@ -15,16 +15,16 @@ use Rattle.terms.specs.declared.Order.{Order}
 use Rattle.terms.specs.declared.Entry.{Entry}
 use Rattle.terms.specs.declared.Event.{Event}
 use Rattle.terms.specs.declared.Act.{Act}
-use Rattle.terms.specs.declared.Act.the-variants.{Enter, Withdraw, Under, Clock, Finish}
 use Rattle.terms.specs.declared.Side.{Side}
 use Rattle.terms.specs.declared.Side.the-variants.{Buy, Sell}
 use Rattle.terms.specs.declared.Report.{Report}
 use Rattle.terms.specs.declared.Said.the-variants.{Accept, Trade, Convert, Cancel, Slab, Ref, Close}
+use Rattle.terms.specs.declared.Why.{Why}
 use Rattle.terms.specs.declared.Why.the-variants.{Asked, DayEnd}
 use Rattle.terms.proofs.Logic.{by, split, cond-true}
 use Rattle.rules_law.specs.Slabs.{slabOf, percentOf, bandAt, inBand, overBy}
 use Rattle.rules_law.specs.Reference.{inRange}
-use Rattle.book_law.specs.Priority.{rests}
+use Rattle.book_law.specs.Priority.{removed, leftOf}
 use Rattle.book_law.specs.Matching.{Taker, taker, Swept, sweep, reportAt, dealOf, tradeReports, Fate, Done, Rests, Turns, Ends, settled, fateReports}
 use Rattle.book_law.specs.Over.{Each, EachPrice}
 use Rattle.book_law.proofs.Over.{each-map}
@@ -32,7 +32,7 @@ use Rattle.book_law.proofs.Fills.{Dealable, fills-dealable, each-swept}
 use Rattle.audit_law.specs.Sound.{OrderFits, BookFits}
 use Rattle.audit_law.proofs.Facts.{book-fits, each-fits}
 use Rattle.state_law.specs.declared.Session.{Session}
-use Rattle.state_law.specs.Set.{setUnder, setGiven}
+use Rattle.state_law.specs.Set.{setTime, setGiven}
 use Rattle.state_law.specs.Now.{percentNow, bandNow, rangeNow}
 use Rattle.state_law.specs.Clock.{widenedBy, coolingBy, clockStep}
 use Rattle.state_law.specs.Trades.{withTrade, withTrades}
@@ -42,8 +42,9 @@ use Rattle.state_law.proofs.Leaves.{percent-changes, trades-leave}
 use Rattle.soundness_law.specs.Sound.{sound}
 use Rattle.soundness_law.proofs.Kept.{not-widened}
 use Rattle.soundness_law.proofs.Days.{sound-day}
-use Rattle.acts_law.specs.Acts.{Acted, only, clockReports, sweepIn, fateIn, entered, ended, withdrawn, silent, cancelReports, finished, afterClock, acted, act}
+use Rattle.acts_law.specs.Acts.{Acted, only, slabMoved, refMoved, clockReports, sweepIn, fateIn, entered, ended, dropped, sideOf, cancelReports, finished, stepped, timed, does, act}
 use Rattle.acts_law.specs.Heard.{initialBand, enhancedBand, touchedBy}
+use Rattle.acts_law.proofs.Does.{Sets, setsUnder, setsNone, sets-alike, ends, does-by, across-by, Chains, begun-by}
 use Rattle.acts_law.proofs.Hears.{Listener, listen, FineSaid, Cooled, Knows, KnowsOf, Tells, TellsOf, none-tells, next-tells, one-tells, append-tells, later-by, cooled-more, cooled-trade, knows-more}
 
 -- ---- the clock steps
@@ -104,7 +105,7 @@ clock-tells s t l h i k =
     let s′ : Session = clockStep s t in
     append-tells g (bandNow s′) (s .reckoning .reference) t (s′ .cooling) (bandNow s′) (s′ .reckoning .reference) t (s′ .cooling) l _ _
     (slab-tells g l (bandNow s) (bandNow s′) (s .reckoning .reference) (s .time) t (s .cooling) (s′ .cooling)
-    (not (eqb (percentNow s) (percentNow s′))) k h
+    (slabMoved s s′) k h
     (λ e. ap (bandAt (g .base) (g .tick)) (unchanged (percentNow s) (percentNow s′) e))
     (λ e. let over : overBy (s .cooling) t ≡ true = percent-changes s t e in let bands = over-widens s t i over in record {
       touched = over-touched g (s .cooling) t (l .past) (k .cooled) over;
@@ -114,7 +115,7 @@ clock-tells s t l h i k =
     })
     (cooled-clock g (s .cooling) t (l .past) (k .cooled)))
     (λ m. ref-tells g _ (bandNow s′) (s .reckoning .reference) (s′ .reckoning .reference) t (s′ .cooling)
-    (not (eqb (s .reckoning .reference) (s′ .reckoning .reference))) m
+    (refMoved s s′) m
     (λ e. unchanged (s .reckoning .reference) (s′ .reckoning .reference) e))
 
 -- ---- trades
@@ -177,12 +178,12 @@ module _ (g : Settings) (b : Band) (p c : ℕ) where
       Tells g (listen l r) rs b p (r .time) c → Tells g l (r ∷ rs) b p (r .time) c
   cancel-next r rs l f k m = next-tells g b p (r .time) c l r rs (k .time-past, f) m
 
-  cancels-tell : (t : ℕ) (os : List Order) (l : Listener) → Knows g l b p t c → Tells g l (cancelReports t os) b p t c
+  cancels-tell : (why : Why) (t : ℕ) (os : List Order) (l : Listener) → Knows g l b p t c → Tells g l (cancelReports why t os) b p t c
   unfolding cancelReports
-  cancels-tell t [] l k = none-tells g b p t c l k
-  cancels-tell t (o ∷ os) l k =
-      let r : Report = ended t (o .number) (o .lots) DayEnd in
-      cancel-next r (cancelReports t os) l tt k (cancels-tell t os (listen l r) (knows-more g l r b p c (λ x. refl) (λ x. refl) k))
+  cancels-tell why t [] l k = none-tells g b p t c l k
+  cancels-tell why t (o ∷ os) l k =
+      let r : Report = ended t (o .number) (o .lots) why in
+      cancel-next r (cancelReports why t os) l tt k (cancels-tell why t os (listen l r) (knows-more g l r b p c (λ x. refl) (λ x. refl) k))
 
   close-tells : (t : ℕ) (closing : Closing) (l : Listener) → Knows g l b p t c → Tells g l (reportAt t (Close closing) ∷ []) b p t c
   close-tells t closing l k =
@@ -233,44 +234,58 @@ entered-tells s n mine w l k p =
 
 -- ---- the other acts
 
-withdrawn-tells : (s : Session) (number : ℕ) (buys sells : List Order) (l : Listener) → KnowsOf (s .settings) l s →
-    TellsOf (s .settings) l (withdrawn s number buys sells .reports) (withdrawn s number buys sells .day .session)
-unfolding withdrawn
-withdrawn-tells s number buys sells l k =
-    let one : (lots : ℕ) → TellsOf (s .settings) l (ended (s .time) number lots Asked ∷ []) s =
-    λ lots. (let r : Report = ended (s .time) number lots Asked in
-    plain-tells (s .settings) (bandNow s) (s .reckoning .reference) (s .cooling) l r tt k
-    (knows-more (s .settings) l r (bandNow s) (s .reckoning .reference) (s .cooling) (λ x. refl) (λ x. refl) k)) in
-    by (λ (a : Acted). TellsOf (s .settings) l (a .reports) (a .day .session)) (rests number buys) _ _
-    (λ e. one _)
-    (λ e. one _)
+dropped-tells : (s : Session) (number : ℕ) (why : Why) (side : Side) (mine theirs : List Order) (l : Listener) → KnowsOf (s .settings) l s →
+    TellsOf (s .settings) l (dropped s number why side mine theirs .reports) (dropped s number why side mine theirs .day .session)
+unfolding dropped
+dropped-tells s number why side mine theirs l k =
+    let r : Report = ended (s .time) number (leftOf number mine) why in
+    tells-with (s .settings) l (r ∷ []) side s (removed number mine) theirs
+    (plain-tells (s .settings) (bandNow s) (s .reckoning .reference) (s .cooling) l r tt k
+    (knows-more (s .settings) l r (bandNow s) (s .reckoning .reference) (s .cooling) (λ x. refl) (λ x. refl) k))
 
-finished-tells : (s : Session) (t settle : ℕ) (buys sells : List Order) (l : Listener) → s .time ≤ t → KnowsOf (s .settings) l s →
-    TellsOf (s .settings) l (finished s t settle buys sells .reports) (finished s t settle buys sells .day .session)
+-- an act that only sets the session: the underlying is no concern of a listener
+sets-tells : {s s′ : Session} {a : Act} → Sets s a s′ → (l : Listener) → KnowsOf (s .settings) l s → TellsOf (s .settings) l [] s′
+sets-tells {s} (setsUnder price) l k = none-tells (s .settings) _ _ _ _ l k
+sets-tells {s} setsNone l k = none-tells (s .settings) _ _ _ _ l k
+
+ends-tells : (d : Day) (settle : ℕ) (l : Listener) → KnowsOf (d .session .settings) l (d .session) →
+    TellsOf (d .session .settings) l (ends d settle .reports) (ends d settle .day .session)
 unfolding finished
-finished-tells s t settle buys sells l h k =
+ends-tells d settle l k =
+    let s : Session = d .session in
     let g : Settings = s .settings in
     let b : Band = bandNow s in
     let p : ℕ = s .reckoning .reference in
+    let t : ℕ = s .time in
     let c : ℕ = s .cooling in
-    let now : Knows g l b p t c = record {
-      band-same = k .band-same;
-      reference-same = k .reference-same;
-      time-past = omega (arith, k .time-past);
-      cooled = k .cooled;
-    } in
-    append-tells g b p t c b p t c l (cancelReports t buys) _ (cancels-tell g b p c t buys l now)
-    (λ m. append-tells g b p t c b p t c _ (cancelReports t sells) _ (cancels-tell g b p c t sells _ m)
+    append-tells g b p t c b p t c l (cancelReports DayEnd t (d .buys)) _ (cancels-tell g b p c DayEnd t (d .buys) l k)
+    (λ m. append-tells g b p t c b p t c _ (cancelReports DayEnd t (d .sells)) _ (cancels-tell g b p c DayEnd t (d .sells) _ m)
     (λ q. close-tells g b p c t _ _ q))
 
--- the act's reports behind those of the clock steps
-clock-then : (s : Session) (t : ℕ) (l : Listener) (a : Acted) → s .time ≤ t → (eqb (s .widened) 0 || eqb (s .cooling) 0) ≡ true → KnowsOf (s .settings) l s →
-    ((l′ : Listener) → KnowsOf (s .settings) l′ (clockStep s t) → TellsOf (s .settings) l′ (a .reports) (a .day .session)) →
-    TellsOf (s .settings) l (afterClock s (clockStep s t) a .reports) (a .day .session)
-clock-then s t l a h i k f =
-    let s′ : Session = clockStep s t in
-    append-tells (s .settings) (bandNow s′) (s′ .reckoning .reference) (s′ .time) (s′ .cooling) (bandNow (a .day .session)) (a .day .session .reckoning .reference)
-    (a .day .session .time) (a .day .session .cooling) l (clockReports s s′) (a .reports) (clock-tells s t l h i k) (λ m. f _ m)
+-- ---- an act
+
+-- what a listener can tell from what is done on a day
+abbrev Heard : Settings → Day → Acted → Type 0
+Heard g d a = (l : Listener) → KnowsOf g l (d .session) → TellsOf g l (a .reports) (a .day .session)
+
+heard-then : (g : Settings) → Chains (Heard g)
+heard-then g d a b h k l m =
+    let s : Session = a .day .session in
+    let s′ : Session = b .day .session in
+    append-tells g (bandNow s) (s .reckoning .reference) (s .time) (s .cooling) (bandNow s′) (s′ .reckoning .reference) (s′ .time) (s′ .cooling)
+    l (a .reports) (b .reports) (h l m) (λ q. k _ q)
+
+-- the orders across are in the band
+abbrev Banded : Day → Type 0
+Banded d = (side : Side) → EachPrice (λ p. inBand (bandNow (d .session)) p ≡ true) (across side d)
+
+does-tells : (d : Day) (a : Act) → Banded d → Heard (d .session .settings) d (does d a)
+does-tells d a h =
+    does-by (Heard (d .session .settings) d) d a
+    (λ n e l k. entered-tells (d .session) n (own (n .side) d) _ l k (fills-good (d .session) n (across (n .side) d) (h (n .side))))
+    (λ number e l k. dropped-tells (d .session) number Asked (sideOf number (d .buys)) _ _ l k)
+    (λ s q l k. sets-tells q l k)
+    (λ settle e l k. ends-tells d settle l k)
 
 -- ---- an event
 
@@ -292,42 +307,37 @@ across-banded side d h =
     banded Sell s f = inside s (d .buys) (each-fits (s .given) (s .settings .tick) (bandNow s) (d .buys) (f .each-buy))
 
 -- and stay in it over the clock steps
-still-banded : (side : Side) (d : Day) (t : ℕ) → sound d ≡ true →
-    EachPrice (λ p. inBand (bandNow (clockStep (d .session) t)) p ≡ true) (across side d)
-still-banded side d t h =
-    each-map (λ o. inBand (bandNow (d .session)) (o .price) ≡ true) (λ o. inBand (bandNow (clockStep (d .session) t)) (o .price) ≡ true)
-    (λ o e. band-stays (d .session) t (o .price) e) (across side d) (across-banded side d h)
+still-banded : (d : Day) (t : ℕ) → sound d ≡ true → Banded (stepped d t .day)
+still-banded d t h side =
+    rw (across-by side (clockStep (d .session) t) d)
+    (each-map (λ o. inBand (bandNow (d .session)) (o .price) ≡ true) (λ o. inBand (bandNow (clockStep (d .session) t)) (o .price) ≡ true)
+    (λ o e. band-stays (d .session) t (o .price) e) (across side d) (across-banded side d h))
+
+timed-banded : (d : Day) (t : ℕ) → sound d ≡ true → Banded (timed d t .day)
+timed-banded d t h side = rw (across-by side (setTime (d .session) t) d) (across-banded side d h)
+
+-- the time alone
+timed-tells : (d : Day) (t : ℕ) → d .session .time ≤ t → Heard (d .session .settings) d (timed d t)
+timed-tells d t m l k =
+    none-tells (d .session .settings) _ _ t _ l
+    (record { band-same = k .band-same; reference-same = k .reference-same; time-past = omega (arith, k .time-past); cooled = k .cooled })
 
 -- a cooling-off runs only in the initial slab
 slab-initial : (d : Day) → sound d ≡ true → (eqb (d .session .widened) 0 || eqb (d .session .cooling) 0) ≡ true
 slab-initial d h = sound-day d h .parts .timed .initial
 
-acted-tells : (d : Day) (t : ℕ) (a : Act) (l : Listener) → sound d ≡ true → d .session .time ≤ t → KnowsOf (d .session .settings) l (d .session) →
-    TellsOf (d .session .settings) l (acted d t (clockStep (d .session) t) a .reports) (acted d t (clockStep (d .session) t) a .day .session)
-unfolding clockStep
-acted-tells d t (Enter n) l h m k =
-    let s : Session = clockStep (d .session) t in
-    let w : Swept = sweepIn s n (across (n .side) d) in
-    clock-then (d .session) t l (entered s n (own (n .side) d) w) m (slab-initial d h) k
-    (λ l′ k′. entered-tells s n (own (n .side) d) w l′ k′ (fills-good s n (across (n .side) d) (still-banded (n .side) d t h)))
-acted-tells d t (Withdraw number) l h m k =
-    let s : Session = clockStep (d .session) t in
-    clock-then (d .session) t l (withdrawn s number (d .buys) (d .sells)) m (slab-initial d h) k (λ l′ k′. withdrawn-tells s number (d .buys) (d .sells) l′ k′)
-acted-tells d t (Under price) l h m k =
-    let s : Session = clockStep (d .session) t in
-    clock-then (d .session) t l (silent (setUnder s price) d) m (slab-initial d h) k
-    (λ l′ k′. none-tells (d .session .settings) (bandNow s) (s .reckoning .reference) (s .time) (s .cooling) l′ k′)
-acted-tells d t Clock l h m k =
-    let s : Session = clockStep (d .session) t in
-    clock-then (d .session) t l (silent s d) m (slab-initial d h) k
-    (λ l′ k′. none-tells (d .session .settings) (bandNow s) (s .reckoning .reference) (s .time) (s .cooling) l′ k′)
-acted-tells d t (Finish settle) l h m k = finished-tells (d .session) t settle (d .buys) (d .sells) l m k
-
 -- EACH REPORT IS FINE by what was told before it
 pub act-tells : (d : Day) (e : Event) (l : Listener) → sound d ≡ true → d .session .time ≤ e .time → KnowsOf (d .session .settings) l (d .session) →
     TellsOf (d .session .settings) l (act d e .reports) (act d e .day .session)
-unfolding act
-act-tells d e l h m k = acted-tells d (e .time) (e .act) l h m k
+unfolding clockStep
+act-tells d e l h m k =
+    let g : Settings = d .session .settings in
+    begun-by (Heard g d) d e
+    (λ z. heard-then g d (timed d (e .time)) (does (timed d (e .time) .day) (e .act)) (timed-tells d (e .time) m)
+    (does-tells (timed d (e .time) .day) (e .act) (timed-banded d (e .time) h)))
+    (λ z. heard-then g d (stepped d (e .time)) (does (stepped d (e .time) .day) (e .act)) (λ l k. clock-tells (d .session) (e .time) l m (slab-initial d h) k)
+    (does-tells (stepped d (e .time) .day) (e .act) (still-banded d (e .time) h)))
+    l k
 
 -- ---- the settings stay, and the time is the event's
 
@@ -335,27 +345,25 @@ pub record Moved (s : Session) (t : ℕ) (s′ : Session) : Type 0 where
   pub settings : s′ .settings ≡ s .settings
   pub time : s′ .time ≡ t
 
-acted-moved : (d : Day) (t : ℕ) (a : Act) → Moved (d .session) t (acted d t (clockStep (d .session) t) a .day .session)
-unfolding clockStep entered withdrawn finished
-acted-moved d t (Enter n) =
-    let s : Session = clockStep (d .session) t in
-    let w : Swept = sweepIn s n (across (n .side) d) in
-    let number : ℕ = s .given + 1 in
-    let u = trades-leave (setGiven s number) (w .fills) in
-    moved-with (n .side) (d .session) t (withTrades (setGiven s number) (w .fills)) _ _ (u .settings) (u .time)
-  where
-    moved-with : (side : Side) (s₀ : Session) (t : ℕ) (s : Session) (mine theirs : List Order) → s .settings ≡ s₀ .settings → s .time ≡ t →
-        Moved s₀ t (dayWith side s mine theirs .session)
-    moved-with Buy s₀ t s mine theirs e f = record { settings = e; time = f }
-    moved-with Sell s₀ t s mine theirs e f = record { settings = e; time = f }
-acted-moved d t (Withdraw number) =
-    by (λ (a : Acted). Moved (d .session) t (a .day .session)) (rests number (d .buys)) _ _
-    (λ e. record { settings = refl; time = refl })
-    (λ e. record { settings = refl; time = refl })
-acted-moved d t (Under price) = record { settings = refl; time = refl }
-acted-moved d t Clock = record { settings = refl; time = refl }
-acted-moved d t (Finish settle) = record { settings = refl; time = refl }
+moved-with : (side : Side) (s₀ : Session) (t : ℕ) (s : Session) (mine theirs : List Order) → s .settings ≡ s₀ .settings → s .time ≡ t →
+    Moved s₀ t (dayWith side s mine theirs .session)
+moved-with Buy s₀ t s mine theirs e f = record { settings = e; time = f }
+moved-with Sell s₀ t s mine theirs e f = record { settings = e; time = f }
+
+does-moved : (d : Day) (a : Act) → Moved (d .session) (d .session .time) (does d a .day .session)
+unfolding entered dropped finished
+does-moved d a =
+    let s : Session = d .session in
+    does-by (λ (x : Acted). Moved s (s .time) (x .day .session)) d a
+    (λ n e. let u = trades-leave (setGiven s (s .given + 1)) (sweepIn s n (across (n .side) d) .fills) in
+    moved-with (n .side) s (s .time) (withTrades (setGiven s (s .given + 1)) _) _ _ (u .settings) (u .time))
+    (λ number e. moved-with (sideOf number (d .buys)) s (s .time) s _ _ refl refl)
+    (λ s′ q. record { settings = sets-alike q .settings; time = sets-alike q .time })
+    (λ settle e. record { settings = refl; time = refl })
 
 pub act-moved : (d : Day) (e : Event) → Moved (d .session) (e .time) (act d e .day .session)
-unfolding act
-act-moved d e = acted-moved d (e .time) (e .act)
+unfolding clockStep
+act-moved d e =
+    begun-by (λ (x : Acted). Moved (d .session) (e .time) (x .day .session)) d e
+    (λ h. let m = does-moved (timed d (e .time) .day) (e .act) in record { settings = m .settings; time = m .time })
+    (λ h. let m = does-moved (stepped d (e .time) .day) (e .act) in record { settings = m .settings; time = m .time })

@@ -2,8 +2,8 @@
 -- prices. Each is within a bound that the refusals or a sound session give.
 use Prim.Native.Nat.{ℕ, _+_, _≤_, _<_}
 use native.Mathlib.Omega.{arith}
-use mathlib.Core.Path.{_≡_, refl}
-use mathlib.Core.Bool.{Bool, true, false, not}
+use mathlib.Core.Path.{_≡_, ap}
+use mathlib.Core.Bool.{Bool, true, false}
 use mathlib.Core.List.{List, [], _∷_, _++_}
 use lib.Dec.{eqb}
 use lib.ListN.{length}
@@ -12,7 +12,6 @@ use Rattle.terms.specs.declared.Order.{Order}
 use Rattle.terms.specs.declared.Entry.{Entry}
 use Rattle.terms.specs.declared.Event.{Event}
 use Rattle.terms.specs.declared.Act.{Act}
-use Rattle.terms.specs.declared.Act.the-variants.{Enter, Withdraw, Under, Clock, Finish}
 use Rattle.terms.specs.declared.Kind.{Kind}
 use Rattle.terms.specs.declared.Kind.the-variants.{Limit, Market}
 use Rattle.terms.specs.declared.Life.{Life}
@@ -31,7 +30,7 @@ use Rattle.terms.proofs.Logic.{by, between-facts}
 use Rattle.terms.proofs.Valid.{valid-facts}
 use Rattle.rules_law.specs.Slabs.{inBand}
 use Rattle.rules_law.proofs.Bands.{low-small, high-small}
-use Rattle.book_law.specs.Priority.{rests, leftOf}
+use Rattle.book_law.specs.Priority.{leftOf}
 use Rattle.book_law.specs.Matching.{Swept, reportAt, dealOf, tradeReports, Fate, ownLastOr, fateOfLeft, fateOf, fateReports}
 use Rattle.book_law.specs.Over.{Each}
 use Rattle.book_law.proofs.Over.{each-map}
@@ -39,17 +38,18 @@ use Rattle.book_law.proofs.Conserve.{Conserved, sweep-conserves}
 use Rattle.audit_law.specs.Sound.{OrderFits, BookFits}
 use Rattle.audit_law.proofs.Facts.{book-fits, each-fits}
 use Rattle.state_law.specs.declared.Session.{Session}
-use Rattle.state_law.specs.Now.{percentNow, bandNow}
-use Rattle.state_law.specs.Clock.{clockStep}
+use Rattle.state_law.specs.Now.{bandNow}
 use Rattle.state_law.specs.Day.{Day, own, across}
 use Rattle.soundness_law.specs.Sound.{sound}
 use Rattle.soundness_law.proofs.Parts.{Parts}
 use Rattle.soundness_law.proofs.Days.{BookOf, sound-day, now-priced}
 use Rattle.soundness_law.proofs.Closes.{close-small, base-small}
-use Rattle.refusal_law.proofs.Accepted.{Accepted, time-right, lots-right, price-right, number-right, numbers-left}
-use Rattle.acts_law.specs.Acts.{Acted, only, clockReports, sweepIn, fateIn, entered, ended, withdrawn, cancelReports, closeReport, finished, acted, act}
+use Rattle.refusal_law.specs.Carried.{carries}
+use Rattle.refusal_law.proofs.Accepted.{Accepted, time-right, price-right, number-right}
+use Rattle.acts_law.specs.Acts.{Acted, only, slabMoved, slabReport, refMoved, refReport, clockReports, sweepIn, fateIn, entered, ended, dropped, sideOf, withdrawn, silent, cancelReports, closeReport, finished, andThen, stepped, timed, act}
 use Rattle.acts_law.specs.Small.{AllSmall, SmallReport, SmallReports}
-use Rattle.acts_law.proofs.Stays.{Ready, fills-fit, begins}
+use Rattle.acts_law.proofs.Does.{sets-alike, enters, ends, event-by}
+use Rattle.acts_law.proofs.Stays.{Ready, fills-fit, Let, begins, lets}
 
 -- ---- one report
 
@@ -103,13 +103,13 @@ only-small false r h = tt
 
 -- ---- the clock steps
 
-slab-small : (s : Session) → Parts s → SmallReport (reportAt (s .time) (Slab (bandNow s)))
+slab-small : (s : Session) → Parts s → SmallReport (slabReport s)
 slab-small s p =
     let f = now-priced s (valid-facts (s .settings) (p .valid)) in
     said-small (s .time) (Slab (bandNow s)) (p .timed .most)
     (four (bandNow s .low) (bandNow s .high) 0 0 (omega (arith, low-small f)) (omega (arith, high-small f)) (omega arith) (omega arith))
 
-ref-small : (s : Session) → Parts s → SmallReport (reportAt (s .time) (Ref (s .reckoning .reference)))
+ref-small : (s : Session) → Parts s → SmallReport (refReport s)
 ref-small s p =
     said-small (s .time) (Ref (s .reckoning .reference)) (p .timed .most)
     (four (s .reckoning .reference) 0 0 0 (omega (arith, p .numbered .reference-small)) (omega arith) (omega arith) (omega arith))
@@ -117,13 +117,9 @@ ref-small s p =
 clock-small : (s s′ : Session) → Parts s′ → SmallReports (clockReports s s′)
 unfolding clockReports
 clock-small s s′ p =
-    append-small (only (not (eqb (percentNow s) (percentNow s′))) _) (only (not (eqb (s .reckoning .reference) (s′ .reckoning .reference))) _)
-    (only-small (not (eqb (percentNow s) (percentNow s′))) _ (slab-small s′ p))
-    (only-small (not (eqb (s .reckoning .reference) (s′ .reckoning .reference))) _ (ref-small s′ p))
-
--- the act's reports behind those of the clock steps
-after-small : (s s′ : Session) (rs : List Report) → Parts s′ → SmallReports rs → SmallReports (clockReports s s′ ++ rs)
-after-small s s′ rs p h = append-small (clockReports s s′) rs (clock-small s s′ p) h
+    append-small (only (slabMoved s s′) (slabReport s′)) (only (refMoved s s′) (refReport s′))
+    (only-small (slabMoved s s′) (slabReport s′) (slab-small s′ p))
+    (only-small (refMoved s s′) (refReport s′) (ref-small s′ p))
 
 -- ---- an order
 
@@ -195,21 +191,21 @@ swept-left s n theirs =
     let c : Conserved (n .lots) theirs (sweepIn s n theirs) = sweep-conserves _ 0 (n .lots) theirs in
     omega (arith, c .incoming)
 
-entered-small : (s : Session) (n : Entry) (d : Day) → Ready s d → n .lots ≤ lotsMost → s .given < numbersMost →
-    SmallReports (entered s n (own (n .side) d) (sweepIn s n (across (n .side) d)) .reports)
+entered-small : (d : Day) (n : Entry) → Let d n → SmallReports (enters d n .reports)
 unfolding entered fateIn sweepIn SmallReports
-entered-small s n d r few g =
+entered-small d n r =
+    let s : Session = d .session in
     let side : Side = n .side in
     let w : Swept = sweepIn s n (across side d) in
     let number : ℕ = s .given + 1 in
-    let p : Parts s = r .parts in
+    let p : Parts s = r .day .parts in
     let f = now-priced s (valid-facts (s .settings) (p .valid)) in
-    let given : number ≤ numbersMost = omega arith in
-    let left : w .left ≤ lotsMost = omega (arith, swept-left s n (across side d)) in (
+    let given : number ≤ numbersMost = omega (arith, r .given-few) in
+    let left : w .left ≤ lotsMost = omega (arith, swept-left s n (across side d), r .admitted .few) in (
       accept-small (s .time) number (p .timed .most) given,
       append-small (tradeReports (s .time) side number (w .fills)) (fateReports (s .time) number (w .left) (fateIn s n w))
           (trades-small (s .time) side number (w .fills) (p .timed .most) given
-          (each-small s (w .fills) p (fills-fit s d (r .book) (n .life) (n .kind) _ (n .lots) side)))
+          (each-small s (w .fills) p (fills-fit s d (r .day .book) (n .life) (n .kind) _ (n .lots) side)))
           (fate-small (s .time) number (w .left) (p .timed .most) given left (bandNow s) (omega (arith, high-small f)) (n .life) (n .kind) _ w),
     )
 
@@ -235,24 +231,24 @@ books s d p b =
       sells = each-small s (d .sells) p (each-fits (s .given) (s .settings .tick) (bandNow s) (d .sells) (f .each-sell));
     }
 
-withdrawn-small : (s : Session) (number : ℕ) (d : Day) → Ready s d → number ≤ numbersMost →
-    SmallReports (withdrawn s number (d .buys) (d .sells) .reports)
-unfolding withdrawn
-withdrawn-small s number d r n =
-    let k : Books d = books s d (r .parts) (r .book) in
-    let one : (lots : ℕ) → lots ≤ lotsMost → SmallReports (ended (s .time) number lots Asked ∷ []) =
-    λ lots l. one-small (ended (s .time) number lots Asked) (cancel-small (s .time) number lots Asked (r .parts .timed .most) n l) in
-    by (λ (a : Acted). SmallReports (a .reports)) (rests number (d .buys)) _ _
-    (λ e. one (leftOf number (d .buys)) (left-of-small number (d .buys) (k .buys)))
-    (λ e. one (leftOf number (d .sells)) (left-of-small number (d .sells) (k .sells)))
+own-small : (side : Side) (d : Day) → Books d → Each Small (own side d)
+own-small Buy d k = k .buys
+own-small Sell d k = k .sells
 
-cancels-small : (t : ℕ) (os : List Order) → t ≤ timeMost → Each Small os → SmallReports (cancelReports t os)
+dropped-small : (d : Day) (number : ℕ) (why : Why) (side : Side) → Ready d → number ≤ numbersMost →
+    SmallReports (dropped (d .session) number why side (own side d) (across side d) .reports)
+unfolding dropped
+dropped-small d number why side r n =
+    one-small _ (cancel-small (d .session .time) number (leftOf number (own side d)) why (r .parts .timed .most) n
+    (left-of-small number (own side d) (own-small side d (books (d .session) d (r .parts) (r .book)))))
+
+cancels-small : (why : Why) (t : ℕ) (os : List Order) → t ≤ timeMost → Each Small os → SmallReports (cancelReports why t os)
 unfolding cancelReports SmallReports
-cancels-small t [] h e = tt
-cancels-small t (o ∷ os) h e = (cancel-small t (o .number) (o .lots) DayEnd h (e .0 .number) (e .0 .lots), cancels-small t os h (e .1))
+cancels-small why t [] h e = tt
+cancels-small why t (o ∷ os) h e = (cancel-small t (o .number) (o .lots) why h (e .0 .number) (e .0 .lots), cancels-small why t os h (e .1))
 
 finished-small : (d : Day) (t settle : ℕ) → sound d ≡ true → t ≤ timeMost → settle ≤ priceMost → length (d .session .tape .prices) ≡ 10 →
-    SmallReports (finished (d .session) t settle (d .buys) (d .sells) .reports)
+    SmallReports (ends (timed d t .day) settle .reports)
 unfolding finished
 finished-small d t settle h m u l =
     let s : Session = d .session in
@@ -260,36 +256,21 @@ finished-small d t settle h m u l =
     let k : Books d = books s d (w .parts) (w .book) in
     let end : SmallReport (closeReport s t settle) =
     said-small t _ m (four _ _ 0 0 (omega (arith, close-small s (w .parts) l)) (omega (arith, base-small s (w .parts) l settle u)) (omega arith) (omega arith)) in
-    append-small (cancelReports t (d .buys)) _ (cancels-small t (d .buys) m (k .buys))
-    (append-small (cancelReports t (d .sells)) _ (cancels-small t (d .sells) m (k .sells)) (one-small (closeReport s t settle) end))
+    append-small (cancelReports DayEnd t (d .buys)) _ (cancels-small DayEnd t (d .buys) m (k .buys))
+    (append-small (cancelReports DayEnd t (d .sells)) _ (cancels-small DayEnd t (d .sells) m (k .sells)) (one-small (closeReport s t settle) end))
 
 -- ---- an event
 
--- the clock steps leave the numbers given
-fewer : (s : Session) (t : ℕ) → s .given < numbersMost → clockStep s t .given < numbersMost
-unfolding clockStep
-fewer s t h = h
-
-acted-small : (d : Day) (t : ℕ) (a : Act) → Accepted d (record { time = t; act = a }) → length (d .session .tape .prices) ≡ 10 →
-    SmallReports (acted d t (clockStep (d .session) t) a .reports)
-unfolding SmallReports
-acted-small d t (Enter n) k l =
-    let e : Event = record { time = t; act = Enter n } in
-    let s : Session = clockStep (d .session) t in
-    let r : Ready s d = begins d t (Enter n) k refl in
-    after-small (d .session) s _ (r .parts)
-    (entered-small s n d r (lots-right d e k (n .lots) refl .1) (fewer (d .session) t (numbers-left d e k n refl .0)))
-acted-small d t (Withdraw number) k l =
-    let s : Session = clockStep (d .session) t in
-    let r : Ready s d = begins d t (Withdraw number) k refl in
-    after-small (d .session) s _ (r .parts) (withdrawn-small s number d r (number-right d (record { time = t; act = Withdraw number }) k number refl .1))
-acted-small d t (Under price) k l = after-small (d .session) (clockStep (d .session) t) _ (begins d t (Under price) k refl .parts) tt
-acted-small d t Clock k l = after-small (d .session) (clockStep (d .session) t) _ (begins d t Clock k refl .parts) tt
-acted-small d t (Finish settle) k l =
-    let e : Event = record { time = t; act = Finish settle } in
-    finished-small d t settle (k .whole) (time-right d e k) (price-right d e k settle refl .1) l
-
 -- EVERY NUMBER IN A REPORT CAN BE WRITTEN. The session's array holds ten prices
 pub act-small : (d : Day) (e : Event) → Accepted d e → length (d .session .tape .prices) ≡ 10 → SmallReports (act d e .reports)
-unfolding act
-act-small d e k l = acted-small d (e .time) (e .act) k l
+unfolding SmallReports
+act-small d e k l =
+    let d′ : Day = stepped d (e .time) .day in
+    let clock : Ready d′ → (a : Acted) → SmallReports (a .reports) → SmallReports (andThen (stepped d (e .time)) a .reports) =
+    λ r a h. append-small (clockReports (d .session) (d′ .session)) (a .reports) (clock-small (d .session) (d′ .session) (r .parts)) h in
+    event-by (λ (x : Acted). SmallReports (x .reports)) d e
+    (λ n z. let r = lets d e k n z in clock (r .day) (enters d′ n) (entered-small d′ n r))
+    (λ number z. let r = begins d e k (ap (λ (a : Act). carries a .closes) z) in
+    clock r (withdrawn d′ number) (dropped-small d′ number Asked (sideOf number (d .buys)) r (number-right d e k number (ap (λ (a : Act). carries a .number) z) .1)))
+    (λ s q. clock (begins d e k (sets-alike q .stays)) (silent s d) tt)
+    (λ settle z. finished-small d (e .time) settle (k .whole) (time-right d e k) (price-right d e k settle (ap (λ (a : Act). carries a .price) z) .1) l)

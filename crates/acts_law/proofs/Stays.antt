@@ -3,9 +3,10 @@ use Prim.Native.Nat.{ℕ, _+_, _≤_, _<_}
 use native.Mathlib.Omega.{arith}
 use native.Mathlib.Nat.{le-refl}
 use borrow.Author.Tests.{leb-true, ltb-true}
-use mathlib.Core.Path.{_≡_, refl, sym, subst₃}
+use mathlib.Core.Path.{_≡_, refl, sym, ap, _∙_, subst₃}
 use mathlib.Core.Bool.{true, false, _||_}
 use mathlib.Core.List.{List, []}
+use mathlib.Core.Option.{some}
 use lib.Dec.{ltb}
 use lib.ListN.{length}
 use Rattle.terms.specs.declared.Settings.{Settings}
@@ -13,24 +14,26 @@ use Rattle.terms.specs.declared.Order.{Order}
 use Rattle.terms.specs.declared.Entry.{Entry}
 use Rattle.terms.specs.declared.Event.{Event}
 use Rattle.terms.specs.declared.Act.{Act}
-use Rattle.terms.specs.declared.Act.the-variants.{Enter, Withdraw, Under, Clock, Finish}
+use Rattle.terms.specs.declared.Act.the-variants.{Enter}
 use Rattle.terms.specs.declared.Side.{Side}
 use Rattle.terms.specs.declared.Side.the-variants.{Buy, Sell}
 use Rattle.terms.specs.declared.Kind.{Kind}
 use Rattle.terms.specs.declared.Life.{Life}
+use Rattle.terms.specs.declared.Why.{Why}
+use Rattle.terms.specs.declared.Why.the-variants.{Asked}
 use Rattle.terms.specs.Sizes.{slots, priceMost, timeMost, numbersMost, tradesBefore}
-use Rattle.terms.proofs.Logic.{by, or-last}
+use Rattle.terms.proofs.Logic.{or-last}
 use Rattle.terms.proofs.Valid.{valid-facts}
 use Rattle.rules_law.specs.declared.Range.{Range}
 use Rattle.rules_law.specs.Slabs.{slabOf, percentOf, bandAt}
-use Rattle.book_law.specs.Priority.{otherSide, rests, removed}
+use Rattle.book_law.specs.Priority.{otherSide, removed}
 use Rattle.book_law.specs.Matching.{taker, Swept, sweep, settled}
 use Rattle.book_law.specs.Over.{Each}
 use Rattle.audit_law.specs.Sound.{bookSound, onSide, OrderFits}
 use Rattle.audit_law.proofs.Facts.{book-fits, empty-sound}
 use Rattle.audit_law.proofs.Enters.{Admitted, ownAfter, wider-sound, removed-sound, fills-sound, entered-sound}
 use Rattle.state_law.specs.declared.Session.{Session}
-use Rattle.state_law.specs.Set.{setTime, setClosed, setUnder, setGiven}
+use Rattle.state_law.specs.Set.{setTime, setClosed, setGiven}
 use Rattle.state_law.specs.Now.{bandNow}
 use Rattle.state_law.specs.Clock.{clockStep}
 use Rattle.state_law.specs.Trades.{withTrades}
@@ -41,21 +44,21 @@ use Rattle.soundness_law.specs.Sound.{sound}
 use Rattle.soundness_law.proofs.Parts.{Parts}
 use Rattle.soundness_law.proofs.Kept.{Tradable, clock-kept, trades-kept, given-kept, under-kept, closed-kept, last-ticked}
 use Rattle.soundness_law.proofs.Days.{BookOf, SoundDay, sound-day, day-sound, each-tradable}
-use Rattle.refusal_law.specs.Carried.{carries}
-use Rattle.refusal_law.specs.Refusals.{ticksRight, bandRight, hasPlace}
-use Rattle.refusal_law.proofs.Accepted.{Accepted, time-right, lots-right, price-right, in-day, numbers-left}
-use Rattle.acts_law.specs.Acts.{Acted, sweepIn, lastIn, fateIn, entered, withdrawn, silent, finished, acted, act}
+use Rattle.refusal_law.specs.Carried.{Carried, limitOf, carries}
+use Rattle.refusal_law.proofs.Accepted.{Accepted, time-right, lots-right, price-right, in-day, numbers-left, tick-right, band-right, place-right}
+use Rattle.acts_law.specs.Acts.{Acted, sweepIn, lastIn, fateIn, entered, dropped, sideOf, silent, finished, stepped, timed, act}
+use Rattle.acts_law.proofs.Does.{Sets, setsUnder, setsNone, sets-alike, enters, ends, own-by, event-by}
 use Rattle.acts_law.proofs.Few.{swept-few}
 
--- ---- what an act starts from: the session after the clock steps, and a book that is sound in its band
+-- ---- what an act starts from: the day after the clock steps, its numbers and its book sound
 
-pub record Ready (s : Session) (d : Day) : Type 0 where
-  pub parts : Parts s
-  pub book : BookOf s (d .buys) (d .sells)
+pub record Ready (d : Day) : Type 0 where
+  pub parts : Parts (d .session)
+  pub book : BookOf (d .session) (d .buys) (d .sells)
 
 pub ready : (d : Day) (t : ℕ) → sound d ≡ true → d .session .time ≤ t → t ≤ timeMost →
     (d .session .closed || ltb t (d .session .settings .length)) ≡ true →
-    Ready (clockStep (d .session) t) d
+    Ready (stepped d t .day)
 unfolding clockStep
 ready d t h k m u =
     let s : Session = d .session in
@@ -99,48 +102,59 @@ across-few : (s : Session) (d : Day) → BookOf s (d .buys) (d .sells) → (side
 across-few s d h Buy = book-fits (s .given) (s .settings .tick) (bandNow s) (d .buys) (d .sells) h .few-sells
 across-few s d h Sell = book-fits (s .given) (s .settings .tick) (bandNow s) (d .buys) (d .sells) h .few-buys
 
-entered-stays : (s : Session) (n : Entry) (d : Day) → Ready s d → Admits s (n .life) (n .kind) (n .lots) (length (own (n .side) d)) →
-    s .given < numbersMost → s .tape .trades ≤ tradesBefore → sound (entered s n (own (n .side) d) (sweepIn s n (across (n .side) d)) .day) ≡ true
+-- an order that the rows let through, on the day after the clock steps
+pub record Let (d : Day) (n : Entry) : Type 0 where
+  pub day : Ready d
+  pub admitted : Admits (d .session) (n .life) (n .kind) (n .lots) (length (own (n .side) d))
+  pub given-few : d .session .given < numbersMost
+  pub trades-few : d .session .tape .trades ≤ tradesBefore
+
+entered-stays : (d : Day) (n : Entry) → Let d n → sound (enters d n .day) ≡ true
 unfolding entered fateIn sweepIn
-entered-stays s n d r a g t =
+entered-stays d n r =
+    let s : Session = d .session in
     let side : Side = n .side in
     let w : Swept = sweepIn s n (across side d) in
     let number : ℕ = s .given + 1 in
     let s′ : Session = withTrades (setGiven s number) (w .fills) in
     let u : Untouched (setGiven s number) s′ = trades-leave (setGiven s number) (w .fills) in
     let mine : List Order = settled side number (w .left) (fateIn s n w) (own side d) in
-    let few : length (w .fills) ≤ slots = omega (arith, across-few s d (r .book) side, swept-few s n (across side d)) in
+    let book = r .day .book in
+    let parts = r .day .parts in
+    let few : length (w .fills) ≤ slots = omega (arith, across-few s d book side, swept-few s n (across side d)) in
     let fit : Each (Tradable (s .settings .tick)) (w .fills) =
-    each-tradable s (w .fills) (valid-facts (s .settings) (r .parts .valid)) (fills-fit s d (r .book) (n .life) (n .kind) _ (n .lots) side) in
+    each-tradable s (w .fills) (valid-facts (s .settings) (parts .valid)) (fills-fit s d book (n .life) (n .kind) _ (n .lots) side) in
     day-sound side s′ mine (w .rest)
-    (trades-kept (setGiven s number) (w .fills) (omega arith) fit (given-kept s number (omega arith) (r .parts)))
+    (trades-kept (setGiven s number) (w .fills) (omega (arith, r .trades-few)) fit (given-kept s number (omega (arith, r .given-few)) parts))
     (subst₃ (BookBy side mine (w .rest)) (sym (u .given)) (sym (u .settings)) (sym (u .widened))
-    (entered-book s d (r .book) (n .life) (n .kind) _ (n .lots) side a))
-
--- the clock steps leave the numbers given and the trades
-enters : (d : Day) (t : ℕ) (n : Entry) → Ready (clockStep (d .session) t) d →
-    Admits (clockStep (d .session) t) (n .life) (n .kind) (n .lots) (length (own (n .side) d)) → d .session .given < numbersMost →
-    d .session .tape .trades ≤ tradesBefore →
-    sound (entered (clockStep (d .session) t) n (own (n .side) d) (sweepIn (clockStep (d .session) t) n (across (n .side) d)) .day) ≡ true
-unfolding clockStep
-enters d t n r a g h = entered-stays (clockStep (d .session) t) n d r a g h
+    (entered-book s d book (n .life) (n .kind) _ (n .lots) side (r .admitted)))
 
 -- ---- the other acts
 
-withdrawn-stays : (s : Session) (number : ℕ) (d : Day) → Ready s d → sound (withdrawn s number (d .buys) (d .sells) .day) ≡ true
-unfolding withdrawn
-withdrawn-stays s number d r =
-    by (λ (a : Acted). sound (a .day) ≡ true) (rests number (d .buys)) _ _
-    (λ e. day-sound Buy s (removed number (d .buys)) (d .sells) (r .parts)
-    (removed-sound (s .given) (s .settings .tick) (bandNow s) (d .buys) (d .sells) (r .book) Buy number))
-    (λ e. day-sound Sell s (removed number (d .sells)) (d .buys) (r .parts)
-    (removed-sound (s .given) (s .settings .tick) (bandNow s) (d .buys) (d .sells) (r .book) Sell number))
+dropped-stays : (d : Day) (number : ℕ) (why : Why) (side : Side) → Ready d →
+    sound (dropped (d .session) number why side (own side d) (across side d) .day) ≡ true
+unfolding dropped
+dropped-stays d number why Buy r =
+    let s : Session = d .session in
+    day-sound Buy s (removed number (d .buys)) (d .sells) (r .parts)
+    (removed-sound (s .given) (s .settings .tick) (bandNow s) (d .buys) (d .sells) (r .book) Buy number)
+dropped-stays d number why Sell r =
+    let s : Session = d .session in
+    day-sound Sell s (removed number (d .sells)) (d .buys) (r .parts)
+    (removed-sound (s .given) (s .settings .tick) (bandNow s) (d .buys) (d .sells) (r .book) Sell number)
 
-silent-stays : (s : Session) (under : ℕ) (d : Day) → under ≤ priceMost → Ready s d → sound (silent (setUnder s under) d .day) ≡ true
-silent-stays s under d h r = day-sound Buy (setUnder s under) (d .buys) (d .sells) (under-kept s under h (r .parts)) (r .book)
+-- what an act that only sets the session makes of its numbers
+sets-parts : {s s′ : Session} {a : Act} → Sets s a s′ → ((p : ℕ) → carries a .price ≡ some p → p ≤ priceMost) → Parts s → Parts s′
+sets-parts {s} (setsUnder price) h p = under-kept s price (h price refl) p
+sets-parts setsNone h p = p
 
-finished-stays : (d : Day) (t settle : ℕ) → sound d ≡ true → d .session .time ≤ t → t ≤ timeMost →
-    sound (finished (d .session) t settle (d .buys) (d .sells) .day) ≡ true
+silent-stays : (d : Day) (a : Act) (s : Session) → Sets (d .session) a s → ((p : ℕ) → carries a .price ≡ some p → p ≤ priceMost) → Ready d →
+    sound (silent s d .day) ≡ true
+silent-stays d a s q h r =
+    let k = sets-alike q in
+    day-sound Buy s (d .buys) (d .sells) (sets-parts q h (r .parts)) (rw (k .given, k .settings, k .widened) (r .book))
+
+finished-stays : (d : Day) (t settle : ℕ) → sound d ≡ true → d .session .time ≤ t → t ≤ timeMost → sound (ends (timed d t .day) settle .day) ≡ true
 unfolding finished
 finished-stays d t settle h k m =
     let s : Session = setClosed (setTime (d .session) t) true in
@@ -148,42 +162,39 @@ finished-stays d t settle h k m =
 
 -- ---- an event
 
--- what every event but the close starts from
-pub begins : (d : Day) (t : ℕ) (a : Act) → Accepted d (record { time = t; act = a }) → carries a .closes ≡ false → Ready (clockStep (d .session) t) d
-begins d t a k c =
-    let e : Event = record { time = t; act = a } in
-    ready d t (k .whole) (leb-true (d .session .time) t (k .forward)) (time-right d e k)
-    (or-last (d .session .closed) (ltb t (d .session .settings .length)) (λ z. in-day d e k c))
+module _ (d : Day) (e : Event) (k : Accepted d e) where
+  -- what every event but the close starts from
+  pub begins : carries (e .act) .closes ≡ false → Ready (stepped d (e .time) .day)
+  begins c =
+      ready d (e .time) (k .whole) (leb-true (d .session .time) (e .time) (k .forward)) (time-right d e k)
+      (or-last (d .session .closed) (ltb (e .time) (d .session .settings .length)) (λ z. in-day d e k c))
 
--- the steps leave the tick, so a limit is judged by the session's
-admits : (d : Day) (t : ℕ) (n : Entry) → Accepted d (record { time = t; act = Enter n }) → Ready (clockStep (d .session) t) d →
-    Admits (clockStep (d .session) t) (n .life) (n .kind) (n .lots) (length (own (n .side) d))
-unfolding clockStep ticksRight bandRight hasPlace
-admits d t n k r =
-    let s : Session = clockStep (d .session) t in
-    record {
-      few = lots-right d (record { time = t; act = Enter n }) k (n .lots) refl .1;
-      place = λ e. ltb-true (length (own (n .side) d)) slots (rw e at (k .placed));
-      limit-ticked = λ p e. rw e at (k .ticked);
-      limit-banded = λ p e. rw e at (k .banded);
-      last-ticked = last-ticked s (r .parts);
-    }
+  -- the steps leave the tick, so a limit is judged by the session's
+  pub lets : (n : Entry) → e .act ≡ Enter n → Let (stepped d (e .time) .day) n
+  unfolding clockStep
+  lets n z =
+      let c : carries (e .act) ≡ carries (Enter n) = ap carries z in
+      let r : Ready (stepped d (e .time) .day) = begins (ap (λ (x : Carried). x .closes) c) in
+      let few = numbers-left d e k n (ap (λ (x : Carried). x .entry) c) in
+      record {
+        day = r;
+        admitted = record {
+          few = lots-right d e k (n .lots) (ap (λ (x : Carried). x .lots) c) .1;
+          place = λ l. ltb-true (length (own (n .side) (stepped d (e .time) .day))) slots
+              (rw (own-by (n .side) (clockStep (d .session) (e .time)) d) (rw l at (place-right d e k n (ap (λ (x : Carried). x .entry) c))));
+          limit-ticked = λ p l. tick-right d e k p (ap (λ (x : Carried). x .ticked) c ∙ ap limitOf l);
+          limit-banded = λ p l. band-right d e k p (ap (λ (x : Carried). x .limit) c ∙ ap limitOf l);
+          last-ticked = last-ticked (clockStep (d .session) (e .time)) (r .parts);
+        };
+        given-few = few .0;
+        trades-few = few .1;
+      }
 
-pub acted-stays : (d : Day) (t : ℕ) (a : Act) → Accepted d (record { time = t; act = a }) → sound (acted d t (clockStep (d .session) t) a .day) ≡ true
-acted-stays d t (Enter n) k =
-    let r = begins d t (Enter n) k refl in
-    let q = numbers-left d (record { time = t; act = Enter n }) k n refl in
-    enters d t n r (admits d t n k r) (q .0) (q .1)
-acted-stays d t (Withdraw number) k = withdrawn-stays (clockStep (d .session) t) number d (begins d t (Withdraw number) k refl)
-acted-stays d t (Under price) k =
-    silent-stays (clockStep (d .session) t) price d (price-right d (record { time = t; act = Under price }) k price refl .1) (begins d t (Under price) k refl)
-acted-stays d t Clock k =
-    let r = begins d t Clock k refl in
-    silent-stays (clockStep (d .session) t) (clockStep (d .session) t .under) d (r .parts .numbered .under-small) r
-acted-stays d t (Finish settle) k =
-    finished-stays d t settle (k .whole) (leb-true (d .session .time) t (k .forward)) (time-right d (record { time = t; act = Finish settle }) k)
-
--- AN ACCEPTED EVENT LEAVES A SOUND DAY
-pub act-stays : (d : Day) (e : Event) → Accepted d e → sound (act d e .day) ≡ true
-unfolding act
-act-stays d e k = acted-stays d (e .time) (e .act) k
+  -- AN ACCEPTED EVENT LEAVES A SOUND DAY
+  pub act-stays : sound (act d e .day) ≡ true
+  act-stays =
+      event-by (λ (x : Acted). sound (x .day) ≡ true) d e
+      (λ n z. entered-stays (stepped d (e .time) .day) n (lets n z))
+      (λ number z. dropped-stays (stepped d (e .time) .day) number Asked (sideOf number (d .buys)) (begins (ap (λ (a : Act). carries a .closes) z)))
+      (λ s q. silent-stays (stepped d (e .time) .day) (e .act) s q (λ p c. price-right d e k p c .1) (begins (sets-alike q .stays)))
+      (λ settle z. finished-stays d (e .time) settle (k .whole) (leb-true (d .session .time) (e .time) (k .forward)) (time-right d e k))

@@ -10,6 +10,8 @@ use Rattle.terms.specs.declared.Event.{Event}
 use Rattle.terms.specs.declared.Order.{Order}
 use Rattle.terms.specs.declared.Report.{Report}
 use Rattle.terms.specs.declared.Said.the-variants.{Accept, Cancel, Slab, Ref, Close}
+use Rattle.terms.specs.declared.Side.{Side}
+use Rattle.terms.specs.declared.Side.the-variants.{Buy, Sell}
 use Rattle.terms.specs.declared.Why.{Why}
 use Rattle.terms.specs.declared.Why.the-variants.{Asked, DayEnd}
 use Rattle.rules_law.specs.Close.{lastOr, closingOf}
@@ -21,6 +23,7 @@ use Rattle.state_law.specs.Now.{percentNow, bandNow, rangeNow}
 use Rattle.state_law.specs.Clock.{clockStep}
 use Rattle.state_law.specs.Trades.{withTrades}
 use Rattle.state_law.specs.Day.{Day, dayOf, own, across, dayWith}
+use Rattle.refusal_law.specs.Carried.{carries}
 
 -- what an act leaves and tells
 pub record Acted : Type 0 where
@@ -33,11 +36,22 @@ abbrev pub only : Bool → Report → List Report
 only true r = r ∷ []
 only false r = []
 
--- "slab (when the percent changed), ref (only if the value changed over the event)"
+-- "slab (when the percent changed)"
+abbrev pub slabMoved : Session → Session → Bool
+slabMoved s s′ = not (eqb (percentNow s) (percentNow s′))
+
+abbrev pub slabReport : Session → Report
+slabReport s = reportAt (s .time) (Slab (bandNow s))
+
+-- "ref (only if the value changed over the event)"
+abbrev pub refMoved : Session → Session → Bool
+refMoved s s′ = not (eqb (s .reckoning .reference) (s′ .reckoning .reference))
+
+abbrev pub refReport : Session → Report
+refReport s = reportAt (s .time) (Ref (s .reckoning .reference))
+
 unfoldable pub clockReports : Session → Session → List Report
-clockReports s s′ =
-    only (not (eqb (percentNow s) (percentNow s′))) (reportAt (s′ .time) (Slab (bandNow s′)))
-    ++ only (not (eqb (s .reckoning .reference) (s′ .reckoning .reference))) (reportAt (s′ .time) (Ref (s′ .reckoning .reference)))
+clockReports s s′ = only (slabMoved s s′) (slabReport s′) ++ only (refMoved s s′) (refReport s′)
 
 -- ---- an order
 
@@ -69,12 +83,23 @@ entered s n mine w =
 abbrev pub ended : ℕ → ℕ → ℕ → Why → Report
 ended time number lots why = reportAt time (Cancel (record { number = number; lots = lots; why = why }))
 
+-- a resting order leaves its side, for a reason
+unfoldable pub dropped : Session → ℕ → Why → Side → List Order → List Order → Acted
+dropped s number why side mine theirs =
+    record {
+      day = dayWith side s (removed number mine) theirs;
+      reports = ended (s .time) number (leftOf number mine) why ∷ [];
+    }
+
+-- the side on which an order rests
+abbrev pub sideOf : ℕ → List Order → Side
+sideOf number buys = cond (rests number buys) Buy Sell
+
 -- "Cancel removes a resting order, why 1."
-unfoldable pub withdrawn : Session → ℕ → List Order → List Order → Acted
-withdrawn s number buys sells =
-    cond (rests number buys)
-    (record { day = dayOf s (removed number buys) sells; reports = ended (s .time) number (leftOf number buys) Asked ∷ [] })
-    (record { day = dayOf s buys (removed number sells); reports = ended (s .time) number (leftOf number sells) Asked ∷ [] })
+abbrev pub withdrawn : Day → ℕ → Acted
+withdrawn d number =
+    let side : Side = sideOf number (d .buys) in
+    dropped (d .session) number Asked side (own side d) (across side d)
 
 -- ---- under and clock: "Under and clock have no report of their own."
 
@@ -83,36 +108,52 @@ silent s d = record { day = dayOf s (d .buys) (d .sells); reports = [] }
 
 -- ---- the close
 
--- "It cancels all, .. in priority order, why 5"
-unfoldable pub cancelReports : ℕ → List Order → List Report
-cancelReports time [] = []
-cancelReports time (o ∷ os) = ended time (o .number) (o .lots) DayEnd ∷ cancelReports time os
+-- orders cancelled in priority order, for a reason
+unfoldable pub cancelReports : Why → ℕ → List Order → List Report
+cancelReports why time [] = []
+cancelReports why time (o ∷ os) = ended time (o .number) (o .lots) why ∷ cancelReports why time os
 
 abbrev pub closeReport : Session → ℕ → ℕ → Report
 closeReport s time settle = reportAt time (Close (closingOf (s .settings .tick) (s .settings .close) (s .tape) settle))
 
--- "Close applies no slab or reference step. It cancels all, buys then sells in priority order, why 5, then reports close price and next
--- base. The close event carries today's settlement price."
+-- "It cancels all, buys then sells in priority order, why 5, then reports close price and next base. The close event carries today's
+-- settlement price."
 unfoldable pub finished : Session → ℕ → ℕ → List Order → List Order → Acted
 finished s time settle buys sells =
     record {
       day = dayOf (setClosed (setTime s time) true) [] [];
-      reports = cancelReports time buys ++ (cancelReports time sells ++ (closeReport s time settle ∷ []));
+      reports = cancelReports DayEnd time buys ++ (cancelReports DayEnd time sells ++ (closeReport s time settle ∷ []));
     }
 
 -- ---- an accepted event
 
--- the act's reports behind those of the clock steps
-abbrev pub afterClock : Session → Session → Acted → Acted
-afterClock s s′ a = record { day = a .day; reports = clockReports s s′ ++ a .reports }
+-- one thing, and another that was done on the day that it left
+abbrev pub andThen : Acted → Acted → Acted
+andThen a b = record { day = b .day; reports = a .reports ++ b .reports }
 
--- s is the session after the clock steps
-abbrev pub acted : Day → ℕ → Session → Act → Acted
-acted d time s (Enter n) = afterClock (d .session) s (entered s n (own (n .side) d) (sweepIn s n (across (n .side) d)))
-acted d time s (Withdraw number) = afterClock (d .session) s (withdrawn s number (d .buys) (d .sells))
-acted d time s (Under price) = afterClock (d .session) s (silent (setUnder s price) d)
-acted d time s Clock = afterClock (d .session) s (silent s d)
-acted d time s (Finish settle) = finished (d .session) time settle (d .buys) (d .sells)
+-- a day with another session
+abbrev pub dayBy : Session → Day → Day
+dayBy s d = record { session = s; buys = d .buys; sells = d .sells }
+
+-- the clock steps
+abbrev pub stepped : Day → ℕ → Acted
+stepped d t = record { day = dayBy (clockStep (d .session) t) d; reports = clockReports (d .session) (clockStep (d .session) t) }
+
+-- the time alone
+abbrev pub timed : Day → ℕ → Acted
+timed d t = record { day = dayBy (setTime (d .session) t) d; reports = [] }
+
+-- what comes before the act: "Close applies no slab or reference step."
+abbrev pub begun : Day → ℕ → Act → Acted
+begun d t a = cond (carries a .closes) (timed d t) (stepped d t)
+
+-- the act itself, on the day at its time
+abbrev pub does : Day → Act → Acted
+does d (Enter n) = entered (d .session) n (own (n .side) d) (sweepIn (d .session) n (across (n .side) d))
+does d (Withdraw number) = withdrawn d number
+does d (Under price) = silent (setUnder (d .session) price) d
+does d Clock = silent (d .session) d
+does d (Finish settle) = finished (d .session) (d .session .time) settle (d .buys) (d .sells)
 
 unfoldable pub act : Day → Event → Acted
-act d e = acted d (e .time) (clockStep (d .session) (e .time)) (e .act)
+act d e = let b : Acted = begun d (e .time) (e .act) in andThen b (does (b .day) (e .act))

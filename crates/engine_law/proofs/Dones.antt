@@ -26,7 +26,7 @@ use Rattle.soundness_law.proofs.Border.{sound-session}
 use Rattle.refusal_law.specs.Carried.{carries}
 use Rattle.refusal_law.specs.Refusals.{finds}
 use Rattle.refusal_law.proofs.Accepted.{in-day}
-use Rattle.acts_law.specs.Acts.{Acted, clockReports, act, withdrawn, finished}
+use Rattle.acts_law.specs.Acts.{Acted, clockReports, act, dropped, finished}
 use Rattle.acts_law.specs.Written.{Written, RestsIn, WithdrawnAs, Finished}
 use Rattle.acts_law.specs.declared.Withdrawn.{Withdrawn}
 use Rattle.acts_law.proofs.Reports.{written-then}
@@ -108,7 +108,7 @@ module _ (s : Session) (t number : ℕ) (buys sells room : List ℕ) (r : Ready 
 
     pub cancel-done : (buys₂ sells₂ room₂ : List ℕ) (w : Withdrawn) → WithdrawnAs number t (decode (s .buys) buys₁) (decode (s .sells) sells₁) buys₁ sells₁ room₁ at buys₂ sells₂ room₂ w →
         ActedAs (act (dayIn s buys sells) (eventAt t (Withdraw number))) buys sells room buys₂ sells₂ room₂ (doneAt s′ (w .buys) (w .sells) (w .at))
-    unfolding act withdrawn clockStep
+    unfolding act dropped clockStep
     cancel-done buys₂ sells₂ room₂ w v =
         let v′ = rw (bought .reads, sold .reads) at v in
         let space = clock-space s t (Withdraw number) buys sells room r cancel-time s′ buys₁ sells₁ room₁ at k in

@@ -28,7 +28,7 @@ use Rattle.soundness_law.proofs.Parts.{parts-made}
 use Rattle.soundness_law.proofs.Kept.{Tradable}
 use Rattle.soundness_law.proofs.Days.{each-tradable}
 use Rattle.refusal_law.proofs.Accepted.{Accepted, accepted, time-right}
-use Rattle.acts_law.specs.Acts.{clockReports}
+use Rattle.acts_law.specs.Acts.{clockReports, stepped}
 use Rattle.acts_law.specs.Written.{Deals}
 use Rattle.acts_law.proofs.Stays as stays
 use Rattle.acts_law.proofs.Few.{clock-few}
@@ -56,7 +56,7 @@ module _ (s : Session) (t : ℕ) (a : Act) (buys sells room : List ℕ) (r : Rea
   step-asks = (clocked-now, forward)
 
   module _ (u : ltb t (s .settings .length) ≡ true) where
-    pub start : stays.Ready (clockStep s t) day
+    pub start : stays.Ready (stepped day t .day)
     start = stays.ready day t (accepts .whole) forward (time-right day (eventAt t a) accepts) (or-last (s .closed) (ltb t (s .settings .length)) (λ e. u))
 
     pub clocked-after : Clocked (clockStep s t)

@@ -4,32 +4,27 @@ use Prim.Native.Nat.{ℕ, _≤_}
 use native.Mathlib.Omega.{arith}
 use borrow.Author.Tests.{leb-true, le-leb}
 use mathlib.Core.Path.{_≡_, refl, sym, ap, _∙_}
-use mathlib.Core.Bool.{Bool, true, false, not}
+use mathlib.Core.Bool.{Bool, true, not}
 use mathlib.Core.List.{List, [], _∷_, _++_, append-assoc}
-use lib.Dec.{eqb}
 use lib.ListN.{length}
 use Rattle.terms.specs.declared.Band.{Band}
 use Rattle.terms.specs.declared.Order.{Order}
-use Rattle.terms.specs.declared.Entry.{Entry}
 use Rattle.terms.specs.declared.Event.{Event}
 use Rattle.terms.specs.declared.Act.{Act}
-use Rattle.terms.specs.declared.Act.the-variants.{Enter, Withdraw, Under, Clock, Finish}
-use Rattle.terms.specs.declared.Side.{Side}
-use Rattle.terms.specs.declared.Side.the-variants.{Buy, Sell}
 use Rattle.terms.specs.declared.Report.{Report}
-use Rattle.terms.specs.declared.Said.the-variants.{Slab, Ref}
+use Rattle.terms.specs.declared.Said.the-variants.{Slab}
 use Rattle.terms.specs.declared.Refusal.the-variants.{Unsound, Closed, NumberRange, TimeBack, OutOfHours, OffTick, OutsideBand, NotResting, SideFull, DayFull}
 use Rattle.terms.specs.declared.Verdict.{Verdict}
 use Rattle.terms.specs.declared.Verdict.the-variants.{Fine, Refused}
 use Rattle.terms.specs.Truth.{_⊓_}
 use Rattle.terms.specs.Numbers.{isTime}
 use Rattle.terms.specs.Refusals.{unless, firstFailed}
-use Rattle.book_law.specs.Matching.{reportAt}
+use Rattle.terms.proofs.Logic.{cases}
 use Rattle.state_law.specs.declared.Session.{Session}
-use Rattle.state_law.specs.Set.{setBuys, setSells, setUnder}
-use Rattle.state_law.specs.Now.{percentNow, bandNow}
+use Rattle.state_law.specs.Set.{setBuys, setSells}
+use Rattle.state_law.specs.Now.{bandNow}
 use Rattle.state_law.specs.Clock.{clockStep}
-use Rattle.state_law.specs.Day.{Day, own, across, opened}
+use Rattle.state_law.specs.Day.{Day, opened}
 use Rattle.state_law.proofs.Steps.{clock-twice}
 use Rattle.soundness_law.specs.Sound.{sound}
 use Rattle.soundness_law.proofs.Days.{SoundDay, sound-day}
@@ -37,7 +32,9 @@ use Rattle.refusal_law.specs.Carried.{carries}
 use Rattle.refusal_law.specs.Refusals.{numbersRight, inHours, ticksRight, bandRight, finds, lifeHasPlace, hasPlace, hasNumbers, refusalOf}
 use Rattle.refusal_law.proofs.Carried.{any-same}
 use Rattle.refusal_law.proofs.Accepted.{Accepted, accepted, closed-refused}
-use Rattle.acts_law.specs.Acts.{Acted, only, clockReports, sweepIn, entered, withdrawn, silent, finished, afterClock, acted, act}
+use Rattle.acts_law.specs.Acts.{Acted, clockReports, silent, finished, andThen, dayBy, stepped, timed, does, act}
+use Rattle.acts_law.proofs.Does.{ends, own-by, act-closes, act-goes, closing}
+use Rattle.acts_law.proofs.Pieces.{EachSaid, clock-each}
 use Rattle.acts_law.proofs.Stays.{act-stays}
 use Rattle.engine_law.specs.Outcome.{Outcome, decided, outcome, after, told}
 use Rattle.engine_law.proofs.Kept.{outcome-verdict, accepted-sound}
@@ -47,7 +44,7 @@ use Rattle.promises.specs.ClockLine.{clockAt, plainOne, plain, Reply, re
 -- ---- the day after an accepted clock event
 
 abbrev ticked : Day → ℕ → Day
-ticked d t = record { session = clockStep (d .session) t; buys = d .buys; sells = d .sells }
+ticked d t = stepped d t .day
 
 -- the live counts of a sound day are those of its orders already
 counted-same : (d : Day) (t a b : ℕ) → d .session .buys ≡ a → d .session .sells ≡ b →
@@ -78,40 +75,27 @@ plain-append (x ∷ xs) ys =
     ap (λ (l : List Report). plainOne x (x .said) ++ l) (plain-append xs ys)
     ∙ sym (append-assoc (plainOne x (x .said)) (plain xs) (plain ys))
 
-slab-plain : (b : Bool) (t : ℕ) (band : Band) → plain (only b (reportAt t (Slab band))) ≡ []
-unfolding plain
-slab-plain true t band = refl
-slab-plain false t band = refl
+plain-none : (rs : List Report) → EachSaid (λ x. (r : Report) → plainOne r x ≡ []) rs → plain rs ≡ []
+unfolding plain EachSaid
+plain-none [] h = refl
+plain-none (r ∷ rs) h = λ i. (h .0 r i) ++ (plain-none rs (h .1) i)
 
-ref-plain : (b : Bool) (t price : ℕ) → plain (only b (reportAt t (Ref price))) ≡ []
-unfolding plain
-ref-plain true t price = refl
-ref-plain false t price = refl
+slab-plain : (band : Band) (r : Report) → plainOne r (Slab band) ≡ []
+slab-plain band r = refl
 
 clock-plain : (s s′ : Session) → plain (clockReports s s′) ≡ []
-unfolding clockReports
-clock-plain s s′ =
-    let a : Bool = not (eqb (percentNow s) (percentNow s′)) in
-    let b : Bool = not (eqb (s .reckoning .reference) (s′ .reckoning .reference)) in
-    plain-append (only a (reportAt (s′ .time) (Slab (bandNow s′)))) (only b (reportAt (s′ .time) (Ref (s′ .reckoning .reference))))
-    ∙ (λ i. slab-plain a (s′ .time) (bandNow s′) i ++ ref-plain b (s′ .time) (s′ .reckoning .reference) i)
+clock-plain s s′ = plain-none (clockReports s s′) (clock-each _ slab-plain (λ p r. refl) s s′)
 
-after-plain : (s s′ : Session) (a : Acted) → plain (afterClock s s′ a .reports) ≡ plain (a .reports)
-after-plain s s′ a = plain-append (clockReports s s′) (a .reports) ∙ ap (λ (l : List Report). l ++ plain (a .reports)) (clock-plain s s′)
+after-plain : (d : Day) (t : ℕ) (a : Acted) → plain (andThen (stepped d t) a .reports) ≡ plain (a .reports)
+after-plain d t a =
+    let s : Session = d .session in
+    plain-append (clockReports s (clockStep s t)) (a .reports) ∙ ap (λ (l : List Report). l ++ plain (a .reports)) (clock-plain s (clockStep s t))
 
 -- ---- one event, on a day and on the same day ticked
 
-own-ticked : (side : Side) (d : Day) (t : ℕ) → own side (ticked d t) ≡ own side d
-own-ticked Buy d t = refl
-own-ticked Sell d t = refl
-
-across-ticked : (side : Side) (d : Day) (t : ℕ) → across side (ticked d t) ≡ across side d
-across-ticked Buy d t = refl
-across-ticked Sell d t = refl
-
 place-ticked : (d : Day) (t : ℕ) (a : Act) → hasPlace (ticked d t) a ≡ hasPlace d a
 unfolding hasPlace
-place-ticked d t a = any-same _ _ (λ n. ap (λ (l : List Order). lifeHasPlace (n .life) (length l)) (own-ticked (n .side) d t)) (carries a .entry)
+place-ticked d t a = any-same _ _ (λ n. ap (λ (l : List Order). lifeHasPlace (n .life) (length l)) (own-by (n .side) (clockStep (d .session) t) d)) (carries a .entry)
 
 -- what the accepted clock event gives: both days are sound, and it is not before the last accepted time
 record Ticks (d : Day) (t : ℕ) : Type 0 where
@@ -147,38 +131,24 @@ refusal-ticked d t e k h =
 
 -- ---- what the act does
 
-abbrev enter : Session → Entry → Day → Acted
-enter s n d = entered s n (own (n .side) d) (sweepIn s n (across (n .side) d))
+-- the clock steps after the clock steps lead to the same day
+ticked-twice : (d : Day) (t u : ℕ) → d .session .time ≤ t → t ≤ u → ticked (ticked d t) u ≡ ticked d u
+ticked-twice d t u k h = ap (λ (s : Session). dayBy s d) (clock-twice (d .session) t u k h)
 
-enter-ticked : (s : Session) (n : Entry) (d : Day) (t : ℕ) → enter s n (ticked d t) ≡ enter s n d
-enter-ticked s n d t = λ i. entered s n (own-ticked (n .side) d t i) (sweepIn s n (across-ticked (n .side) d t i))
-
-finished-ticked : (s : Session) (t u settle : ℕ) (buys sells : List Order) →
-    finished (clockStep s t) u settle buys sells .reports ≡ finished s u settle buys sells .reports
+-- a close cancels and tells the same
+ends-ticked : (d : Day) (t u settle : ℕ) → ends (timed (ticked d t) u .day) settle .reports ≡ ends (timed d u .day) settle .reports
 unfolding finished clockStep
-finished-ticked s t u settle buys sells = refl
-
-plain-acted : (d : Day) (t u : ℕ) (s : Session) (a : Act) → plain (acted (ticked d t) u s a .reports) ≡ plain (acted d u s a .reports)
-plain-acted d t u s (Enter n) =
-    after-plain (clockStep (d .session) t) s (enter s n (ticked d t))
-    ∙ ap (λ (a : Acted). plain (a .reports)) (enter-ticked s n d t)
-    ∙ sym (after-plain (d .session) s (enter s n d))
-plain-acted d t u s (Withdraw number) =
-    let a : Acted = withdrawn s number (d .buys) (d .sells) in
-    after-plain (clockStep (d .session) t) s a ∙ sym (after-plain (d .session) s a)
-plain-acted d t u s (Under price) =
-    let a : Acted = silent (setUnder s price) d in
-    after-plain (clockStep (d .session) t) s a ∙ sym (after-plain (d .session) s a)
-plain-acted d t u s Clock =
-    let a : Acted = silent s d in
-    after-plain (clockStep (d .session) t) s a ∙ sym (after-plain (d .session) s a)
-plain-acted d t u s (Finish settle) = ap plain (finished-ticked (d .session) t u settle (d .buys) (d .sells))
+ends-ticked d t u settle = refl
 
 act-plain : (d : Day) (t : ℕ) (e : Event) → Ticks d t → t ≤ e .time → plain (act (ticked d t) e .reports) ≡ plain (act d e .reports)
-unfolding act
 act-plain d t e k h =
-    ap (λ (s : Session). plain (acted (ticked d t) (e .time) s (e .act) .reports)) (clock-twice (d .session) t (e .time) (k .forward) h)
-    ∙ plain-acted d t (e .time) (clockStep (d .session) (e .time)) (e .act)
+    cases (carries (e .act) .closes)
+    (λ c. let f = closing d (e .act) c in
+    rw (act-closes (ticked d t) e c, act-closes d e c, f .1) (ap plain (ends-ticked d t (e .time) (f .0))))
+    (λ c. rw (act-goes (ticked d t) e c, act-goes d e c)
+    (after-plain (ticked d t) (e .time) (does (ticked (ticked d t) (e .time)) (e .act))
+    ∙ ap (λ (x : Day). plain (does x (e .act) .reports)) (ticked-twice d t (e .time) (k .forward) h)
+    ∙ sym (after-plain d (e .time) (does (ticked d (e .time)) (e .act)))))
 
 decided-plain : (v : Verdict) (d d′ : Day) (a a′ : Acted) → plain (a .reports) ≡ plain (a′ .reports) →
     plain (decided v d a .reports) ≡ plain (decided v d′ a′ .reports)
@@ -201,23 +171,18 @@ closed-replies d d′ (e ∷ es) h h′ c c′ =
     rw (closed-refused d e h c, closed-refused d′ e h′ c′)
     (ap (λ (l : List Reply). record { verdict = Refused Closed; reports = plain [] } ∷ l) (closed-replies d d′ es h h′ c c′))
 
--- after an accepted event: the same day, or two closed ones
-next-replies : (d : Day) (t u : ℕ) (a : Act) (es : List Event) → Ticks d t → t ≤ u →
-    sound (acted d u (clockStep (d .session) u) a .day) ≡ true → sound (acted (ticked d t) u (clockStep (clockStep (d .session) t) u) a .day) ≡ true →
-    replies (acted (ticked d t) u (clockStep (clockStep (d .session) t) u) a .day) es ≡ replies (acted d u (clockStep (d .session) u) a .day) es
-next-replies d t u (Enter n) es k h x y =
-    ap (λ (s : Session). replies (enter s n (ticked d t) .day) es) (clock-twice (d .session) t u (k .forward) h)
-    ∙ ap (λ (a : Acted). replies (a .day) es) (enter-ticked (clockStep (d .session) u) n d t)
-next-replies d t u (Withdraw number) es k h x y =
-    ap (λ (s : Session). replies (withdrawn s number (d .buys) (d .sells) .day) es) (clock-twice (d .session) t u (k .forward) h)
-next-replies d t u (Under price) es k h x y = ap (λ (s : Session). replies (silent (setUnder s price) d .day) es) (clock-twice (d .session) t u (k .forward) h)
-next-replies d t u Clock es k h x y = ap (λ (s : Session). replies (silent s d .day) es) (clock-twice (d .session) t u (k .forward) h)
-next-replies d t u (Finish settle) es k h x y = closed-replies _ _ es x y (unfold finished in refl) (unfold finished in refl)
+close-closed : (d : Day) (e : Event) → carries (e .act) .closes ≡ true → act d e .day .session .closed ≡ true
+unfolding finished
+close-closed d e c = rw (act-closes d e c, closing d (e .act) c .1) refl
 
+-- after an accepted event: the same day, or two closed ones
 act-replies : (d : Day) (t : ℕ) (e : Event) (es : List Event) → Ticks d t → t ≤ e .time → Accepted d e → Accepted (ticked d t) e →
     replies (act (ticked d t) e .day) es ≡ replies (act d e .day) es
-unfolding act
-act-replies d t e es k h x y = next-replies d t (e .time) (e .act) es k h (act-stays d e x) (act-stays (ticked d t) e y)
+act-replies d t e es k h x y =
+    cases (carries (e .act) .closes)
+    (λ c. closed-replies _ _ es (act-stays d e x) (act-stays (ticked d t) e y) (close-closed d e c) (close-closed (ticked d t) e c))
+    (λ c. rw (act-goes (ticked d t) e c, act-goes d e c)
+    (ap (λ (z : Day). replies (does z (e .act) .day) es) (ticked-twice d t (e .time) (k .forward) h)))
 
 decided-replies : (v : Verdict) (d d′ : Day) (a a′ : Acted) (es : List Event) → (v ≡ Fine → replies (a .day) es ≡ replies (a′ .day) es) →
     replies d es ≡ replies d′ es → replies (decided v d a .day) es ≡ replies (decided v d′ a′ .day) es
@@ -274,8 +239,8 @@ clock-says : (d : Day) (t : ℕ) → outcome d (clockAt t) .verdict ≡ Fine →
 unfolding outcome act plain
 clock-says d t h =
     let z : refusalOf d (clockAt t) ≡ Fine = sym (outcome-verdict d (clockAt t)) ∙ h in
-    let s : Session = clockStep (d .session) t in
-    ap (λ (o : Outcome). plain (o .reports)) (decided-fine (refusalOf d (clockAt t)) d (act d (clockAt t)) z) ∙ after-plain (d .session) s (silent s d)
+    ap (λ (o : Outcome). plain (o .reports)) (decided-fine (refusalOf d (clockAt t)) d (act d (clockAt t)) z)
+    ∙ after-plain d t (silent (clockStep (d .session) t) d)
 
 pub clock-unheard : (d : Day) (before later : List Event) (t : ℕ) → outcome (after d before) (clockAt t) .verdict ≡ Fine → From t later →
     plain (told d (before ++ (clockAt t ∷ later))) ≡ plain (told d (before ++ later))

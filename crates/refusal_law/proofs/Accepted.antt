@@ -2,11 +2,12 @@
 use Prim.Native.Nat.{ℕ, _≤_, _<_}
 use native.Mathlib.Omega.{arith}
 use mathlib.Core.Path.{_≡_, refl}
-use mathlib.Core.Bool.{Bool, true, false, cond, _&&_, not}
+use mathlib.Core.Bool.{Bool, true, false, cond, _&&_, _||_, not}
 use mathlib.Core.List.{List, [], _∷_}
 use mathlib.Core.Option.{Option, some}
 use borrow.Author.Tests.{leb-true, ltb-true, eqb-false, not-true}
 use lib.Dec.{leb, ltb, eqb}
+use lib.ListN.{length}
 use Rattle.terms.specs.declared.Entry.{Entry}
 use Rattle.terms.specs.declared.Event.{Event}
 use Rattle.terms.specs.declared.Refusal.{Refusal}
@@ -14,15 +15,17 @@ use Rattle.terms.specs.declared.Refusal.the-variants.{Unsound, Closed, NumberRa
 use Rattle.terms.specs.declared.Verdict.the-variants.{Fine, Refused}
 use Rattle.terms.specs.Truth.{_⊓_}
 use Rattle.terms.specs.Sizes.{timeMost, lotsMost, priceMost, numbersMost, tradesBefore}
-use Rattle.terms.specs.Numbers.{isTime, isLots, isPrice, isNumber}
+use Rattle.terms.specs.Numbers.{isTime, isLots, isPrice, isNumber, onTick}
 use Rattle.terms.specs.Refusals.{numberOf, Rule, firstFailed, codeOf}
 use Rattle.terms.proofs.Logic.{by, cases, split, both, between-facts}
+use Rattle.rules_law.specs.Slabs.{inBand}
+use Rattle.book_law.specs.Priority.{rests}
 use Rattle.state_law.specs.Now.{bandNow}
 use Rattle.state_law.specs.Clock.{clockStep}
-use Rattle.state_law.specs.Day.{Day}
+use Rattle.state_law.specs.Day.{Day, own}
 use Rattle.soundness_law.specs.Sound.{sound}
 use Rattle.refusal_law.specs.Carried.{ofAny, carries}
-use Rattle.refusal_law.specs.Refusals.{numbersRight, inHours, ticksRight, bandRight, finds, hasPlace, hasNumbers, laterRules, rules, refusalOf}
+use Rattle.refusal_law.specs.Refusals.{numbersRight, inHours, ticksRight, bandRight, finds, lifeHasPlace, hasPlace, hasNumbers, laterRules, rules, refusalOf}
 
 -- what the row with that number tests
 unfoldable rowOf : ℕ → List Rule → Bool
@@ -103,6 +106,24 @@ module _ (d : Day) (e : Event) (k : Accepted d e) where
   numbers-left n c =
       let q = both (any-some (λ (x : Entry). ltb (d .session .given) numbersMost ⊓ leb (d .session .tape .trades) tradesBefore) (carries (e .act) .entry) n (k .numbered) c) in
       (ltb-true (d .session .given) numbersMost (q .0), leb-true (d .session .tape .trades) tradesBefore (q .1))
+
+  -- a limit or settlement is a multiple of the tick, a limit is in the band after the clock steps
+  pub tick-right : (p : ℕ) → carries (e .act) .ticked ≡ some p → onTick (d .session .settings .tick) p ≡ true
+  unfolding ticksRight
+  tick-right p c = any-some (onTick (d .session .settings .tick)) (carries (e .act) .ticked) p (k .ticked) c
+
+  pub band-right : (p : ℕ) → carries (e .act) .limit ≡ some p → inBand (bandNow (clockStep (d .session) (e .time))) p ≡ true
+  unfolding bandRight
+  band-right p c = any-some (inBand (bandNow (clockStep (d .session) (e .time)))) (carries (e .act) .limit) p (k .banded) c
+
+  -- an order that is named rests, one that comes in finds a place
+  pub rests-right : (number : ℕ) → carries (e .act) .number ≡ some number → (rests number (d .buys) || rests number (d .sells)) ≡ true
+  unfolding finds
+  rests-right number c = any-some (λ n. rests n (d .buys) || rests n (d .sells)) (carries (e .act) .number) number (k .found) c
+
+  pub place-right : (n : Entry) → carries (e .act) .entry ≡ some n → lifeHasPlace (n .life) (length (own (n .side) d)) ≡ true
+  unfolding hasPlace
+  place-right n c = any-some (λ n. lifeHasPlace (n .life) (length (own (n .side) d))) (carries (e .act) .entry) n (k .placed) c
 
 -- ---- rows 2 and 3
 

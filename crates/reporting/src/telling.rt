@@ -14,8 +14,8 @@ ghost use lib.ListN.{length};
 ghost use Rattle.terms.specs.Sizes.{recordLength, slots, tableLength};
 ghost use Rattle.tables.specs.Tables.{decode};
 ghost use Rattle.book_law.specs.Matching.{reportAt};
-ghost use Rattle.state_law.specs.Now.{Clocked, percentNow, bandNow};
-ghost use Rattle.acts_law.specs.Acts.{only, clockReports, ended, cancelReports};
+ghost use Rattle.state_law.specs.Now.{Clocked};
+ghost use Rattle.acts_law.specs.Acts.{only, slabMoved, slabReport, clockReports, ended, cancelReports};
 ghost use Rattle.acts_law.specs.Written.{Written};
 
 // One report; the place behind it is the answer.
@@ -38,7 +38,7 @@ pub fn tell(room: &mut [u64], at: usize, time: u64, said: Said) -> usize
 // Slab, when the percent changed.
 fn tell_slab(room: &mut [u64], at: usize, old: Session, s: Session) -> usize
     requires { ⌜ (at + recordLength ≤ length (now room)) × Clocked s ⌝ }
-    ensures { λ r. ⌜ Written (now (room .entry)) at (only (not (eqb (percentNow old) (percentNow s))) (reportAt (s .time) (Said.Slab (bandNow s)))) (now (room .exit)) r ⌝ }
+    ensures { λ r. ⌜ Written (now (room .entry)) at (only (slabMoved old s) (slabReport s)) (now (room .exit)) r ⌝ }
 {
     if force::percent_now(old) == force::percent_now(s) {
         return at;
@@ -91,7 +91,7 @@ pub fn tell_cancel(
 // The cancels of all orders of a side, in priority order, at the day's end.
 pub fn cancel_all(room: &mut [u64], at: usize, time: u64, t: &[u64], n: usize) -> usize
     requires { ⌜ (n ≤ slots) × (tableLength ≤ length (now t)) × (at + recordLength * n ≤ length (now room)) ⌝ }
-    ensures { λ r. ⌜ Written (now (room .entry)) at (cancelReports time (decode n (now (t .entry)))) (now (room .exit)) r ⌝ }
+    ensures { λ r. ⌜ Written (now (room .entry)) at (cancelReports Why.DayEnd time (decode n (now (t .entry)))) (now (room .exit)) r ⌝ }
 {
     let mut i: usize = 0;
     let mut next = at;

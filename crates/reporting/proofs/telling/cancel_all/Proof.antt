@@ -2,6 +2,7 @@
 use Prim.Native.Nat.{_-_, _≤_}
 use mathlib.Core.Path.{_≡_}
 use lib.ListN.{length, take}
+use Rattle.terms.specs.declared.Why.the-variants.{DayEnd}
 use Rattle.tables.specs.Tables.{decode}
 use Rattle.acts_law.specs.Acts.{cancelReports}
 use Rattle.acts_law.specs.Written.{Written}
@@ -13,7 +14,7 @@ use Rattle.reporting.proofs.telling.cancel_all.Tie as tie
 ruleset answers = (needs, cancels-none, cancels-all, cancels-leave, cancels-turn)
 
 abbrev Inv-loop : tie.InvT-loop
-Inv-loop room₀ at time t n i₀ next₀ room i next = (i ≤ n) × (length room ≡ length room₀) × Written room₀ at (cancelReports time (take i (decode n t))) room next
+Inv-loop room₀ at time t n i₀ next₀ room i next = (i ≤ n) × (length room ≡ length room₀) × Written room₀ at (cancelReports DayEnd time (take i (decode n t))) room next
 
 abbrev μ-loop : tie.MeasureT-loop
 μ-loop room₀ at time t n i₀ next₀ room i next = n - i
