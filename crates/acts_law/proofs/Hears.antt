@@ -20,6 +20,7 @@ use Rattle.rules_law.specs.Reference.{rangeOf, inRange}
 use Rattle.book_law.specs.Matching.{reportAt}
 use Rattle.state_law.specs.declared.Session.{Session}
 use Rattle.state_law.specs.Now.{bandNow}
+use Rattle.acts_law.proofs.Pieces.{EachTold}
 use Rattle.acts_law.specs.Heard.{initialBand, enhancedBand, bandAfter, referenceAfter, touchedIn, touchedBy}
 
 -- ---- the listener
@@ -74,23 +75,33 @@ EachFine g l (r ∷ rs) = Fine g l r × EachFine g (listen l r) rs
 abbrev pub Cooled : Settings → ℕ → List Report → Type 0
 Cooled g cooling past = (eqb cooling 0 || touchedBy (initialBand g) cooling past) ≡ true
 
--- what a listener knows of a session, by the four values that it is about
-pub record Knows (g : Settings) (l : Listener) (band : Band) (reference time cooling : ℕ) : Type 0 where
-  pub band-same : l .band ≡ band
-  pub reference-same : l .reference ≡ reference
-  pub time-past : l .time ≤ time
-  pub cooled : Cooled g cooling (l .past)
+-- what of a session a listener follows
+pub record Known : Type 0 where
+  pub band : Band
+  pub reference : ℕ
+  pub time : ℕ
+  pub cooling : ℕ
+
+abbrev pub knownOf : Session → Known
+knownOf s = record { band = bandNow s; reference = s .reckoning .reference; time = s .time; cooling = s .cooling }
+
+-- the listener knows it
+pub record Knows (g : Settings) (l : Listener) (k : Known) : Type 0 where
+  pub band-same : l .band ≡ k .band
+  pub reference-same : l .reference ≡ k .reference
+  pub time-past : l .time ≤ k .time
+  pub cooled : Cooled g (k .cooling) (l .past)
 
 abbrev pub KnowsOf : Settings → Listener → Session → Type 0
-KnowsOf g l s = Knows g l (bandNow s) (s .reckoning .reference) (s .time) (s .cooling)
+KnowsOf g l s = Knows g l (knownOf s)
 
--- reports that are fine from l on, after which the listener knows these values
-pub record Tells (g : Settings) (l : Listener) (rs : List Report) (band : Band) (reference time cooling : ℕ) : Type 0 where
+-- reports that are fine from l on, after which the listener knows this
+pub record Tells (g : Settings) (l : Listener) (rs : List Report) (k : Known) : Type 0 where
   pub fine : EachFine g l rs
-  pub known : Knows g (listenAll l rs) band reference time cooling
+  pub known : Knows g (listenAll l rs) k
 
 abbrev pub TellsOf : Settings → Listener → List Report → Session → Type 0
-TellsOf g l rs s = Tells g l rs (bandNow s) (s .reckoning .reference) (s .time) (s .cooling)
+TellsOf g l rs s = Tells g l rs (knownOf s)
 
 -- ---- lists of reports
 
@@ -104,24 +115,24 @@ unfolding listenAll EachFine
 fine-append g l [] ys p q = q
 fine-append g l (x ∷ xs) ys p q = (p .0, fine-append g (listen l x) xs ys (p .1) q)
 
-module _ (g : Settings) (b : Band) (p t c : ℕ) where
-  pub none-tells : (l : Listener) → Knows g l b p t c → Tells g l [] b p t c
+module _ (g : Settings) (k : Known) where
+  pub none-tells : (l : Listener) → Knows g l k → Tells g l [] k
   unfolding EachFine listenAll
-  none-tells l k = record { fine = tt; known = k }
+  none-tells l h = record { fine = tt; known = h }
 
-  pub next-tells : (l : Listener) (r : Report) (rs : List Report) → Fine g l r → Tells g (listen l r) rs b p t c → Tells g l (r ∷ rs) b p t c
+  pub next-tells : (l : Listener) (r : Report) (rs : List Report) → Fine g l r → Tells g (listen l r) rs k → Tells g l (r ∷ rs) k
   unfolding EachFine listenAll
-  next-tells l r rs f k = record { fine = (f, k .fine); known = k .known }
+  next-tells l r rs f h = record { fine = (f, h .fine); known = h .known }
 
-  pub one-tells : (l : Listener) (r : Report) → Fine g l r → Knows g (listen l r) b p t c → Tells g l (r ∷ []) b p t c
-  one-tells l r f k = next-tells l r [] f (none-tells (listen l r) k)
+  pub one-tells : (l : Listener) (r : Report) → Fine g l r → Knows g (listen l r) k → Tells g l (r ∷ []) k
+  one-tells l r f h = next-tells l r [] f (none-tells (listen l r) h)
 
-  -- after the first part the listener knows these, after the second those
-  pub append-tells : (b′ : Band) (p′ t′ c′ : ℕ) (l : Listener) (xs ys : List Report) → Tells g l xs b p t c →
-      (Knows g (listenAll l xs) b p t c → Tells g (listenAll l xs) ys b′ p′ t′ c′) → Tells g l (xs ++ ys) b′ p′ t′ c′
-  append-tells b′ p′ t′ c′ l xs ys k f =
-      let q : Tells g (listenAll l xs) ys b′ p′ t′ c′ = f (k .known) in
-      record { fine = fine-append g l xs ys (k .fine) (q .fine); known = rw (listen-append l xs ys) (q .known) }
+  -- after the first part the listener knows this, after the second that
+  pub append-tells : (k′ : Known) (l : Listener) (xs ys : List Report) → Tells g l xs k →
+      (Knows g (listenAll l xs) k → Tells g (listenAll l xs) ys k′) → Tells g l (xs ++ ys) k′
+  append-tells k′ l xs ys h f =
+      let q : Tells g (listenAll l xs) ys k′ = f (h .known) in
+      record { fine = fine-append g l xs ys (h .fine) (q .fine); known = rw (listen-append l xs ys) (q .known) }
 
 -- what holds of each report holds of one in the middle
 pub fine-at : (g : Settings) (l : Listener) (before later : List Report) (r : Report) → EachFine g l (before ++ (r ∷ later)) →
@@ -183,13 +194,33 @@ cooled-trade g widened cooling time deal past h =
     (λ c. same))
     (λ z. same)
 
--- a report that changes neither band nor reference, and is not before the time
-pub knows-more : (g : Settings) (l : Listener) (r : Report) (band : Band) (reference cooling : ℕ) → ((b : Band) → bandAfter b (r .said) ≡ b) →
-    ((p : ℕ) → referenceAfter p (r .said) ≡ p) → Knows g l band reference (r .time) cooling → Knows g (listen l r) band reference (r .time) cooling
-knows-more g l r band reference cooling b p k =
+-- ---- reports that say nothing of band and reference
+
+-- such a report
+pub record Plain (g : Settings) (x : Said) : Type 0 where
+  pub band : (b : Band) → bandAfter b x ≡ b
+  pub reference : (p : ℕ) → referenceAfter p x ≡ p
+  pub fine : (l : Listener) (t : ℕ) → FineSaid g l t x
+
+-- at a time
+abbrev pub PlainAt : Settings → ℕ → Report → Type 0
+PlainAt g t r = Plain g (r .said) × (r .time ≡ t)
+
+pub knows-more : (g : Settings) (k : Known) (l : Listener) (r : Report) → PlainAt g (k .time) r → Knows g l k → Knows g (listen l r) k
+knows-more g k l r p h =
     record {
-      band-same = b (l .band) ∙ k .band-same;
-      reference-same = p (l .reference) ∙ k .reference-same;
-      time-past = le-refl (r .time);
-      cooled = cooled-more g cooling r (l .past) (k .cooled);
+      band-same = p .0 .band (l .band) ∙ h .band-same;
+      reference-same = p .0 .reference (l .reference) ∙ h .reference-same;
+      time-past = omega (arith, p .1);
+      cooled = cooled-more g (k .cooling) r (l .past) (h .cooled);
     }
+
+pub plain-fine : (g : Settings) (k : Known) (l : Listener) (r : Report) → PlainAt g (k .time) r → Knows g l k → Fine g l r
+plain-fine g k l r p h = (omega (arith, p .1, h .time-past), p .0 .fine l (r .time))
+
+-- a run of them leaves what is known
+pub plain-tells : (g : Settings) (k : Known) (rs : List Report) → EachTold (PlainAt g (k .time)) rs → (l : Listener) → Knows g l k → Tells g l rs k
+unfolding EachTold
+plain-tells g k [] p l h = none-tells g k l h
+plain-tells g k (r ∷ rs) p l h =
+    next-tells g k l r rs (plain-fine g k l r (p .0) h) (plain-tells g k rs (p .1) (listen l r) (knows-more g k l r (p .0) h))

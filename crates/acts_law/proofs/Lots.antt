@@ -59,9 +59,9 @@ clock-kept lots id d t =
     let s′ : Session = clockStep s t in
     omega (
       arith,
-      total-none (askedIn id lots) (clockReports s s′) (clock-each _ (λ b. refl) (λ p. refl) s s′),
-      total-none (tradedIn id) (clockReports s s′) (clock-each _ (λ b. refl) (λ p. refl) s s′),
-      total-none (cancelledIn id) (clockReports s s′) (clock-each _ (λ b. refl) (λ p. refl) s s′),
+      total-none (askedIn id lots) (clockReports s s′) (clock-each _ s s′ refl refl),
+      total-none (tradedIn id) (clockReports s s′) (clock-each _ s s′ refl refl),
+      total-none (cancelledIn id) (clockReports s s′) (clock-each _ s s′ refl refl),
     )
 
 -- the orders of a day, whichever side is one's own
@@ -90,8 +90,8 @@ entered-asks s n id lots mine₀ w =
     omega (
       arith,
       total-none (askedIn id lots) (ts ++ fs)
-          (each-append _ ts fs (trades-each _ (λ deal. refl) (s .time) (n .side) (s .given + 1) (w .fills))
-          (fate-each _ (λ o. refl) (λ e. refl) (s .time) (s .given + 1) (w .left) (fateIn s n w))),
+          (each-append _ ts fs (trades-each _ (s .time) (n .side) (s .given + 1) (w .fills) (λ deal. refl))
+          (fate-each _ (s .time) (s .given + 1) (w .left) (fateIn s n w) (λ o. refl) (λ e. refl))),
     )
 
 entered-kept : (s : Session) (n : Entry) (id : ℕ) (own₀ theirs : List Order) →
@@ -130,12 +130,12 @@ finished-kept lots id d settle =
       arith,
       total-append (askedIn id lots) bs (ss ++ end),
       total-append (askedIn id lots) ss end,
-      total-none (askedIn id lots) bs (cancels-each _ (λ e. refl) DayEnd time (d .buys)),
-      total-none (askedIn id lots) ss (cancels-each _ (λ e. refl) DayEnd time (d .sells)),
+      total-none (askedIn id lots) bs (cancels-each _ DayEnd time (d .buys) (λ e. refl)),
+      total-none (askedIn id lots) ss (cancels-each _ DayEnd time (d .sells) (λ e. refl)),
       total-append (tradedIn id) bs (ss ++ end),
       total-append (tradedIn id) ss end,
-      total-none (tradedIn id) bs (cancels-each _ (λ e. refl) DayEnd time (d .buys)),
-      total-none (tradedIn id) ss (cancels-each _ (λ e. refl) DayEnd time (d .sells)),
+      total-none (tradedIn id) bs (cancels-each _ DayEnd time (d .buys) (λ e. refl)),
+      total-none (tradedIn id) ss (cancels-each _ DayEnd time (d .sells) (λ e. refl)),
       total-append (cancelledIn id) bs (ss ++ end),
       total-append (cancelledIn id) ss end,
       cancels-cancelled id DayEnd time (d .buys),
@@ -170,7 +170,7 @@ does-asks id d a =
     (λ number e. none (ap wanted e))
     (λ s q. none (ap (maybe 0 (λ n. n .lots)) (sets-alike q .entry)))
     (λ settle e. total-none (askedIn id (wanted a)) (ends d settle .reports)
-    (finished-each _ (λ x. refl) (λ c. refl) (d .session) (d .session .time) settle (d .buys) (d .sells)) ∙ none (ap wanted e))
+    (finished-each _ (d .session) (d .session .time) settle (d .buys) (d .sells) (λ x. refl) (λ c. refl)) ∙ none (ap wanted e))
 
 pub act-asks : (id : ℕ) (d : Day) (e : Event) → askedBy id (e .act) (act d e .reports) ≡ mine id (d .session .given + 1) (wanted (e .act))
 unfolding total clockStep
@@ -181,6 +181,6 @@ act-asks id d e =
     omega (
       arith,
       total-append f (clockReports s s′) (does (dayBy s′ d) (e .act) .reports),
-      total-none f (clockReports s s′) (clock-each _ (λ b. refl) (λ p. refl) s s′),
+      total-none f (clockReports s s′) (clock-each _ s s′ refl refl),
       does-asks id (dayBy s′ d) (e .act),
     ))

@@ -23,7 +23,7 @@ use Rattle.refusal_law.specs.Carried.{maybe, carries}
 use Rattle.acts_law.specs.Acts.{Acted, sweepIn, fateIn, entered, dropped, sideOf, withdrawn, silent, finished, stepped, timed, does, act}
 use Rattle.acts_law.specs.Asked.{acceptsIn, accepts, numbersTo}
 use Rattle.acts_law.proofs.Does.{sets-alike, enters, ends, does-by, Chains, begun-by, act-by}
-use Rattle.acts_law.proofs.Pieces.{EachSaid, each-append, clock-each, trades-each, fate-each, finished-each}
+use Rattle.acts_law.proofs.Pieces.{EachTold, each-append, clock-each, trades-each, fate-each, finished-each}
 
 pub accepts-append : (xs ys : List Report) → accepts (xs ++ ys) ≡ accepts xs ++ accepts ys
 unfolding accepts
@@ -33,8 +33,8 @@ accepts-append (x ∷ xs) ys =
     ∙ sym (append-assoc (acceptsIn (x .said)) (accepts xs) (accepts ys))
 
 -- reports none of which accepts
-accepts-none : (rs : List Report) → EachSaid (λ x. acceptsIn x ≡ []) rs → accepts rs ≡ []
-unfolding accepts EachSaid
+accepts-none : (rs : List Report) → EachTold (λ r. acceptsIn (r .said) ≡ []) rs → accepts rs ≡ []
+unfolding accepts EachTold
 accepts-none [] h = refl
 accepts-none (r ∷ rs) h = λ i. (h .0 i) ++ (accepts-none rs (h .1) i)
 
@@ -71,24 +71,24 @@ enter-counts d n =
     let ts : List Report = tradeReports (s .time) (n .side) number (w .fills) in
     let fs : List Report = fateReports (s .time) number (w .left) fate in
     let none : accepts (ts ++ fs) ≡ [] =
-    accepts-none (ts ++ fs) (each-append _ ts fs (trades-each _ (λ deal. refl) (s .time) (n .side) number (w .fills))
-    (fate-each _ (λ o. refl) (λ e. refl) (s .time) number (w .left) fate)) in
+    accepts-none (ts ++ fs) (each-append _ ts fs (trades-each _ (s .time) (n .side) number (w .fills) (λ deal. refl))
+    (fate-each _ (s .time) number (w .left) fate (λ o. refl) (λ e. refl))) in
     ap (λ (l : List ℕ). numbersTo (s .given) ++ (number ∷ l)) none ∙ next-number (s .given) ∙ ap numbersTo (sym (enter-given d n))
 
 -- what gives no number
-none-counts : (d : Day) (a : Acted) → EachSaid (λ x. acceptsIn x ≡ []) (a .reports) → a .day .session .given ≡ d .session .given → Counts d a
+none-counts : (d : Day) (a : Acted) → EachTold (λ r. acceptsIn (r .said) ≡ []) (a .reports) → a .day .session .given ≡ d .session .given → Counts d a
 none-counts d a e f =
     ap (λ (l : List ℕ). numbersTo (d .session .given) ++ l) (accepts-none (a .reports) e)
     ∙ append-nil (numbersTo (d .session .given)) ∙ ap numbersTo (sym f)
 
 does-counts : (d : Day) (a : Act) → Counts d (does d a)
-unfolding EachSaid dropped finished
+unfolding EachTold dropped finished
 does-counts d a =
     does-by (Counts d) d a
     (λ n e. enter-counts d n)
     (λ number e. none-counts d (withdrawn d number) (refl, tt) (given-with (sideOf number (d .buys)) (d .session) _ _))
     (λ s q. none-counts d (silent s d) tt (sets-alike q .given))
-    (λ settle e. none-counts d (ends d settle) (finished-each _ (λ x. refl) (λ c. refl) (d .session) (d .session .time) settle (d .buys) (d .sells)) refl)
+    (λ settle e. none-counts d (ends d settle) (finished-each _ (d .session) (d .session .time) settle (d .buys) (d .sells) (λ x. refl) (λ c. refl)) refl)
 
 counts-then : Chains Counts
 counts-then d a b h k =
@@ -99,12 +99,12 @@ counts-then d a b h k =
 
 -- NUMBERS ARE GIVEN IN ORDER, by each event on any day
 pub act-counts : (d : Day) (e : Event) → Counts d (act d e)
-unfolding clockStep EachSaid
+unfolding clockStep EachTold
 act-counts d e =
     let s : Session = d .session in
     act-by Counts counts-then d e
     (none-counts d (timed d (e .time)) tt refl)
-    (none-counts d (stepped d (e .time)) (clock-each _ (λ b. refl) (λ p. refl) s (clockStep s (e .time))) refl)
+    (none-counts d (stepped d (e .time)) (clock-each _ s (clockStep s (e .time)) refl refl) refl)
     (λ d′. does-counts d′ (e .act))
 
 -- ---- how many are given: one more by an order

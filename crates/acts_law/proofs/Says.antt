@@ -3,7 +3,7 @@ use Prim.Native.Nat.{ℕ, _+_, _≤_}
 use native.Mathlib.Omega.{arith}
 use native.Mathlib.Nat.{le-refl}
 use borrow.Author.Tests.{eqb-true, leb-true, not-true, not-false}
-use mathlib.Core.Path.{_≡_, refl, ap, _∙_}
+use mathlib.Core.Path.{_≡_, refl, sym, ap, _∙_}
 use mathlib.Core.Bool.{Bool, true, false, _||_, not}
 use mathlib.Core.List.{List, [], _∷_, _++_}
 use lib.Dec.{eqb, leb}
@@ -11,6 +11,7 @@ use Rattle.terms.specs.declared.Settings.{Settings}
 use Rattle.terms.specs.declared.Band.{Band}
 use Rattle.terms.specs.declared.Closing.{Closing}
 use Rattle.terms.specs.declared.Deal.{Deal}
+use Rattle.terms.specs.declared.Ended.{Ended}
 use Rattle.terms.specs.declared.Order.{Order}
 use Rattle.terms.specs.declared.Entry.{Entry}
 use Rattle.terms.specs.declared.Event.{Event}
@@ -45,34 +46,45 @@ use Rattle.soundness_law.proofs.Days.{sound-day}
 use Rattle.acts_law.specs.Acts.{Acted, only, slabMoved, refMoved, clockReports, sweepIn, fateIn, entered, ended, dropped, sideOf, cancelReports, finished, stepped, timed, does, act}
 use Rattle.acts_law.specs.Heard.{initialBand, enhancedBand, touchedBy}
 use Rattle.acts_law.proofs.Does.{Sets, setsUnder, setsNone, sets-alike, ends, does-by, across-by, Chains, begun-by}
-use Rattle.acts_law.proofs.Hears.{Listener, listen, FineSaid, Cooled, Knows, KnowsOf, Tells, TellsOf, none-tells, next-tells, one-tells, append-tells, later-by, cooled-more, cooled-trade, knows-more}
+use Rattle.acts_law.proofs.Hears.{Listener, listen, FineSlab, Cooled, Known, knownOf, Knows, KnowsOf, Tells, TellsOf, none-tells, next-tells, one-tells, append-tells, later-by, cooled-more, cooled-trade, Plain, PlainAt, knows-more, plain-fine, plain-tells}
+use Rattle.acts_law.proofs.Pieces.{each-one, fate-each, finished-each}
 
 -- ---- the clock steps
 
-slab-tells : (g : Settings) (l : Listener) (b b′ : Band) (p time t c c′ : ℕ) (changed : Bool) → Knows g l b p time c → time ≤ t →
-    (changed ≡ false → b ≡ b′) → (changed ≡ true → FineSaid g l t (Slab b′)) → Cooled g c′ (l .past) →
-    Tells g l (only changed (reportAt t (Slab b′))) b′ p t c′
-slab-tells g l b b′ p time t c c′ true k h e f m =
-    let r : Report = reportAt t (Slab b′) in
-    one-tells g b′ p t c′ l r (omega (arith, k .time-past), f refl)
-    (record { band-same = refl; reference-same = k .reference-same; time-past = le-refl t; cooled = cooled-more g c′ r (l .past) m })
-slab-tells g l b b′ p time t c c′ false k h e f m =
-    none-tells g b′ p t c′ l
-    (record { band-same = k .band-same ∙ e refl; reference-same = k .reference-same; time-past = omega (arith, k .time-past); cooled = m })
-
-ref-tells : (g : Settings) (l : Listener) (b : Band) (p p′ t c : ℕ) (changed : Bool) → Knows g l b p t c → (changed ≡ false → p ≡ p′) →
-    Tells g l (only changed (reportAt t (Ref p′))) b p′ t c
-ref-tells g l b p p′ t c true k e =
-    let r : Report = reportAt t (Ref p′) in
-    one-tells g b p′ t c l r (k .time-past, tt)
-    (record { band-same = k .band-same; reference-same = refl; time-past = le-refl t; cooled = cooled-more g c r (l .past) (k .cooled) })
-ref-tells g l b p p′ t c false k e =
-    none-tells g b p′ t c l (record {
-      band-same = k .band-same;
-      reference-same = k .reference-same ∙ e refl;
-      time-past = k .time-past;
-      cooled = k .cooled;
+slab-tells : (g : Settings) (l : Listener) (k k′ : Known) (changed : Bool) → Knows g l k → k .time ≤ k′ .time → k .reference ≡ k′ .reference →
+    (changed ≡ false → k .band ≡ k′ .band) → (changed ≡ true → FineSlab g l (k′ .time) (k′ .band)) → Cooled g (k′ .cooling) (l .past) →
+    Tells g l (only changed (reportAt (k′ .time) (Slab (k′ .band)))) k′
+slab-tells g l k k′ true h m p e f c =
+    let r : Report = reportAt (k′ .time) (Slab (k′ .band)) in
+    one-tells g k′ l r (omega (arith, h .time-past), f refl)
+    (record {
+      band-same = refl;
+      reference-same = h .reference-same ∙ p;
+      time-past = le-refl (k′ .time);
+      cooled = cooled-more g (k′ .cooling) r (l .past) c;
     })
+slab-tells g l k k′ false h m p e f c =
+    none-tells g k′ l
+    (record { band-same = h .band-same ∙ e refl; reference-same = h .reference-same ∙ p; time-past = omega (arith, h .time-past); cooled = c })
+
+-- what is known, with another reference
+abbrev withReference : ℕ → Known → Known
+withReference p k = record { band = k .band; reference = p; time = k .time; cooling = k .cooling }
+
+ref-tells : (g : Settings) (l : Listener) (k : Known) (p : ℕ) (changed : Bool) → Knows g l k → (changed ≡ false → k .reference ≡ p) →
+    Tells g l (only changed (reportAt (k .time) (Ref p))) (withReference p k)
+ref-tells g l k p true h e =
+    let r : Report = reportAt (k .time) (Ref p) in
+    one-tells g (withReference p k) l r (h .time-past, tt)
+    (record {
+      band-same = h .band-same;
+      reference-same = refl;
+      time-past = le-refl (k .time);
+      cooled = cooled-more g (k .cooling) r (l .past) (h .cooled);
+    })
+ref-tells g l k p false h e =
+    none-tells g (withReference p k) l
+    (record { band-same = h .band-same; reference-same = h .reference-same ∙ e refl; time-past = h .time-past; cooled = h .cooled })
 
 unchanged : (a b : ℕ) → not (eqb a b) ≡ false → a ≡ b
 unchanged a b e = eqb-true a b (not-false (eqb a b) e)
@@ -103,9 +115,9 @@ unfolding clockReports clockStep
 clock-tells s t l h i k =
     let g : Settings = s .settings in
     let s′ : Session = clockStep s t in
-    append-tells g (bandNow s′) (s .reckoning .reference) t (s′ .cooling) (bandNow s′) (s′ .reckoning .reference) t (s′ .cooling) l _ _
-    (slab-tells g l (bandNow s) (bandNow s′) (s .reckoning .reference) (s .time) t (s .cooling) (s′ .cooling)
-    (slabMoved s s′) k h
+    let slab : Known = withReference (s .reckoning .reference) (knownOf s′) in
+    append-tells g slab (knownOf s′) l _ _
+    (slab-tells g l (knownOf s) slab (slabMoved s s′) k h refl
     (λ e. ap (bandAt (g .base) (g .tick)) (unchanged (percentNow s) (percentNow s′) e))
     (λ e. let over : overBy (s .cooling) t ≡ true = percent-changes s t e in let bands = over-widens s t i over in record {
       touched = over-touched g (s .cooling) t (l .past) (k .cooled) over;
@@ -114,8 +126,7 @@ clock-tells s t l h i k =
       wider = λ x z. band-stays s t x (rw (k .band-same) at z);
     })
     (cooled-clock g (s .cooling) t (l .past) (k .cooled)))
-    (λ m. ref-tells g _ (bandNow s′) (s .reckoning .reference) (s′ .reckoning .reference) t (s′ .cooling)
-    (refMoved s s′) m
+    (λ m. ref-tells g _ slab (s′ .reckoning .reference) (refMoved s s′) m
     (λ e. unchanged (s .reckoning .reference) (s′ .reckoning .reference) e))
 
 -- ---- trades
@@ -131,7 +142,7 @@ trade-next : (s s′ : Session) (l : Listener) (deal : Deal) (lots : ℕ) (rs : 
 unfolding withTrade
 trade-next s s′ l deal lots rs k p f =
     let r : Report = reportAt (s .time) (Trade deal) in
-    next-tells (s .settings) (bandNow s′) (s′ .reckoning .reference) (s′ .time) (s′ .cooling) l r rs
+    next-tells (s .settings) (knownOf s′) l r rs
     (k .time-past, (rw (k .band-same) (p .0), rw (k .reference-same) (p .1)))
     (f (record {
       band-same = k .band-same;
@@ -143,7 +154,7 @@ trade-next s s′ l deal lots rs k p f =
 trades-tell : (s : Session) (l : Listener) (side : Side) (number : ℕ) (fs : List Order) → KnowsOf (s .settings) l s → EachPrice (Good s) fs →
     TellsOf (s .settings) l (tradeReports (s .time) side number fs) (withTrades s fs)
 unfolding tradeReports withTrades withTrade
-trades-tell s l side number [] k p = none-tells (s .settings) (bandNow s) (s .reckoning .reference) (s .time) (s .cooling) l k
+trades-tell s l side number [] k p = none-tells (s .settings) (knownOf s) l k
 trades-tell s l Buy number (f ∷ fs) k p =
     trade-next s (withTrades (withTrade s (f .price) (f .lots)) fs) l (dealOf Buy number f) (f .lots) (tradeReports (s .time) Buy number fs) k (p .0)
     (λ m. trades-tell (withTrade s (f .price) (f .lots)) (listen l (reportAt (s .time) (Trade (dealOf Buy number f)))) Buy number fs m (p .1))
@@ -151,46 +162,20 @@ trades-tell s l Sell number (f ∷ fs) k p =
     trade-next s (withTrades (withTrade s (f .price) (f .lots)) fs) l (dealOf Sell number f) (f .lots) (tradeReports (s .time) Sell number fs) k (p .0)
     (λ m. trades-tell (withTrade s (f .price) (f .lots)) (listen l (reportAt (s .time) (Trade (dealOf Sell number f)))) Sell number fs m (p .1))
 
--- ---- reports that say nothing of band and reference
-
-module _ (g : Settings) (b : Band) (p c : ℕ) where
-  -- one of them
-  plain-tells : (l : Listener) (r : Report) → FineSaid g l (r .time) (r .said) → Knows g l b p (r .time) c → Knows g (listen l r) b p (r .time) c →
-      Tells g l (r ∷ []) b p (r .time) c
-  plain-tells l r f k m = one-tells g b p (r .time) c l r (k .time-past, f) m
-
-  fate-tells : (t number left : ℕ) (fate : Fate) (l : Listener) → Knows g l b p t c → Tells g l (fateReports t number left fate) b p t c
-  fate-tells t number left Done l k = none-tells g b p t c l k
-  fate-tells t number left (Rests price) l k = none-tells g b p t c l k
-  fate-tells t number left (Turns price) l k =
-      let r : Report = reportAt t (Convert (record { number = number; price = price; lots = left })) in
-      plain-tells l r tt k (knows-more g l r b p c (λ x. refl) (λ x. refl) k)
-  fate-tells t number left (Ends why) l k =
-      let r : Report = reportAt t (Cancel (record { number = number; lots = left; why = why })) in
-      plain-tells l r tt k (knows-more g l r b p c (λ x. refl) (λ x. refl) k)
-
-  -- the same, where the session's time is told by an equation
-  fate-then : (t time number left : ℕ) (fate : Fate) (l : Listener) → time ≡ t → Knows g l b p time c →
-      Tells g l (fateReports t number left fate) b p time c
-  fate-then t time number left fate l e k = rw e (fate-tells t number left fate l (rw e at k))
-
-  cancel-next : (r : Report) (rs : List Report) (l : Listener) → FineSaid g l (r .time) (r .said) → Knows g l b p (r .time) c →
-      Tells g (listen l r) rs b p (r .time) c → Tells g l (r ∷ rs) b p (r .time) c
-  cancel-next r rs l f k m = next-tells g b p (r .time) c l r rs (k .time-past, f) m
-
-  cancels-tell : (why : Why) (t : ℕ) (os : List Order) (l : Listener) → Knows g l b p t c → Tells g l (cancelReports why t os) b p t c
-  unfolding cancelReports
-  cancels-tell why t [] l k = none-tells g b p t c l k
-  cancels-tell why t (o ∷ os) l k =
-      let r : Report = ended t (o .number) (o .lots) why in
-      cancel-next r (cancelReports why t os) l tt k (cancels-tell why t os (listen l r) (knows-more g l r b p c (λ x. refl) (λ x. refl) k))
-
-  close-tells : (t : ℕ) (closing : Closing) (l : Listener) → Knows g l b p t c → Tells g l (reportAt t (Close closing) ∷ []) b p t c
-  close-tells t closing l k =
-      let r : Report = reportAt t (Close closing) in
-      plain-tells l r tt k (knows-more g l r b p c (λ x. refl) (λ x. refl) k)
-
 -- ---- an order
+
+-- reports that say nothing of band and reference
+plain-accept : (g : Settings) (number : ℕ) → Plain g (Accept number)
+plain-accept g number = record { band = λ b. refl; reference = λ p. refl; fine = λ l t. tt }
+
+plain-convert : (g : Settings) (o : Order) → Plain g (Convert o)
+plain-convert g o = record { band = λ b. refl; reference = λ p. refl; fine = λ l t. tt }
+
+plain-cancel : (g : Settings) (e : Ended) → Plain g (Cancel e)
+plain-cancel g e = record { band = λ b. refl; reference = λ p. refl; fine = λ l t. tt }
+
+plain-close : (g : Settings) (c : Closing) → Plain g (Close c)
+plain-close g c = record { band = λ b. refl; reference = λ p. refl; fine = λ l t. tt }
 
 -- the values that a listener knows, of a day with a side's own orders and those across
 tells-with : (g : Settings) (l : Listener) (rs : List Report) (side : Side) (s : Session) (mine theirs : List Order) → TellsOf g l rs s →
@@ -223,14 +208,13 @@ entered-tells s n mine w l k p =
     let r : Report = reportAt (s .time) (Accept number) in
     let ts : List Report = tradeReports (s .time) (n .side) number (w .fills) in
     let fs : List Report = fateReports (s .time) number (w .left) (fateIn s n w) in
+    let plainly : PlainAt g (s .time) r = (plain-accept g number, refl) in
     tells-with g l (r ∷ (ts ++ fs)) (n .side) s′ (settled (n .side) number (w .left) (fateIn s n w) mine) (w .rest)
-    (next-tells g (bandNow s′) (s′ .reckoning .reference) (s′ .time) (s′ .cooling) l r (ts ++ fs) (k .time-past, tt)
-    (append-tells g (bandNow s′) (s′ .reckoning .reference) (s′ .time) (s′ .cooling) (bandNow s′) (s′ .reckoning .reference) (s′ .time) (s′ .cooling)
-    (listen l r) ts fs
-    (trades-tell (setGiven s number) (listen l r) (n .side) number (w .fills)
-    (knows-more g l r (bandNow s) (s .reckoning .reference) (s .cooling) (λ x. refl) (λ x. refl) k) p)
-    (λ m. fate-then g (bandNow s′) (s′ .reckoning .reference) (s′ .cooling) (s .time) (s′ .time) number (w .left) (fateIn s n w) _
-    (trades-leave (setGiven s number) (w .fills) .time) m)))
+    (next-tells g (knownOf s′) l r (ts ++ fs) (plain-fine g (knownOf s) l r plainly k)
+    (append-tells g (knownOf s′) (knownOf s′) (listen l r) ts fs
+    (trades-tell (setGiven s number) (listen l r) (n .side) number (w .fills) (knows-more g (knownOf s) l r plainly k) p)
+    (λ m. let same = sym (trades-leave (setGiven s number) (w .fills) .time) in
+    plain-tells g (knownOf s′) fs (fate-each _ (s .time) number (w .left) (fateIn s n w) (λ o. (plain-convert g o, same)) (λ e. (plain-cancel g e, same))) _ m)))
 
 -- ---- the other acts
 
@@ -240,27 +224,20 @@ unfolding dropped
 dropped-tells s number why side mine theirs l k =
     let r : Report = ended (s .time) number (leftOf number mine) why in
     tells-with (s .settings) l (r ∷ []) side s (removed number mine) theirs
-    (plain-tells (s .settings) (bandNow s) (s .reckoning .reference) (s .cooling) l r tt k
-    (knows-more (s .settings) l r (bandNow s) (s .reckoning .reference) (s .cooling) (λ x. refl) (λ x. refl) k))
+    (plain-tells (s .settings) (knownOf s) (r ∷ []) (each-one _ r (plain-cancel (s .settings) _, refl)) l k)
 
 -- an act that only sets the session: the underlying is no concern of a listener
 sets-tells : {s s′ : Session} {a : Act} → Sets s a s′ → (l : Listener) → KnowsOf (s .settings) l s → TellsOf (s .settings) l [] s′
-sets-tells {s} (setsUnder price) l k = none-tells (s .settings) _ _ _ _ l k
-sets-tells {s} setsNone l k = none-tells (s .settings) _ _ _ _ l k
+sets-tells {s} (setsUnder price) l k = none-tells (s .settings) (knownOf s) l k
+sets-tells {s} setsNone l k = none-tells (s .settings) (knownOf s) l k
 
 ends-tells : (d : Day) (settle : ℕ) (l : Listener) → KnowsOf (d .session .settings) l (d .session) →
     TellsOf (d .session .settings) l (ends d settle .reports) (ends d settle .day .session)
 unfolding finished
 ends-tells d settle l k =
     let s : Session = d .session in
-    let g : Settings = s .settings in
-    let b : Band = bandNow s in
-    let p : ℕ = s .reckoning .reference in
-    let t : ℕ = s .time in
-    let c : ℕ = s .cooling in
-    append-tells g b p t c b p t c l (cancelReports DayEnd t (d .buys)) _ (cancels-tell g b p c DayEnd t (d .buys) l k)
-    (λ m. append-tells g b p t c b p t c _ (cancelReports DayEnd t (d .sells)) _ (cancels-tell g b p c DayEnd t (d .sells) _ m)
-    (λ q. close-tells g b p c t _ _ q))
+    plain-tells (s .settings) (knownOf s) (ends d settle .reports)
+    (finished-each _ s (s .time) settle (d .buys) (d .sells) (λ e. (plain-cancel (s .settings) e, refl)) (λ c. (plain-close (s .settings) c, refl))) l k
 
 -- ---- an act
 
@@ -269,11 +246,7 @@ abbrev Heard : Settings → Day → Acted → Type 0
 Heard g d a = (l : Listener) → KnowsOf g l (d .session) → TellsOf g l (a .reports) (a .day .session)
 
 heard-then : (g : Settings) → Chains (Heard g)
-heard-then g d a b h k l m =
-    let s : Session = a .day .session in
-    let s′ : Session = b .day .session in
-    append-tells g (bandNow s) (s .reckoning .reference) (s .time) (s .cooling) (bandNow s′) (s′ .reckoning .reference) (s′ .time) (s′ .cooling)
-    l (a .reports) (b .reports) (h l m) (λ q. k _ q)
+heard-then g d a b h k l m = append-tells g (knownOf (a .day .session)) (knownOf (b .day .session)) l (a .reports) (b .reports) (h l m) (λ q. k _ q)
 
 -- the orders across are in the band
 abbrev Banded : Day → Type 0
@@ -319,7 +292,7 @@ timed-banded d t h side = rw (across-by side (setTime (d .session) t) d) (across
 -- the time alone
 timed-tells : (d : Day) (t : ℕ) → d .session .time ≤ t → Heard (d .session .settings) d (timed d t)
 timed-tells d t m l k =
-    none-tells (d .session .settings) _ _ t _ l
+    none-tells (d .session .settings) (knownOf (setTime (d .session) t)) l
     (record { band-same = k .band-same; reference-same = k .reference-same; time-past = omega (arith, k .time-past); cooled = k .cooled })
 
 -- a cooling-off runs only in the initial slab

@@ -32,7 +32,7 @@ use Rattle.acts_law.specs.Asked.{wanted, askedBy, resting, accepts, numbersTo}
 use Rattle.acts_law.proofs.Stays.{act-stays}
 use Rattle.acts_law.proofs.Lots.{act-kept, act-asks}
 use Rattle.acts_law.proofs.Numbers.{act-counts, givenBy, act-given}
-use Rattle.acts_law.proofs.Hears.{Listener, KnowsOf, TellsOf, none-tells}
+use Rattle.acts_law.proofs.Hears.{Listener, knownOf, KnowsOf, TellsOf, none-tells}
 use Rattle.acts_law.proofs.Says.{act-tells, act-moved}
 use Rattle.acts_law.proofs.Few.{act-few}
 use Rattle.acts_law.proofs.Small.{act-small}
@@ -104,7 +104,7 @@ pub outcome-tells : (d : Day) (e : Event) (l : Listener) → KnowsOf (d .session
 outcome-tells d e l m =
     by-verdict (λ (o : Outcome). TellsOf (d .session .settings) l (o .reports) (o .day .session)) d e
     (λ k. act-tells d e l (k .whole) (leb-true (d .session .time) (e .time) (k .forward)) m)
-    (λ r. none-tells (d .session .settings) _ _ _ _ l m)
+    (λ r. none-tells (d .session .settings) (knownOf (d .session)) l m)
 
 pub outcome-settings : (d : Day) (e : Event) → outcome d e .day .session .settings ≡ d .session .settings
 outcome-settings d e = by-verdict (λ (o : Outcome). o .day .session .settings ≡ d .session .settings) d e (λ k. act-moved d e .settings) (λ r. refl)

@@ -32,9 +32,9 @@ use Rattle.refusal_law.specs.Carried.{carries}
 use Rattle.refusal_law.specs.Refusals.{numbersRight, inHours, ticksRight, bandRight, finds, lifeHasPlace, hasPlace, hasNumbers, refusalOf}
 use Rattle.refusal_law.proofs.Carried.{any-same}
 use Rattle.refusal_law.proofs.Accepted.{Accepted, accepted, closed-refused}
-use Rattle.acts_law.specs.Acts.{Acted, clockReports, silent, finished, andThen, dayBy, stepped, timed, does, act}
+use Rattle.acts_law.specs.Acts.{Acted, slabReport, clockReports, silent, finished, andThen, dayBy, stepped, timed, does, act}
 use Rattle.acts_law.proofs.Does.{ends, own-by, act-closes, act-goes, closing}
-use Rattle.acts_law.proofs.Pieces.{EachSaid, clock-each}
+use Rattle.acts_law.proofs.Pieces.{EachTold, clock-each}
 use Rattle.acts_law.proofs.Stays.{act-stays}
 use Rattle.engine_law.specs.Outcome.{Outcome, decided, outcome, after, told}
 use Rattle.engine_law.proofs.Kept.{outcome-verdict, accepted-sound}
@@ -75,16 +75,16 @@ plain-append (x ∷ xs) ys =
     ap (λ (l : List Report). plainOne x (x .said) ++ l) (plain-append xs ys)
     ∙ sym (append-assoc (plainOne x (x .said)) (plain xs) (plain ys))
 
-plain-none : (rs : List Report) → EachSaid (λ x. (r : Report) → plainOne r x ≡ []) rs → plain rs ≡ []
-unfolding plain EachSaid
+plain-none : (rs : List Report) → EachTold (λ r. plainOne r (r .said) ≡ []) rs → plain rs ≡ []
+unfolding plain EachTold
 plain-none [] h = refl
-plain-none (r ∷ rs) h = λ i. (h .0 r i) ++ (plain-none rs (h .1) i)
+plain-none (r ∷ rs) h = λ i. (h .0 i) ++ (plain-none rs (h .1) i)
 
-slab-plain : (band : Band) (r : Report) → plainOne r (Slab band) ≡ []
-slab-plain band r = refl
+slab-plain : (r : Report) (band : Band) → plainOne r (Slab band) ≡ []
+slab-plain r band = refl
 
 clock-plain : (s s′ : Session) → plain (clockReports s s′) ≡ []
-clock-plain s s′ = plain-none (clockReports s s′) (clock-each _ slab-plain (λ p r. refl) s s′)
+clock-plain s s′ = plain-none (clockReports s s′) (clock-each _ s s′ (slab-plain (slabReport s′) (bandNow s′)) refl)
 
 after-plain : (d : Day) (t : ℕ) (a : Acted) → plain (andThen (stepped d t) a .reports) ≡ plain (a .reports)
 after-plain d t a =
