@@ -5,7 +5,8 @@ use native.Mathlib.Omega.{arith}
 use native.Mathlib.Nat.{le-refl}
 use borrow.Author.Tests.{leb-true, le-leb}
 use mathlib.Core.Path.{_≡_, refl, _∙_}
-use mathlib.Core.Bool.{true, _||_}
+use mathlib.Core.Bool.{Bool, true, false, _||_}
+use mathlib.Core.Option.{Option, some, none}
 use mathlib.Core.List.{List, [], _∷_, _++_}
 use lib.Dec.{eqb, leb}
 use Rattle.terms.specs.declared.Settings.{Settings}
@@ -13,11 +14,12 @@ use Rattle.terms.specs.declared.Band.{Band}
 use Rattle.terms.specs.declared.Deal.{Deal}
 use Rattle.terms.specs.declared.Report.{Report}
 use Rattle.terms.specs.declared.Said.{Said}
-use Rattle.terms.specs.declared.Said.the-variants.{Accept, Trade, Convert, Cancel, Slab, Ref, Close}
+use Rattle.terms.specs.declared.Said.the-variants.{Trade}
 use Rattle.terms.proofs.Logic.{by, cases, split, join, or-left, or-last}
 use Rattle.rules_law.specs.Slabs.{slabOf, percentOf, bandAt, inBand, touches, coolingLength, coolingAfter}
 use Rattle.rules_law.specs.Reference.{rangeOf, inRange}
 use Rattle.book_law.specs.Matching.{reportAt}
+use Rattle.book_law.specs.Tells.{maybe, If, tells}
 use Rattle.state_law.specs.declared.Session.{Session}
 use Rattle.state_law.specs.Now.{bandNow}
 use Rattle.acts_law.proofs.Pieces.{EachTold}
@@ -55,13 +57,9 @@ pub record FineSlab (g : Settings) (l : Listener) (t : ℕ) (band : Band) : Type
 
 -- what must hold of a report, by what was heard before it: a trade is in the band and in the range
 abbrev pub FineSaid : Settings → Listener → ℕ → Said → Type 0
-FineSaid g l t (Accept number) = Unit {0}
-FineSaid g l t (Trade deal) = (inBand (l .band) (deal .price) ≡ true) × (inRange (rangeOf (slabOf (g .category)) (l .reference)) (deal .price) ≡ true)
-FineSaid g l t (Convert order) = Unit {0}
-FineSaid g l t (Cancel ended) = Unit {0}
-FineSaid g l t (Slab band) = FineSlab g l t band
-FineSaid g l t (Ref price) = Unit {0}
-FineSaid g l t (Close closing) = Unit {0}
+FineSaid g l t x =
+    If (λ deal. (inBand (l .band) (deal .price) ≡ true) × (inRange (rangeOf (slabOf (g .category)) (l .reference)) (deal .price) ≡ true)) (tells x .deal)
+    × If (FineSlab g l t) (tells x .band)
 
 -- and no time is before that of the report before
 abbrev pub Fine : Settings → Listener → Report → Type 0
@@ -144,17 +142,17 @@ fine-at g l (x ∷ xs) later r f = fine-at g (listen l x) xs later r (f .1)
 -- ---- touches
 
 -- one that is over by a time is over by each later one
-later-in : (b : Band) (t u time : ℕ) (said : Said) → t ≤ u → touchedIn b t time said ≡ true → touchedIn b u time said ≡ true
-later-in b t u time (Accept number) h e = e
-later-in b t u time (Trade deal) h e =
-    let p = split (touches b (deal .price)) (leb (time + coolingLength) t) e in
+passes-too : {A : Type 0} (f g : A → Bool) → ((x : A) → f x ≡ true → g x ≡ true) → (x : Option A) → maybe false f x ≡ true → maybe false g x ≡ true
+passes-too f g h none e = e
+passes-too f g h (some x) e = h x e
+
+later-in : (b : Band) (t u time : ℕ) (x : Said) → t ≤ u → touchedIn b t time x ≡ true → touchedIn b u time x ≡ true
+later-in b t u time x h =
+    passes-too _ _
+    (λ deal e. let p = split (touches b (deal .price)) (leb (time + coolingLength) t) e in
     join (touches b (deal .price)) (leb (time + coolingLength) u) (p .0)
-    (le-leb (time + coolingLength) u (omega (arith, leb-true (time + coolingLength) t (p .1))))
-later-in b t u time (Convert order) h e = e
-later-in b t u time (Cancel ended) h e = e
-later-in b t u time (Slab band) h e = e
-later-in b t u time (Ref price) h e = e
-later-in b t u time (Close closing) h e = e
+    (le-leb (time + coolingLength) u (omega (arith, leb-true (time + coolingLength) t (p .1)))))
+    (tells x .deal)
 
 pub later-by : (b : Band) (t u : ℕ) (rs : List Report) → t ≤ u → touchedBy b t rs ≡ true → touchedBy b u rs ≡ true
 unfolding touchedBy

@@ -23,7 +23,7 @@ use Rattle.book_law.proofs.Remainder.{total-append, Balanced, entered-balanced}
 use Rattle.state_law.specs.declared.Session.{Session}
 use Rattle.state_law.specs.Clock.{clockStep}
 use Rattle.state_law.specs.Day.{Day, own, across, dayWith}
-use Rattle.refusal_law.specs.Carried.{maybe}
+use Rattle.book_law.specs.Tells.{maybe}
 use Rattle.acts_law.specs.Acts.{Acted, clockReports, sweepIn, fateIn, entered, dropped, sideOf, cancelReports, closeReport, finished, dayBy, stepped, timed, does, act}
 use Rattle.acts_law.specs.Asked.{wanted, askedIn, askedBy, resting}
 use Rattle.acts_law.proofs.Does.{sets-alike, enters, ends, does-by, Chains, begun-by, act-by}

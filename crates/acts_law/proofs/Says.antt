@@ -56,7 +56,7 @@ slab-tells : (g : Settings) (l : Listener) (k k′ : Known) (changed : Bool) →
     Tells g l (only changed (reportAt (k′ .time) (Slab (k′ .band)))) k′
 slab-tells g l k k′ true h m p e f c =
     let r : Report = reportAt (k′ .time) (Slab (k′ .band)) in
-    one-tells g k′ l r (omega (arith, h .time-past), f refl)
+    one-tells g k′ l r (omega (arith, h .time-past), (tt, f refl))
     (record {
       band-same = refl;
       reference-same = h .reference-same ∙ p;
@@ -75,7 +75,7 @@ ref-tells : (g : Settings) (l : Listener) (k : Known) (p : ℕ) (changed : Bool)
     Tells g l (only changed (reportAt (k .time) (Ref p))) (withReference p k)
 ref-tells g l k p true h e =
     let r : Report = reportAt (k .time) (Ref p) in
-    one-tells g (withReference p k) l r (h .time-past, tt)
+    one-tells g (withReference p k) l r (h .time-past, (tt, tt))
     (record {
       band-same = h .band-same;
       reference-same = refl;
@@ -143,7 +143,7 @@ unfolding withTrade
 trade-next s s′ l deal lots rs k p f =
     let r : Report = reportAt (s .time) (Trade deal) in
     next-tells (s .settings) (knownOf s′) l r rs
-    (k .time-past, (rw (k .band-same) (p .0), rw (k .reference-same) (p .1)))
+    (k .time-past, ((rw (k .band-same) (p .0), rw (k .reference-same) (p .1)), tt))
     (f (record {
       band-same = k .band-same;
       reference-same = k .reference-same;
@@ -166,16 +166,16 @@ trades-tell s l Sell number (f ∷ fs) k p =
 
 -- reports that say nothing of band and reference
 plain-accept : (g : Settings) (number : ℕ) → Plain g (Accept number)
-plain-accept g number = record { band = λ b. refl; reference = λ p. refl; fine = λ l t. tt }
+plain-accept g number = record { band = λ b. refl; reference = λ p. refl; fine = λ l t. (tt, tt) }
 
 plain-convert : (g : Settings) (o : Order) → Plain g (Convert o)
-plain-convert g o = record { band = λ b. refl; reference = λ p. refl; fine = λ l t. tt }
+plain-convert g o = record { band = λ b. refl; reference = λ p. refl; fine = λ l t. (tt, tt) }
 
 plain-cancel : (g : Settings) (e : Ended) → Plain g (Cancel e)
-plain-cancel g e = record { band = λ b. refl; reference = λ p. refl; fine = λ l t. tt }
+plain-cancel g e = record { band = λ b. refl; reference = λ p. refl; fine = λ l t. (tt, tt) }
 
 plain-close : (g : Settings) (c : Closing) → Plain g (Close c)
-plain-close g c = record { band = λ b. refl; reference = λ p. refl; fine = λ l t. tt }
+plain-close g c = record { band = λ b. refl; reference = λ p. refl; fine = λ l t. (tt, tt) }
 
 -- the values that a listener knows, of a day with a side's own orders and those across
 tells-with : (g : Settings) (l : Listener) (rs : List Report) (side : Side) (s : Session) (mine theirs : List Order) → TellsOf g l rs s →

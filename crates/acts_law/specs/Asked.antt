@@ -5,11 +5,11 @@ use mathlib.Core.List.{List, [], _∷_, _++_}
 use Rattle.terms.specs.declared.Act.{Act}
 use Rattle.terms.specs.declared.Report.{Report}
 use Rattle.terms.specs.declared.Said.{Said}
-use Rattle.terms.specs.declared.Said.the-variants.{Accept, Trade, Convert, Cancel, Slab, Ref, Close}
 use Rattle.book_law.specs.Over.{mine, lotsOf}
 use Rattle.book_law.specs.Told.{total}
 use Rattle.state_law.specs.Day.{Day}
-use Rattle.refusal_law.specs.Carried.{maybe, carries}
+use Rattle.book_law.specs.Tells.{maybe, tells}
+use Rattle.refusal_law.specs.Carried.{carries}
 
 -- the lots that an act asks for
 abbrev pub wanted : Act → ℕ
@@ -17,13 +17,7 @@ wanted a = maybe 0 (λ n. n .lots) (carries a .entry)
 
 -- and the order that asks: the report of acceptance gives it its number
 abbrev pub askedIn : ℕ → ℕ → Said → ℕ
-askedIn id lots (Accept number) = mine id number lots
-askedIn id lots (Trade deal) = 0
-askedIn id lots (Convert order) = 0
-askedIn id lots (Cancel ended) = 0
-askedIn id lots (Slab band) = 0
-askedIn id lots (Ref price) = 0
-askedIn id lots (Close closing) = 0
+askedIn id lots x = maybe 0 (λ number. mine id number lots) (tells x .accepted)
 
 -- the lots that the order with number id asks for, by an act and its reports
 abbrev pub askedBy : ℕ → Act → List Report → ℕ
@@ -36,13 +30,7 @@ resting id d = lotsOf id (d .buys) + lotsOf id (d .sells)
 -- ---- the numbers given
 
 abbrev pub acceptsIn : Said → List ℕ
-acceptsIn (Accept number) = number ∷ []
-acceptsIn (Trade deal) = []
-acceptsIn (Convert order) = []
-acceptsIn (Cancel ended) = []
-acceptsIn (Slab band) = []
-acceptsIn (Ref price) = []
-acceptsIn (Close closing) = []
+acceptsIn x = maybe [] (λ number. number ∷ []) (tells x .accepted)
 
 -- the numbers of the reports of acceptance, in their order
 unfoldable pub accepts : List Report → List ℕ

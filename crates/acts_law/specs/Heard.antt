@@ -8,10 +8,10 @@ use Rattle.terms.specs.declared.Settings.{Settings}
 use Rattle.terms.specs.declared.Band.{Band}
 use Rattle.terms.specs.declared.Report.{Report}
 use Rattle.terms.specs.declared.Said.{Said}
-use Rattle.terms.specs.declared.Said.the-variants.{Accept, Trade, Convert, Cancel, Slab, Ref, Close}
 use Rattle.rules_law.specs.declared.Range.{Range}
 use Rattle.rules_law.specs.Slabs.{slabOf, bandAt, touches, coolingLength}
 use Rattle.rules_law.specs.Reference.{openingReference, rangeOf}
+use Rattle.book_law.specs.Tells.{maybe, tells}
 
 -- the last word of the reports on something: what it was, changed by each report in turn
 unfoldable pub lastSaid : {A : Type 0} → (A → Said → A) → A → List Report → A
@@ -28,13 +28,7 @@ abbrev pub enhancedBand : Settings → Band
 enhancedBand g = bandAt (g .base) (g .tick) (slabOf (g .category) .initial + slabOf (g .category) .enhanced)
 
 abbrev pub bandAfter : Band → Said → Band
-bandAfter band (Accept number) = band
-bandAfter band (Trade deal) = band
-bandAfter band (Convert order) = band
-bandAfter band (Cancel ended) = band
-bandAfter band (Slab told) = told
-bandAfter band (Ref price) = band
-bandAfter band (Close closing) = band
+bandAfter band x = maybe band (λ told. told) (tells x .band)
 
 abbrev pub bandSaid : Settings → List Report → Band
 bandSaid g rs = lastSaid bandAfter (initialBand g) rs
@@ -42,13 +36,7 @@ bandSaid g rs = lastSaid bandAfter (initialBand g) rs
 -- ---- the reference: at first the opening one, then what a ref report tells
 
 abbrev pub referenceAfter : ℕ → Said → ℕ
-referenceAfter reference (Accept number) = reference
-referenceAfter reference (Trade deal) = reference
-referenceAfter reference (Convert order) = reference
-referenceAfter reference (Cancel ended) = reference
-referenceAfter reference (Slab band) = reference
-referenceAfter reference (Ref told) = told
-referenceAfter reference (Close closing) = reference
+referenceAfter reference x = maybe reference (λ told. told) (tells x .reference)
 
 abbrev pub referenceSaid : Settings → List Report → ℕ
 referenceSaid g rs = lastSaid referenceAfter (openingReference (g .base) (g .under) (g .days)) rs
@@ -60,13 +48,7 @@ rangeSaid g rs = rangeOf (slabOf (g .category)) (referenceSaid g rs)
 -- ---- "a trade exactly at either end", whose cooling-off of 900,000 ms is over by time t
 
 abbrev pub touchedIn : Band → ℕ → ℕ → Said → Bool
-touchedIn band t time (Accept number) = false
-touchedIn band t time (Trade deal) = touches band (deal .price) && leb (time + coolingLength) t
-touchedIn band t time (Convert order) = false
-touchedIn band t time (Cancel ended) = false
-touchedIn band t time (Slab told) = false
-touchedIn band t time (Ref price) = false
-touchedIn band t time (Close closing) = false
+touchedIn band t time x = maybe false (λ deal. touches band (deal .price) && leb (time + coolingLength) t) (tells x .deal)
 
 -- one of the reports tells it
 unfoldable pub touchedBy : Band → ℕ → List Report → Bool

@@ -3,8 +3,8 @@ use Prim.Native.Nat.{ℕ, _+_}
 use mathlib.Core.List.{List, [], _∷_}
 use Rattle.terms.specs.declared.Report.{Report}
 use Rattle.terms.specs.declared.Said.{Said}
-use Rattle.terms.specs.declared.Said.the-variants.{Accept, Trade, Convert, Cancel, Slab, Ref, Close}
 use Rattle.book_law.specs.Over.{mine}
+use Rattle.book_law.specs.Tells.{maybe, tells}
 
 -- the sum over reports of what each says
 unfoldable pub total : (Said → ℕ) → List Report → ℕ
@@ -13,22 +13,10 @@ total f (r ∷ rs) = f (r .said) + total f rs
 
 -- a trade counts for the buyer and for the seller
 abbrev pub tradedIn : ℕ → Said → ℕ
-tradedIn id (Accept number) = 0
-tradedIn id (Trade deal) = mine id (deal .buy) (deal .lots) + mine id (deal .sell) (deal .lots)
-tradedIn id (Convert order) = 0
-tradedIn id (Cancel ended) = 0
-tradedIn id (Slab band) = 0
-tradedIn id (Ref price) = 0
-tradedIn id (Close closing) = 0
+tradedIn id x = maybe 0 (λ deal. mine id (deal .buy) (deal .lots) + mine id (deal .sell) (deal .lots)) (tells x .deal)
 
 abbrev pub cancelledIn : ℕ → Said → ℕ
-cancelledIn id (Accept number) = 0
-cancelledIn id (Trade deal) = 0
-cancelledIn id (Convert order) = 0
-cancelledIn id (Cancel ended) = mine id (ended .number) (ended .lots)
-cancelledIn id (Slab band) = 0
-cancelledIn id (Ref price) = 0
-cancelledIn id (Close closing) = 0
+cancelledIn id x = maybe 0 (λ ended. mine id (ended .number) (ended .lots)) (tells x .ended)
 
 abbrev pub traded : ℕ → List Report → ℕ
 traded id rs = total (tradedIn id) rs

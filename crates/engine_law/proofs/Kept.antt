@@ -23,7 +23,8 @@ use Rattle.book_law.specs.Told.{total, traded, cancelled}
 use Rattle.state_law.specs.Tens.{Ten}
 use Rattle.state_law.specs.Day.{Day}
 use Rattle.soundness_law.specs.Sound.{sound}
-use Rattle.refusal_law.specs.Carried.{maybe, carries}
+use Rattle.book_law.specs.Tells.{maybe}
+use Rattle.refusal_law.specs.Carried.{carries}
 use Rattle.refusal_law.specs.Refusals.{refusalOf}
 use Rattle.refusal_law.proofs.Accepted.{Accepted, accepted}
 use Rattle.acts_law.specs.Acts.{act}

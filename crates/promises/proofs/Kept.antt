@@ -113,23 +113,23 @@ all-fine g es =
 
 pub trades-within : TradesWithin
 trades-within g es before later t deal e =
-    let f = fine-at g (first g) before later (reportAt t (Trade deal)) (rw e at (all-fine g es)) .1 in
+    let f = fine-at g (first g) before later (reportAt t (Trade deal)) (rw e at (all-fine g es)) .1 .0 in
     (rw (band-heard (first g) before) at (f .0), rw (reference-heard (first g) before) at (f .1))
 
 pub never-narrows : NeverNarrows
 never-narrows g es before later t band e x h =
-    let f = fine-at g (first g) before later (reportAt t (Slab band)) (rw e at (all-fine g es)) .1 in
+    let f = fine-at g (first g) before later (reportAt t (Slab band)) (rw e at (all-fine g es)) .1 .1 in
     f .wider x (rw (band-heard (first g) before) h)
 
 pub widens-after-touch : WidensAfterTouch
 unfolding touchedBy
 widens-after-touch g es before later t band e =
-    let f = fine-at g (first g) before later (reportAt t (Slab band)) (rw e at (all-fine g es)) .1 in
+    let f = fine-at g (first g) before later (reportAt t (Slab band)) (rw e at (all-fine g es)) .1 .1 in
     or-false (touchedBy (initialBand g) t before) (sym (past-heard (initialBand g) t (first g) before) ∙ f .touched)
 
 pub widens-to-enhanced : WidensToEnhanced
 widens-to-enhanced g es before later t band e =
-    let f = fine-at g (first g) before later (reportAt t (Slab band)) (rw e at (all-fine g es)) .1 in
+    let f = fine-at g (first g) before later (reportAt t (Slab band)) (rw e at (all-fine g es)) .1 .1 in
     (rw (band-heard (first g) before) at (f .before), f .told)
 
 -- two reports, one after the other

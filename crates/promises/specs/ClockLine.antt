@@ -7,9 +7,9 @@ use Rattle.terms.specs.declared.Event.{Event}
 use Rattle.terms.specs.declared.Act.the-variants.{Clock}
 use Rattle.terms.specs.declared.Report.{Report}
 use Rattle.terms.specs.declared.Said.{Said}
-use Rattle.terms.specs.declared.Said.the-variants.{Accept, Trade, Convert, Cancel, Slab, Ref, Close}
 use Rattle.terms.specs.declared.Verdict.{Verdict}
 use Rattle.terms.specs.declared.Verdict.the-variants.{Fine}
+use Rattle.book_law.specs.Tells.{maybe, tells}
 use Rattle.state_law.specs.Day.{Day, opened}
 use Rattle.engine_law.specs.Outcome.{outcome, after}
 
@@ -18,13 +18,7 @@ clockAt t = record { time = t; act = Clock }
 
 -- a report, if it is neither slab nor ref
 abbrev pub plainOne : Report → Said → List Report
-plainOne r (Accept number) = r ∷ []
-plainOne r (Trade deal) = r ∷ []
-plainOne r (Convert order) = r ∷ []
-plainOne r (Cancel ended) = r ∷ []
-plainOne r (Slab band) = []
-plainOne r (Ref price) = []
-plainOne r (Close closing) = r ∷ []
+plainOne r x = maybe (maybe (r ∷ []) (λ price. []) (tells x .reference)) (λ band. []) (tells x .band)
 
 -- acceptances, trades, conversions, cancels and closing prices
 unfoldable pub plain : List Report → List Report

@@ -7,11 +7,7 @@ use Rattle.terms.specs.declared.Act.the-variants.{Enter, Withdraw, Under, Clock
 use Rattle.terms.specs.declared.Entry.{Entry}
 use Rattle.terms.specs.declared.Kind.{Kind}
 use Rattle.terms.specs.declared.Kind.the-variants.{Limit, Market}
-
--- something that may be there: what is made of it, or else another thing
-abbrev pub maybe : {A B : Type 0} → B → (A → B) → Option A → B
-maybe other f none = other
-maybe other f (some x) = f x
+use Rattle.book_law.specs.Tells.{maybe}
 
 -- a test of something that may be there
 abbrev pub ofAny : {A : Type 0} → (A → Bool) → Option A → Bool

@@ -1,0 +1,37 @@
+-- What a report tells, listed once: what is made of reports is a function of these.
+use Prim.Native.Nat.{ℕ}
+use mathlib.Core.Option.{Option, some, none}
+use Rattle.terms.specs.declared.Band.{Band}
+use Rattle.terms.specs.declared.Deal.{Deal}
+use Rattle.terms.specs.declared.Ended.{Ended}
+use Rattle.terms.specs.declared.Said.{Said}
+use Rattle.terms.specs.declared.Said.the-variants.{Accept, Trade, Convert, Cancel, Slab, Ref, Close}
+
+-- something that may be there: what is made of it, or else another thing
+abbrev pub maybe : {A B : Type 0} → B → (A → B) → Option A → B
+maybe other f none = other
+maybe other f (some x) = f x
+
+-- it has the property, if it is there
+abbrev pub If : {A : Type 0} → (A → Type 0) → Option A → Type 0
+If P none = Unit {0}
+If P (some x) = P x
+
+pub record Telling : Type 0 where
+  -- the number of an order that is accepted
+  pub accepted : Option ℕ
+  pub deal : Option Deal
+  pub ended : Option Ended
+  -- the band from here on
+  pub band : Option Band
+  -- the reference from here on
+  pub reference : Option ℕ
+
+abbrev pub tells : Said → Telling
+tells (Accept number) = record { accepted = some number; deal = none; ended = none; band = none; reference = none }
+tells (Trade deal) = record { accepted = none; deal = some deal; ended = none; band = none; reference = none }
+tells (Convert order) = record { accepted = none; deal = none; ended = none; band = none; reference = none }
+tells (Cancel ended) = record { accepted = none; deal = none; ended = some ended; band = none; reference = none }
+tells (Slab band) = record { accepted = none; deal = none; ended = none; band = some band; reference = none }
+tells (Ref price) = record { accepted = none; deal = none; ended = none; band = none; reference = some price }
+tells (Close closing) = record { accepted = none; deal = none; ended = none; band = none; reference = none }
