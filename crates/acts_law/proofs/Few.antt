@@ -19,8 +19,8 @@ use Rattle.terms.specs.Sizes.{slots, reportsMost}
 use Rattle.book_law.specs.Matching.{Swept, tradeReports, fateReports}
 use Rattle.book_law.proofs.Conserve.{sweep-fewer}
 use Rattle.book_law.proofs.Remainder.{length-trades, fate-placed}
-use Rattle.audit_law.specs.Sound.{BookFits}
-use Rattle.audit_law.proofs.Facts.{book-fits}
+use Rattle.book_sound_law.specs.Sound.{BookFits}
+use Rattle.book_sound_law.proofs.Facts.{book-fits}
 use Rattle.state_law.specs.declared.Session.{Session}
 use Rattle.state_law.specs.Now.{bandNow}
 use Rattle.state_law.specs.Clock.{clockStep}

@@ -30,8 +30,8 @@ use Rattle.book_law.specs.Matching.{Taker, taker, Swept, sweep, reportAt, dealO
 use Rattle.book_law.specs.Over.{Each, EachPrice}
 use Rattle.book_law.proofs.Over.{each-map}
 use Rattle.book_law.proofs.Fills.{Dealable, fills-dealable, each-swept}
-use Rattle.audit_law.specs.Sound.{OrderFits, BookFits}
-use Rattle.audit_law.proofs.Facts.{book-fits, each-fits}
+use Rattle.book_sound_law.specs.Sound.{OrderFits, BookFits}
+use Rattle.book_sound_law.proofs.Facts.{book-fits, each-fits}
 use Rattle.state_law.specs.declared.Session.{Session}
 use Rattle.state_law.specs.Set.{setTime, setGiven}
 use Rattle.state_law.specs.Now.{percentNow, bandNow, rangeNow}

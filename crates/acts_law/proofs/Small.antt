@@ -35,8 +35,8 @@ use Rattle.book_law.specs.Matching.{Swept, reportAt, dealOf, tradeReports, Fate
 use Rattle.book_law.specs.Over.{Each}
 use Rattle.book_law.proofs.Over.{each-map}
 use Rattle.book_law.proofs.Conserve.{Conserved, sweep-conserves}
-use Rattle.audit_law.specs.Sound.{OrderFits, BookFits}
-use Rattle.audit_law.proofs.Facts.{book-fits, each-fits}
+use Rattle.book_sound_law.specs.Sound.{OrderFits, BookFits}
+use Rattle.book_sound_law.proofs.Facts.{book-fits, each-fits}
 use Rattle.state_law.specs.declared.Session.{Session}
 use Rattle.state_law.specs.Now.{bandNow}
 use Rattle.state_law.specs.Day.{Day, own, across}

@@ -29,9 +29,9 @@ use Rattle.rules_law.specs.Slabs.{slabOf, percentOf, bandAt}
 use Rattle.book_law.specs.Priority.{otherSide, removed}
 use Rattle.book_law.specs.Matching.{taker, Swept, sweep, settled}
 use Rattle.book_law.specs.Over.{Each}
-use Rattle.audit_law.specs.Sound.{bookSound, onSide, OrderFits}
-use Rattle.audit_law.proofs.Facts.{book-fits, empty-sound}
-use Rattle.audit_law.proofs.Enters.{Admitted, ownAfter, wider-sound, removed-sound, fills-sound, entered-sound}
+use Rattle.book_sound_law.specs.Sound.{bookSound, onSide, OrderFits}
+use Rattle.book_sound_law.proofs.Facts.{book-fits, empty-sound}
+use Rattle.book_sound_law.proofs.Enters.{Admitted, ownAfter, wider-sound, removed-sound, fills-sound, entered-sound}
 use Rattle.state_law.specs.declared.Session.{Session}
 use Rattle.state_law.specs.Set.{setTime, setClosed, setGiven}
 use Rattle.state_law.specs.Now.{bandNow}

@@ -2,10 +2,10 @@
 use engine::apply;
 use engine::looking;
 use engine_law::Answer;
-use packing::events;
-use packing::runs;
-use packing::sessions;
-use packing::settings;
+use desk_packing::events;
+use desk_packing::runs;
+use desk_packing::sessions;
+use desk_packing::settings;
 use state::opening;
 use state_law::Opened;
 use state_law::Session;
@@ -18,9 +18,9 @@ ghost use mathlib.Core.Bool.{true};
 ghost use Prim.Native.Nat.{_≤_};
 ghost use lib.ListN.{length};
 ghost use Rattle.engine_law.specs.Calls.{viewCall};
-ghost use Rattle.packing.specs.Runs.{settingsLength, sessionLength, eventLength};
-ghost use Rattle.packing.specs.Sessions.{isSession};
-ghost use Rattle.answers.specs.Answers.{answerOf};
+ghost use Rattle.desk_packing.specs.Runs.{settingsLength, sessionLength, eventLength};
+ghost use Rattle.desk_packing.specs.Sessions.{isSession};
+ghost use Rattle.desk_answers.specs.Answers.{answerOf};
 ghost use Rattle.desk_law.specs.Calls.{openedFrom, OpenedAs, strangeVerdict, AppliedOn, soundOn, viewOn};
 
 // The opening that a run of settings asks for.
@@ -43,8 +43,8 @@ fn answer_to(v: Verdict) -> u64
     ensures { λ r. ⌜ r ≡ answerOf v 0 ⌝ }
 {
     match v {
-        Verdict::Fine => answers::done(0),
-        Verdict::Refused(r) => answers::refused(r),
+        Verdict::Fine => desk_answers::done(0),
+        Verdict::Refused(r) => desk_answers::refused(r),
     }
 }
 
@@ -54,10 +54,10 @@ pub extern "C" fn kakoludar_open(settings: &[u64], session: &mut [u64]) -> u64
     ensures { λ r. ⌜ OpenedAs (now (settings .entry)) (now (session .entry)) (now (session .exit)) r ⌝ }
 {
     if settings.len() < runs::SETTINGS {
-        return answers::refused(Refusal::SmallRoom);
+        return desk_answers::refused(Refusal::SmallRoom);
     }
     if session.len() < runs::SESSION {
-        return answers::refused(Refusal::SmallRoom);
+        return desk_answers::refused(Refusal::SmallRoom);
     }
     let o = opened(settings);
     let verdict = o.verdict;
@@ -72,9 +72,9 @@ fn turned_away(buys: &[u64], sells: &[u64], room: &[u64]) -> u64
     ensures { λ r. ⌜ r ≡ answerOf (strangeVerdict (now (buys .entry)) (now (sells .entry)) (now (room .entry))) 0 ⌝ }
 {
     if !apply::is_roomy(buys, sells, room) {
-        return answers::refused(Refusal::SmallRoom);
+        return desk_answers::refused(Refusal::SmallRoom);
     }
-    answers::refused(Refusal::Unsound)
+    desk_answers::refused(Refusal::Unsound)
 }
 
 // An event on runs that are long enough, of which the first is a session's.
@@ -97,9 +97,9 @@ fn carried(
         Answer::Reported(count) => {
             let numbers = sessions::pack(after);
             runs::lay(session, &numbers);
-            answers::done(count)
+            desk_answers::done(count)
         }
-        Answer::Refused(r) => answers::refused(r),
+        Answer::Refused(r) => desk_answers::refused(r),
     }
 }
 
@@ -115,10 +115,10 @@ pub extern "C" fn kakoludar_apply(
     ensures { λ r. ⌜ AppliedOn (now (session .entry)) (now (event .entry)) (now (buys .entry)) (now (sells .entry)) (now (room .entry)) (now (session .exit)) (now (buys .exit)) (now (sells .exit)) (now (room .exit)) r ⌝ }
 {
     if session.len() < runs::SESSION {
-        return answers::refused(Refusal::SmallRoom);
+        return desk_answers::refused(Refusal::SmallRoom);
     }
     if event.len() < runs::EVENT {
-        return answers::refused(Refusal::SmallRoom);
+        return desk_answers::refused(Refusal::SmallRoom);
     }
     if !sessions::is_session(session) {
         return turned_away(buys, sells, room);

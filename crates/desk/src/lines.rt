@@ -1,14 +1,14 @@
 // The calls on lines: settings and events read and written, reports written.
-use packing::events;
-use packing::events::FoundEvent;
-use packing::runs;
-use packing::settings;
-use reading_law::ReadEvent;
-use reading_law::ReadSettings;
+use desk_packing::events;
+use desk_packing::events::FoundEvent;
+use desk_packing::runs;
+use desk_packing::settings;
+use lines_reading_law::ReadEvent;
+use lines_reading_law::ReadSettings;
 use records::ReadRecord;
 use terms::Refusal;
 use terms::sizes;
-use writing_law::Wrote;
+use lines_writing_law::Wrote;
 ghost use mathlib.Core.Path.{_≡_};
 ghost use Rattle.desk_law.specs.Reads.{EventReadInto, SettingsReadInto};
 ghost use Rattle.desk_law.specs.Writes.{wroteNumber, Few, SettingsWrittenOn, EventWrittenOn, ReportWrittenOn};
@@ -19,8 +19,8 @@ pub fn wrote(w: Wrote) -> u64
     ensures { λ r. ⌜ r ≡ wroteNumber w ⌝ }
 {
     match w {
-        Wrote::Written(n) => answers::done(n as u64),
-        Wrote::Refused(r) => answers::refused(r),
+        Wrote::Written(n) => desk_answers::done(n as u64),
+        Wrote::Refused(r) => desk_answers::refused(r),
     }
 }
 
@@ -30,16 +30,16 @@ pub extern "C" fn kakoludar_read_event(line: &[u8], event: &mut [u64]) -> u64
     ensures { λ r. ⌜ EventReadInto (now (line .entry)) (now (event .entry)) (now (event .exit)) r ⌝ }
 {
     if event.len() < runs::EVENT {
-        return answers::refused(Refusal::SmallRoom);
+        return desk_answers::refused(Refusal::SmallRoom);
     }
-    match reading::read_event(line) {
+    match lines_reading::read_event(line) {
         ReadEvent::Whole(e, n) => {
             let numbers = events::pack(e);
             runs::lay(event, &numbers);
-            answers::done(n as u64)
+            desk_answers::done(n as u64)
         }
-        ReadEvent::Unfinished => answers::refused(Refusal::LineUnfinished),
-        ReadEvent::Wrong(n) => answers::wrong_at(n),
+        ReadEvent::Unfinished => desk_answers::refused(Refusal::LineUnfinished),
+        ReadEvent::Wrong(n) => desk_answers::wrong_at(n),
     }
 }
 
@@ -49,16 +49,16 @@ pub extern "C" fn kakoludar_read_settings(line: &[u8], settings: &mut [u64]) -> 
     ensures { λ r. ⌜ SettingsReadInto (now (line .entry)) (now (settings .entry)) (now (settings .exit)) r ⌝ }
 {
     if settings.len() < runs::SETTINGS {
-        return answers::refused(Refusal::SmallRoom);
+        return desk_answers::refused(Refusal::SmallRoom);
     }
-    match reading::read_settings(line) {
+    match lines_reading::read_settings(line) {
         ReadSettings::Whole(g, n) => {
             let numbers = settings::pack(g);
             runs::lay(settings, &numbers);
-            answers::done(n as u64)
+            desk_answers::done(n as u64)
         }
-        ReadSettings::Unfinished => answers::refused(Refusal::LineUnfinished),
-        ReadSettings::Wrong(n) => answers::wrong_at(n),
+        ReadSettings::Unfinished => desk_answers::refused(Refusal::LineUnfinished),
+        ReadSettings::Wrong(n) => desk_answers::wrong_at(n),
     }
 }
 
@@ -68,14 +68,14 @@ pub extern "C" fn kakoludar_write_report(report: &[u64], line: &mut [u8]) -> u64
     ensures { λ r. ⌜ ReportWrittenOn (now (report .entry)) (now (line .entry)) (now (line .exit)) r ⌝ }
 {
     if report.len() < sizes::RECORD {
-        return answers::refused(Refusal::SmallRoom);
+        return desk_answers::refused(Refusal::SmallRoom);
     }
     match records::read_record(report, 0) {
         ReadRecord::Told(p) => {
-            let w = saying::write_report(p, line);
+            let w = lines_writing_reports::write_report(p, line);
             wrote(w)
         }
-        ReadRecord::Nothing => answers::refused(Refusal::NumberRange),
+        ReadRecord::Nothing => desk_answers::refused(Refusal::NumberRange),
     }
 }
 
@@ -85,14 +85,14 @@ pub extern "C" fn kakoludar_write_event(event: &[u64], line: &mut [u8]) -> u64
     ensures { λ r. ⌜ EventWrittenOn (now (event .entry)) (now (line .entry)) (now (line .exit)) r ⌝ }
 {
     if event.len() < runs::EVENT {
-        return answers::refused(Refusal::SmallRoom);
+        return desk_answers::refused(Refusal::SmallRoom);
     }
     match events::find(event) {
         FoundEvent::Told(e) => {
-            let w = writing::write_event(e, line);
+            let w = lines_writing::write_event(e, line);
             wrote(w)
         }
-        FoundEvent::Nothing => answers::refused(Refusal::NumberRange),
+        FoundEvent::Nothing => desk_answers::refused(Refusal::NumberRange),
     }
 }
 
@@ -102,12 +102,12 @@ pub extern "C" fn kakoludar_write_settings(settings: &[u64], line: &mut [u8]) ->
     ensures { λ r. ⌜ SettingsWrittenOn (now (settings .entry)) (now (line .entry)) (now (line .exit)) r ⌝ }
 {
     if settings.len() < runs::SETTINGS {
-        return answers::refused(Refusal::SmallRoom);
+        return desk_answers::refused(Refusal::SmallRoom);
     }
     if !settings::is_category(settings[0]) {
-        return answers::refused(Refusal::SettingsRange);
+        return desk_answers::refused(Refusal::SettingsRange);
     }
     let g = settings::unpack(settings);
-    let w = writing::write_settings(g, line);
+    let w = lines_writing::write_settings(g, line);
     wrote(w)
 }

@@ -7,7 +7,7 @@ use terms::Refusal;
 ghost use mathlib.Core.Path.{_≡_};
 ghost use Prim.Native.Nat.{_≤_};
 ghost use lib.ListN.{length};
-ghost use Rattle.standing.specs.Runs.{runLength};
+ghost use Rattle.desk_runs.specs.Runs.{runLength};
 ghost use Rattle.desk_law.specs.Feeding.{StartedAs, countsLength, stopNumber, isRefusal, LaidAfter, FedAs, EndedOn};
 
 pub const COUNTS: usize = 2;
@@ -17,11 +17,11 @@ pub const COUNTS: usize = 2;
 pub extern "C" fn kakoludar_start(run: &mut [u64]) -> u64
     ensures { λ r. ⌜ StartedAs (now (run .entry)) (now (run .exit)) r ⌝ }
 {
-    if run.len() < standing::RUN {
-        return answers::refused(Refusal::SmallRoom);
+    if run.len() < desk_runs::RUN {
+        return desk_answers::refused(Refusal::SmallRoom);
     }
-    standing::lay(run, feed::start());
-    answers::done(0)
+    desk_runs::lay(run, feed::start());
+    desk_answers::done(0)
 }
 
 // What a stop is answered.
@@ -29,10 +29,10 @@ fn answer_to(stop: Stop) -> u64
     ensures { λ r. ⌜ r ≡ stopNumber stop ⌝ }
 {
     match stop {
-        Stop::Waits => answers::done(0),
-        Stop::Full => answers::done(1),
-        Stop::Over => answers::done(2),
-        Stop::Refused(r) => answers::refused(r),
+        Stop::Waits => desk_answers::done(0),
+        Stop::Full => desk_answers::done(1),
+        Stop::Over => desk_answers::done(2),
+        Stop::Refused(r) => desk_answers::refused(r),
     }
 }
 
@@ -52,7 +52,7 @@ fn lay_after(run: &mut [u64], counts: &mut [u64], after: Run, used: usize, wrote
     requires { ⌜ (runLength ≤ length (now run)) × (countsLength ≤ length (now counts)) ⌝ }
     ensures { λ _. ⌜ LaidAfter (now (run .entry)) (now (counts .entry)) after used wrote (now (run .exit)) (now (counts .exit)) ⌝ }
 {
-    standing::lay(run, after);
+    desk_runs::lay(run, after);
     counts[0] = used as u64;
     counts[1] = wrote as u64;
 }
@@ -71,13 +71,13 @@ pub extern "C" fn kakoludar_feed(
 ) -> u64
     ensures { λ r. ⌜ FedAs (now (run .entry)) (now (bytes .entry)) (now (buys .entry)) (now (sells .entry)) (now (room .entry)) (now (out .entry)) (now (counts .entry)) (now (run .exit)) (now (buys .exit)) (now (sells .exit)) (now (room .exit)) (now (out .exit)) (now (counts .exit)) r ⌝ }
 {
-    if run.len() < standing::RUN {
-        return answers::refused(Refusal::SmallRoom);
+    if run.len() < desk_runs::RUN {
+        return desk_answers::refused(Refusal::SmallRoom);
     }
     if counts.len() < COUNTS {
-        return answers::refused(Refusal::SmallRoom);
+        return desk_answers::refused(Refusal::SmallRoom);
     }
-    let before = standing::unpack(run);
+    let before = desk_runs::unpack(run);
     let taken = lines::take_lines(before, bytes, buys, sells, room, out);
     let after = taken.run;
     let used = taken.used;
@@ -96,10 +96,10 @@ pub extern "C" fn kakoludar_feed(
 pub extern "C" fn kakoludar_end(run: &[u64], rest: &[u8], out: &mut [u8]) -> u64
     ensures { λ r. ⌜ EndedOn (now (run .entry)) (now (rest .entry)) (now (out .entry)) (now (out .exit)) r ⌝ }
 {
-    if run.len() < standing::RUN {
-        return answers::refused(Refusal::SmallRoom);
+    if run.len() < desk_runs::RUN {
+        return desk_answers::refused(Refusal::SmallRoom);
     }
-    let before = standing::unpack(run);
+    let before = desk_runs::unpack(run);
     let stage = before.stage;
     let w = lines::take_end(stage, rest, out);
     wrote(w)

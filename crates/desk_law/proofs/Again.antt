@@ -11,20 +11,20 @@ use Rattle.terms.specs.declared.Verdict.{Verdict}
 use Rattle.terms.specs.declared.Verdict.the-variants.{Fine, Refused}
 use Rattle.terms.proofs.Logic.{by}
 use Rattle.tables.specs.Put.{put}
-use Rattle.text_law.specs.Grammar.{whole}
+use Rattle.lines_text_law.specs.Grammar.{whole}
 use Rattle.state_law.specs.declared.Session.{Session}
 use Rattle.state_law.specs.declared.Opened.{Opened}
 use Rattle.soundness_law.specs.Sound.{dayIn}
 use Rattle.acts_law.specs.Acts.{act}
 use Rattle.engine_law.specs.Outcome.{decided}
 use Rattle.engine_law.specs.Calls.{callVerdict, called}
-use Rattle.reading_law.specs.Answers.{readEvent, readSettings}
-use Rattle.packing.specs.Runs.{settingsLength, sessionLength, eventLength}
-use Rattle.packing.specs.Settings.{isCategory, settingsNumbers, settingsFrom}
-use Rattle.packing.specs.Sessions.{sessionFrom}
-use Rattle.packing.specs.Events.{eventNumbers, eventFrom}
-use Rattle.packing.proofs.Inverse.{from-ten, laid-back, settings-back}
-use Rattle.packing.proofs.EventInverse.{event-back}
+use Rattle.lines_reading_law.specs.Answers.{readEvent, readSettings}
+use Rattle.desk_packing.specs.Runs.{settingsLength, sessionLength, eventLength}
+use Rattle.desk_packing.specs.Settings.{isCategory, settingsNumbers, settingsFrom}
+use Rattle.desk_packing.specs.Sessions.{sessionFrom}
+use Rattle.desk_packing.specs.Events.{eventNumbers, eventFrom}
+use Rattle.desk_packing.proofs.Inverse.{from-ten, laid-back, settings-back}
+use Rattle.desk_packing.proofs.EventInverse.{event-back}
 use Rattle.desk_law.specs.Calls.{openedFrom, OpenedAs, calledOn, runBy, AppliedOn}
 use Rattle.desk_law.specs.Reads.{EventReadInto, SettingsReadInto}
 use Rattle.acts_law.proofs.Tens.{act-ten}

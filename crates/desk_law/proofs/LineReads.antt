@@ -13,20 +13,20 @@ use Rattle.terms.specs.declared.Verdict.the-variants.{Fine, Refused}
 use Rattle.terms.specs.Sizes.{lineRoom}
 use Rattle.terms.specs.Refusals.{numberOf}
 use Rattle.tables.specs.Put.{put}
-use Rattle.text_law.specs.Grammar.{Answer, whole, unfinished, wrong}
-use Rattle.text_law.specs.Reading.{Right}
-use Rattle.reading_law.specs.declared.ReadEvent.{ReadEvent}
-use Rattle.reading_law.specs.declared.ReadSettings.{ReadSettings}
-use Rattle.reading_law.specs.Answers.{eventAnswer, settingsAnswer, EventRead, SettingsRead, readEvent, readSettings}
-use Rattle.reading_law.specs.Lines.{EventLine, SettingsLine}
-use Rattle.reading_law.proofs.EventLines.{event-only, event-right}
-use Rattle.reading_law.proofs.SettingsLines.{settings-only, settings-right}
-use Rattle.packing.specs.Runs.{settingsLength, eventLength}
-use Rattle.packing.specs.Settings.{settingsNumbers}
-use Rattle.packing.specs.Events.{eventNumbers}
-use Rattle.answers.specs.Answers.{countMost, answerNumber, answerOf}
+use Rattle.lines_text_law.specs.Grammar.{Answer, whole, unfinished, wrong}
+use Rattle.lines_text_law.specs.Reading.{Right}
+use Rattle.lines_reading_law.specs.declared.ReadEvent.{ReadEvent}
+use Rattle.lines_reading_law.specs.declared.ReadSettings.{ReadSettings}
+use Rattle.lines_reading_law.specs.Answers.{eventAnswer, settingsAnswer, EventRead, SettingsRead, readEvent, readSettings}
+use Rattle.lines_reading_law.specs.Lines.{EventLine, SettingsLine}
+use Rattle.lines_reading_law.proofs.EventLines.{event-only, event-right}
+use Rattle.lines_reading_law.proofs.SettingsLines.{settings-only, settings-right}
+use Rattle.desk_packing.specs.Runs.{settingsLength, eventLength}
+use Rattle.desk_packing.specs.Settings.{settingsNumbers}
+use Rattle.desk_packing.specs.Events.{eventNumbers}
+use Rattle.desk_answers.specs.Answers.{countMost, answerNumber, answerOf}
 use Rattle.desk_law.specs.Reads.{ReadInto, EventReadInto, SettingsReadInto}
-use Rattle.writing_law.proofs.Short.{event-short, settings-short}
+use Rattle.lines_writing_law.proofs.Short.{event-short, settings-short}
 
 -- ---- of any lines that are no longer than a line room
 

@@ -14,20 +14,20 @@ use Rattle.terms.specs.declared.Settings.{Settings}
 use Rattle.terms.specs.declared.Verdict.{Verdict}
 use Rattle.terms.specs.declared.Verdict.the-variants.{Fine, Refused}
 use Rattle.terms.specs.Sizes.{recordLength}
-use Rattle.reading_law.specs.Lines.{renderEvent, renderSettings, eventNumbers, settingsNumbers}
+use Rattle.lines_reading_law.specs.Lines.{renderEvent, renderSettings, eventNumbers, settingsNumbers}
 use Rattle.records.specs.declared.ReadRecord.{ReadRecord}
 use Rattle.records.specs.Back.{RecordRead}
 use Rattle.records.proofs.Told.{told-right, told-only, six-at}
-use Rattle.writing_law.specs.declared.Wrote.{Wrote}
-use Rattle.writing_law.specs.Lines.{renderReport, reportNumbers}
-use Rattle.writing_law.specs.Writes.{lineVerdict, wroteOf, Writes}
-use Rattle.packing.specs.declared.events.FoundEvent.{FoundEvent}
-use Rattle.packing.specs.Runs.{settingsLength, eventLength}
-use Rattle.packing.specs.Settings.{isCategory, settingsFrom}
-use Rattle.packing.specs.Events.{foundIn, eventFrom}
-use Rattle.answers.specs.Answers.{countMost, answerOf}
+use Rattle.lines_writing_law.specs.declared.Wrote.{Wrote}
+use Rattle.lines_writing_law.specs.Lines.{renderReport, reportNumbers}
+use Rattle.lines_writing_law.specs.Writes.{lineVerdict, wroteOf, Writes}
+use Rattle.desk_packing.specs.declared.events.FoundEvent.{FoundEvent}
+use Rattle.desk_packing.specs.Runs.{settingsLength, eventLength}
+use Rattle.desk_packing.specs.Settings.{isCategory, settingsFrom}
+use Rattle.desk_packing.specs.Events.{foundIn, eventFrom}
+use Rattle.desk_answers.specs.Answers.{countMost, answerOf}
 use Rattle.desk_law.specs.Writes.{wroteNumber, Few, WrittenOn, settingsVerdictOn, SettingsWrittenOn, eventVerdictOn, EventWrittenOn, reportIn, reportVerdictOn, ReportWrittenOn}
-use Rattle.writing_law.proofs.Short.{event-short, settings-short, report-short}
+use Rattle.lines_writing_law.proofs.Short.{event-short, settings-short, report-short}
 
 -- ---- of any line
 

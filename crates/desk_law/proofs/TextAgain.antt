@@ -12,8 +12,8 @@ use Rattle.terms.specs.declared.Verdict.{Verdict}
 use Rattle.terms.specs.declared.Verdict.the-variants.{Fine, Refused}
 use Rattle.terms.proofs.Logic.{by}
 use Rattle.tables.specs.Put.{put}
-use Rattle.text_law.specs.Grammar.{Answer, whole, unfinished, wrong}
-use Rattle.reading_law.specs.Answers.{readEvent, readSettings}
+use Rattle.lines_text_law.specs.Grammar.{Answer, whole, unfinished, wrong}
+use Rattle.lines_reading_law.specs.Answers.{readEvent, readSettings}
 use Rattle.state_law.specs.declared.Session.{Session}
 use Rattle.soundness_law.specs.Sound.{dayIn}
 use Rattle.acts_law.specs.Acts.{act}
@@ -27,13 +27,13 @@ use Rattle.feed_law.specs.Worlds.{Lent, lentOf, calls}
 use Rattle.feed_law.specs.Turns.{Turn, Fed, stopAt, turnOf, settingsTurn, eventTurn, printedFrom, fedIn}
 use Rattle.feed_law.specs.Feeds.{begun, feedVerdict, fedBy, fedOf}
 use Rattle.feed_law.proofs.Pieces.{pieces}
-use Rattle.packing.proofs.Inverse.{from-ten}
-use Rattle.standing.specs.Runs.{runLength, runNumbers, isRun, runFrom}
+use Rattle.desk_packing.proofs.Inverse.{from-ten}
+use Rattle.desk_runs.specs.Runs.{runLength, runNumbers, isRun, runFrom}
 use Rattle.desk_law.specs.Feeding.{startVerdict, StartedAs, countsLength, isRefusal, laidBy, fedOn, runAfter, FedAs}
 use Rattle.acts_law.proofs.Tens.{act-ten}
 use Rattle.state_law.specs.Tens.{Ten}
 use Rattle.state_law.proofs.Tens.{fixed-ten, opening-ten}
-use Rattle.standing.proofs.Inverse.{run-laid-back}
+use Rattle.desk_runs.proofs.Inverse.{run-laid-back}
 
 -- ---- the arrays of a session have ten numbers, whatever lines there are
 

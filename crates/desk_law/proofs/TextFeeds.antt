@@ -13,12 +13,12 @@ use Rattle.terms.specs.declared.Verdict.the-variants.{Fine, Refused}
 use Rattle.terms.specs.Sizes.{lineRoom}
 use Rattle.terms.proofs.Logic.{by}
 use Rattle.tables.specs.Put.{put}
-use Rattle.text_law.specs.Text.{bytes}
-use Rattle.text_law.specs.Numerals.{allWritable}
-use Rattle.text_law.specs.Forms.{longest}
-use Rattle.text_law.proofs.Fills.{fill-length}
-use Rattle.writing_law.specs.declared.Wrote.{Wrote}
-use Rattle.writing_law.specs.Lines.{badNumbers, renderBad}
+use Rattle.lines_text_law.specs.Text.{bytes}
+use Rattle.lines_text_law.specs.Numerals.{allWritable}
+use Rattle.lines_text_law.specs.Forms.{longest}
+use Rattle.lines_text_law.proofs.Fills.{fill-length}
+use Rattle.lines_writing_law.specs.declared.Wrote.{Wrote}
+use Rattle.lines_writing_law.specs.Lines.{badNumbers, renderBad}
 use Rattle.feed_law.specs.declared.Run.{Run}
 use Rattle.feed_law.specs.declared.Stage.{Stage}
 use Rattle.feed_law.specs.declared.Stop.{Stop}
@@ -27,8 +27,8 @@ use Rattle.feed_law.specs.Texts.{badText, endText}
 use Rattle.feed_law.specs.Worlds.{Lent}
 use Rattle.feed_law.specs.Turns.{Fed}
 use Rattle.feed_law.specs.Feeds.{begun, fedOf, TakenAs, endVerdict, EndedAs}
-use Rattle.answers.specs.Answers.{answerOf}
-use Rattle.standing.specs.Runs.{runLength, runNumbers, runFrom}
+use Rattle.desk_answers.specs.Answers.{answerOf}
+use Rattle.desk_runs.specs.Runs.{runLength, runNumbers, runFrom}
 use Rattle.desk_law.specs.Writes.{wroteNumber, Few}
 use Rattle.desk_law.specs.Feeding.{startVerdict, StartedAs, countsLength, stopNumber, isRefusal, laidBy, LaidAfter, fedOn, runAfter, FedAs, endVerdictOn, EndedOn}
 use Rattle.desk_law.proofs.LineWrites.{wrote-few, wrote-number}

@@ -10,9 +10,9 @@ use Rattle.terms.specs.Settings.{settingsRanged, settingsValid}
 use Rattle.state_law.specs.Opening.{fixedSession}
 use Rattle.soundness_law.specs.Sound.{clockSound, sessionSound, sound, dayIn}
 use Rattle.refusal_law.specs.Refusals.{numbersRight}
-use Rattle.packing.specs.declared.events.FoundEvent.{FoundEvent}
-use Rattle.packing.specs.Sessions.{isSession, sessionFrom}
-use Rattle.packing.specs.Events.{foundIn, eventFrom}
+use Rattle.desk_packing.specs.declared.events.FoundEvent.{FoundEvent}
+use Rattle.desk_packing.specs.Sessions.{isSession, sessionFrom}
+use Rattle.desk_packing.specs.Events.{foundIn, eventFrom}
 
 -- "one fixed session, .. which is not sound"
 fixed-unsound : (buys sells : List ℕ) → sound (dayIn fixedSession buys sells) ≡ false

@@ -3,7 +3,7 @@ use Prim.Native.Nat.{ℕ}
 use mathlib.Core.Path.{_≡_}
 use mathlib.Core.List.{List}
 use Rattle.terms.specs.declared.Verdict.{Verdict}
-use Rattle.text_law.specs.Grammar.{Answer}
+use Rattle.lines_text_law.specs.Grammar.{Answer}
 use Rattle.desk_law.specs.Calls.{OpenedAs, AppliedOn}
 use Rattle.desk_law.specs.Reads.{ReadInto}
 use Rattle.desk_law.specs.Writes.{WrittenOn}

@@ -15,9 +15,9 @@ use Rattle.feed_law.specs.Texts.{endText}
 use Rattle.feed_law.specs.Worlds.{Lent, lentOf, calls}
 use Rattle.feed_law.specs.Turns.{Fed, halted}
 use Rattle.feed_law.specs.Feeds.{laid, begun, fedOf, endVerdict}
-use Rattle.answers.specs.Answers.{answerNumber, answerOf}
+use Rattle.desk_answers.specs.Answers.{answerNumber, answerOf}
 use Rattle.desk_law.specs.Calls.{whereLong}
-use Rattle.standing.specs.Runs.{runLength, runNumbers, runFrom}
+use Rattle.desk_runs.specs.Runs.{runLength, runNumbers, runFrom}
 use Rattle.desk_law.specs.Writes.{WrittenOn}
 
 -- ---- start

@@ -9,12 +9,12 @@ use Rattle.terms.specs.declared.Refusal.the-variants.{SmallRoom, LineUnfinished
 use Rattle.terms.specs.declared.Verdict.the-variants.{Refused}
 use Rattle.terms.specs.Refusals.{numberOf}
 use Rattle.tables.specs.Put.{put}
-use Rattle.text_law.specs.Grammar.{Answer, whole, unfinished, wrong}
-use Rattle.reading_law.specs.Answers.{readEvent, readSettings}
-use Rattle.packing.specs.Runs.{settingsLength, eventLength}
-use Rattle.packing.specs.Settings.{settingsNumbers}
-use Rattle.packing.specs.Events.{eventNumbers}
-use Rattle.answers.specs.Answers.{answerNumber, answerOf}
+use Rattle.lines_text_law.specs.Grammar.{Answer, whole, unfinished, wrong}
+use Rattle.lines_reading_law.specs.Answers.{readEvent, readSettings}
+use Rattle.desk_packing.specs.Runs.{settingsLength, eventLength}
+use Rattle.desk_packing.specs.Settings.{settingsNumbers}
+use Rattle.desk_packing.specs.Events.{eventNumbers}
+use Rattle.desk_answers.specs.Answers.{answerNumber, answerOf}
 
 -- the bytes that a line took; 14; "15, line wrong; returns the place"
 abbrev pub readNumber : {E : Type 0} → Answer E → ℕ

@@ -9,17 +9,17 @@ use Rattle.terms.specs.declared.Refusal.the-variants.{SmallRoom, NumberRange, S
 use Rattle.terms.specs.declared.Verdict.{Verdict}
 use Rattle.terms.specs.declared.Verdict.the-variants.{Fine, Refused}
 use Rattle.terms.specs.Sizes.{recordLength}
-use Rattle.reading_law.specs.Lines.{renderEvent, renderSettings, eventNumbers, settingsNumbers}
-use Rattle.writing_law.specs.declared.Wrote.{Wrote}
-use Rattle.writing_law.specs.Lines.{renderReport, reportNumbers}
-use Rattle.writing_law.specs.Writes.{lineVerdict, roomOf}
+use Rattle.lines_reading_law.specs.Lines.{renderEvent, renderSettings, eventNumbers, settingsNumbers}
+use Rattle.lines_writing_law.specs.declared.Wrote.{Wrote}
+use Rattle.lines_writing_law.specs.Lines.{renderReport, reportNumbers}
+use Rattle.lines_writing_law.specs.Writes.{lineVerdict, roomOf}
 use Rattle.records.specs.declared.ReadRecord.{ReadRecord}
 use Rattle.records.specs.Back.{reportFrom}
-use Rattle.packing.specs.declared.events.FoundEvent.{FoundEvent}
-use Rattle.packing.specs.Runs.{settingsLength, eventLength}
-use Rattle.packing.specs.Settings.{isCategory, settingsFrom}
-use Rattle.packing.specs.Events.{foundIn, eventFrom}
-use Rattle.answers.specs.Answers.{countMost, answerOf}
+use Rattle.desk_packing.specs.declared.events.FoundEvent.{FoundEvent}
+use Rattle.desk_packing.specs.Runs.{settingsLength, eventLength}
+use Rattle.desk_packing.specs.Settings.{isCategory, settingsFrom}
+use Rattle.desk_packing.specs.Events.{foundIn, eventFrom}
+use Rattle.desk_answers.specs.Answers.{countMost, answerOf}
 
 -- ---- a writer's answer as a number
 

@@ -1,5 +1,5 @@
 // An event on a session and lent numbers.
-use accepting::accepted;
+use acts::accepted;
 use engine_law::Answer;
 use engine_law::Applied;
 use state_law::Session;

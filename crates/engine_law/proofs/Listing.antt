@@ -23,7 +23,7 @@ use Rattle.rules_law.specs.Reference.{theoreticalOr, minuteAfter, boundaries, r
 use Rattle.rules_law.specs.Close.{tallied, tallyAll, nearest, remembered, tapeAfter, lastOr, closePrice, nextBase}
 use Rattle.book_law.specs.Priority.{ahead, headBehind, sorted, insert, rests, removed, leftOf}
 use Rattle.book_law.specs.Matching.{sweep, reportAt, tradeReports, ownLastOr, fateOf}
-use Rattle.audit_law.specs.Sound.{orderSound, eachSound, distinct, uncrossed, bookSound}
+use Rattle.book_sound_law.specs.Sound.{orderSound, eachSound, distinct, uncrossed, bookSound}
 use Rattle.state_law.specs.Opening.{openedSession}
 use Rattle.state_law.specs.Clock.{widenedBy, coolingBy, clockStep}
 use Rattle.state_law.specs.Trades.{withTrade, withTrades}

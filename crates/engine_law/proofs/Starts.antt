@@ -15,7 +15,7 @@ use Rattle.tables.specs.Tables.{decode}
 use Rattle.tables.proofs.Whole.{After, cleared}
 use Rattle.book_law.specs.Over.{Each}
 use Rattle.book_law.proofs.Over.{each-map}
-use Rattle.audit_law.proofs.Facts.{book-fits, each-fits}
+use Rattle.book_sound_law.proofs.Facts.{book-fits, each-fits}
 use Rattle.state_law.specs.declared.Session.{Session}
 use Rattle.state_law.specs.Now.{Clocked, bandNow}
 use Rattle.state_law.specs.Clock.{clockStep}

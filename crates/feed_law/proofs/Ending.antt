@@ -9,8 +9,8 @@ use Rattle.terms.specs.declared.Verdict.{Verdict}
 use Rattle.terms.specs.declared.Verdict.the-variants.{Fine, Refused}
 use Rattle.terms.specs.Sizes.{lineRoom}
 use Rattle.terms.specs.Refusals.{firstFailed}
-use Rattle.writing_law.specs.declared.Wrote.{Wrote}
-use Rattle.writing_law.specs.Writes.{wroteOf, roomOf}
+use Rattle.lines_writing_law.specs.declared.Wrote.{Wrote}
+use Rattle.lines_writing_law.specs.Writes.{wroteOf, roomOf}
 use Rattle.feed_law.specs.declared.Stage.{Stage}
 use Rattle.feed_law.specs.Texts.{badText, endText}
 use Rattle.feed_law.specs.Feeds.{Prints, endVerdict, EndedAs}

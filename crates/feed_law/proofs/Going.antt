@@ -20,12 +20,12 @@ use Rattle.terms.specs.declared.Verdict.the-variants.{Fine, Refused}
 use Rattle.terms.specs.Refusals.{unless, firstFailed}
 use Rattle.terms.proofs.Cascade.{stops-here, goes-on}
 use Rattle.engine_law.specs.Calls.{roomy}
-use Rattle.text_law.specs.Grammar.{Answer, whole, unfinished, wrong}
-use Rattle.text_law.specs.Reading.{Right}
-use Rattle.reading_law.specs.Lines.{EventLine, SettingsLine}
-use Rattle.reading_law.specs.Answers.{readEvent, readSettings}
-use Rattle.reading_law.proofs.EventLines.{event-right}
-use Rattle.reading_law.proofs.SettingsLines.{settings-right}
+use Rattle.lines_text_law.specs.Grammar.{Answer, whole, unfinished, wrong}
+use Rattle.lines_text_law.specs.Reading.{Right}
+use Rattle.lines_reading_law.specs.Lines.{EventLine, SettingsLine}
+use Rattle.lines_reading_law.specs.Answers.{readEvent, readSettings}
+use Rattle.lines_reading_law.proofs.EventLines.{event-right}
+use Rattle.lines_reading_law.proofs.SettingsLines.{settings-right}
 use Rattle.feed_law.specs.declared.Run.{Run}
 use Rattle.feed_law.specs.declared.Stage.{Stage}
 use Rattle.feed_law.specs.declared.Stop.{Stop}

@@ -8,8 +8,8 @@ use lib.Seq.{take-append-le, take-take}
 use lib.Dec.{ltb}
 use borrow.Author.Tests.{ltb-true, ltb-false}
 use Rattle.terms.proofs.Logic.{cases}
-use Rattle.text_law.specs.Grammar.{Answer, whole, unfinished, wrong}
-use Rattle.text_law.specs.Reading.{Begins, Holds, Right}
+use Rattle.lines_text_law.specs.Grammar.{Answer, whole, unfinished, wrong}
+use Rattle.lines_text_law.specs.Reading.{Begins, Holds, Right}
 
 module _ {E : Type 0} (L : E → List ℕ → Type 0) where
   -- a start of what begins a line begins one

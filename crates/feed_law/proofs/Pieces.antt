@@ -11,14 +11,14 @@ use borrow.Author.Tests.{ltb-true, ltb-false, eqb-true, eqb-false, ne-eqb}
 use Rattle.terms.specs.declared.Event.{Event}
 use Rattle.terms.specs.declared.Settings.{Settings}
 use Rattle.terms.proofs.Logic.{cases}
-use Rattle.text_law.specs.Grammar.{Answer, whole, unfinished, wrong, word}
-use Rattle.text_law.specs.Pieces.{at}
-use Rattle.text_law.specs.Reading.{Right}
-use Rattle.reading_law.specs.Lines.{EventLine, SettingsLine}
-use Rattle.reading_law.specs.Grammars.{eventGrammar, settingsGrammar}
-use Rattle.reading_law.specs.Answers.{readEvent, readSettings}
-use Rattle.reading_law.proofs.EventLines.{event-right, event-only}
-use Rattle.reading_law.proofs.SettingsLines.{settings-right, settings-only}
+use Rattle.lines_text_law.specs.Grammar.{Answer, whole, unfinished, wrong, word}
+use Rattle.lines_text_law.specs.Pieces.{at}
+use Rattle.lines_text_law.specs.Reading.{Right}
+use Rattle.lines_reading_law.specs.Lines.{EventLine, SettingsLine}
+use Rattle.lines_reading_law.specs.Grammars.{eventGrammar, settingsGrammar}
+use Rattle.lines_reading_law.specs.Answers.{readEvent, readSettings}
+use Rattle.lines_reading_law.proofs.EventLines.{event-right, event-only}
+use Rattle.lines_reading_law.proofs.SettingsLines.{settings-right, settings-only}
 use Rattle.feed_law.specs.declared.Stage.{Stage}
 use Rattle.feed_law.specs.declared.Stop.{Stop}
 use Rattle.feed_law.specs.Texts.{textMost, endText}

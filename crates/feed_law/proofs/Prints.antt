@@ -21,11 +21,11 @@ use Rattle.terms.specs.Records.{recordOf, recordsOf}
 use Rattle.terms.specs.Refusals.{firstFailed}
 use Rattle.terms.proofs.Logic.{by}
 use Rattle.tables.specs.Put.{put}
-use Rattle.text_law.specs.Numerals.{allWritable}
-use Rattle.writing_law.specs.declared.Wrote.{Wrote}
-use Rattle.writing_law.specs.Lines.{reportNumbers, renderReport}
-use Rattle.writing_law.proofs.Short.{report-short}
-use Rattle.writing_law.specs.Writes.{lineVerdict, wroteOf, roomOf, Writes}
+use Rattle.lines_text_law.specs.Numerals.{allWritable}
+use Rattle.lines_writing_law.specs.declared.Wrote.{Wrote}
+use Rattle.lines_writing_law.specs.Lines.{reportNumbers, renderReport}
+use Rattle.lines_writing_law.proofs.Short.{report-short}
+use Rattle.lines_writing_law.specs.Writes.{lineVerdict, wroteOf, roomOf, Writes}
 use Rattle.records.specs.declared.ReadRecord.{ReadRecord}
 use Rattle.records.specs.Back.{RecordRead}
 use Rattle.terms.proofs.Records.{length-record}

@@ -9,11 +9,11 @@ use Rattle.terms.specs.declared.Refusal.{Refusal}
 use Rattle.terms.specs.declared.Refusal.the-variants.{SmallRoom, Unsound, Closed, NumberRange, TimeBack, OutOfHours, OffTick, OutsideBand, NotResting, SideFull, DayFull, SettingsRange, SettingsOffTick, LineUnfinished, LineWrong, SmallLineRoom, NumberLong}
 use Rattle.terms.specs.Sizes.{writtenMost}
 use Rattle.terms.specs.Refusals.{numberOf}
-use Rattle.text_law.specs.Grammar.{whole}
-use Rattle.text_law.proofs.Fills.{writable-tested}
-use Rattle.reading_law.specs.Answers.{readEvent}
-use Rattle.reading_law.proofs.EventLines.{event-right}
-use Rattle.writing_law.specs.Lines.{refusedNumbers, renderRefused, badNumbers, renderBad}
+use Rattle.lines_text_law.specs.Grammar.{whole}
+use Rattle.lines_text_law.proofs.Fills.{writable-tested}
+use Rattle.lines_reading_law.specs.Answers.{readEvent}
+use Rattle.lines_reading_law.proofs.EventLines.{event-right}
+use Rattle.lines_writing_law.specs.Lines.{refusedNumbers, renderRefused, badNumbers, renderBad}
 use Rattle.feed_law.specs.Texts.{refusedText, badText}
 
 number-small : (r : Refusal) → numberOf r ≤ writtenMost

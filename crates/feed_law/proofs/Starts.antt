@@ -13,13 +13,13 @@ use Rattle.terms.specs.declared.Verdict.{Verdict}
 use Rattle.terms.specs.declared.Verdict.the-variants.{Fine, Refused}
 use Rattle.terms.specs.Sizes.{lineRoom}
 use Rattle.terms.proofs.Logic.{cases}
-use Rattle.text_law.specs.Grammar.{Answer, whole, unfinished, wrong}
-use Rattle.text_law.specs.Reading.{Begins, Right}
-use Rattle.reading_law.specs.Lines.{EventLine, SettingsLine, renderEvent, renderSettings}
-use Rattle.reading_law.specs.Answers.{readEvent, readSettings}
-use Rattle.reading_law.proofs.EventLines.{event-right}
-use Rattle.reading_law.proofs.SettingsLines.{settings-right}
-use Rattle.writing_law.proofs.Short.{event-short, settings-short}
+use Rattle.lines_text_law.specs.Grammar.{Answer, whole, unfinished, wrong}
+use Rattle.lines_text_law.specs.Reading.{Begins, Right}
+use Rattle.lines_reading_law.specs.Lines.{EventLine, SettingsLine, renderEvent, renderSettings}
+use Rattle.lines_reading_law.specs.Answers.{readEvent, readSettings}
+use Rattle.lines_reading_law.proofs.EventLines.{event-right}
+use Rattle.lines_reading_law.proofs.SettingsLines.{settings-right}
+use Rattle.lines_writing_law.proofs.Short.{event-short, settings-short}
 use Rattle.feed_law.specs.declared.Run.{Run}
 use Rattle.feed_law.specs.declared.Taken.{Taken}
 use Rattle.feed_law.specs.declared.Stage.{Stage}

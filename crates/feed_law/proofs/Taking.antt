@@ -14,12 +14,12 @@ use Rattle.terms.specs.declared.Verdict.{Verdict}
 use Rattle.terms.specs.declared.Verdict.the-variants.{Fine, Refused}
 use Rattle.terms.specs.Sizes.{lineRoom, recordLength, roomLength}
 use Rattle.terms.proofs.Logic.{both}
-use Rattle.text_law.specs.Grammar.{Answer, whole, unfinished, wrong}
-use Rattle.reading_law.specs.declared.ReadEvent.{ReadEvent}
-use Rattle.reading_law.specs.declared.ReadSettings.{ReadSettings}
-use Rattle.reading_law.specs.Answers.{EventRead, SettingsRead, eventAnswer, settingsAnswer, readEvent, readSettings}
-use Rattle.reading_law.proofs.EventLines.{event-told}
-use Rattle.reading_law.proofs.SettingsLines.{settings-told}
+use Rattle.lines_text_law.specs.Grammar.{Answer, whole, unfinished, wrong}
+use Rattle.lines_reading_law.specs.declared.ReadEvent.{ReadEvent}
+use Rattle.lines_reading_law.specs.declared.ReadSettings.{ReadSettings}
+use Rattle.lines_reading_law.specs.Answers.{EventRead, SettingsRead, eventAnswer, settingsAnswer, readEvent, readSettings}
+use Rattle.lines_reading_law.proofs.EventLines.{event-told}
+use Rattle.lines_reading_law.proofs.SettingsLines.{settings-told}
 use Rattle.state_law.specs.declared.Session.{Session}
 use Rattle.state_law.specs.declared.Opened.{Opened}
 use Rattle.state_law.specs.Opening.{openingOf, fixedSession}

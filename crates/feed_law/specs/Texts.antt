@@ -11,8 +11,8 @@ use Rattle.terms.specs.declared.Refusal.the-variants.{LineUnfinished}
 use Rattle.terms.specs.declared.Verdict.{Verdict}
 use Rattle.terms.specs.declared.Verdict.the-variants.{Fine, Refused}
 use Rattle.terms.specs.Sizes.{lineRoom, reportsMost, recordLength}
-use Rattle.text_law.specs.Numerals.{allWritable}
-use Rattle.writing_law.specs.Lines.{reportNumbers, renderReport, refusedNumbers, renderRefused, badNumbers, renderBad}
+use Rattle.lines_text_law.specs.Numerals.{allWritable}
+use Rattle.lines_writing_law.specs.Lines.{reportNumbers, renderReport, refusedNumbers, renderRefused, badNumbers, renderBad}
 use Rattle.records.specs.declared.ReadRecord.{ReadRecord}
 use Rattle.records.specs.Back.{reportFrom}
 use Rattle.feed_law.specs.declared.Stage.{Stage}

@@ -5,9 +5,9 @@ use mathlib.Core.Path.{_≡_, sym, ap, _∙_}
 use mathlib.Core.List.{List, []}
 use lib.ListN.{length, take, drop, length-drop, drop-of-length-le}
 use lib.Seq.{take-all}
-use Rattle.reading_law.specs.declared.ReadEvent.{ReadEvent}
-use Rattle.reading_law.specs.Answers.{EventRead, eventAnswer, readEvent}
-use Rattle.reading_law.proofs.EventLines.{event-told, event-right}
+use Rattle.lines_reading_law.specs.declared.ReadEvent.{ReadEvent}
+use Rattle.lines_reading_law.specs.Answers.{EventRead, eventAnswer, readEvent}
+use Rattle.lines_reading_law.proofs.EventLines.{event-told, event-right}
 use Rattle.journal.specs.Walk.{eventFrom}
 
 -- the part of the slice from a place to its end is the bytes from the place on

@@ -2,9 +2,9 @@
 // It may use terms, text and reading. It promises, for any bytes and any place: what the reader of events answers on the bytes from that
 // place on, and on none where the place is past their end.
 
-use reading_law::ReadEvent;
+use lines_reading_law::ReadEvent;
 ghost use mathlib.Core.Path.{_≡_};
-ghost use Rattle.reading_law.specs.Answers.{eventAnswer};
+ghost use Rattle.lines_reading_law.specs.Answers.{eventAnswer};
 ghost use Rattle.journal.specs.Walk.{eventFrom};
 
 // A walker holds the caller's bytes and its place.
@@ -18,9 +18,9 @@ pub fn event_at(bytes: &[u8], at: usize) -> ReadEvent
     ensures { λ r. ⌜ eventAnswer r ≡ eventFrom (now (bytes .entry)) at ⌝ }
 {
     if bytes.len() < at {
-        return reading::read_event(&bytes[0..0]);
+        return lines_reading::read_event(&bytes[0..0]);
     }
-    reading::read_event(&bytes[at..])
+    lines_reading::read_event(&bytes[at..])
 }
 
 // A walker at the start of the bytes.

@@ -8,17 +8,17 @@ use Rattle.rules_law.specs.Growth.{factorial, term, terms, growth, theoretical}
 use Rattle.rules_law.specs.Reference.{theoreticalOr, minuteAfter, boundaries, reckoned, inRange}
 use Rattle.rules_law.specs.Close.{tallied, tallyAll, nearest, remembered, tapeAfter, lastOr, closePrice}
 use Rattle.book_law.specs.Priority.{sorted}
-use Rattle.audit_law.specs.Sound.{eachSound, distinct, uncrossed, bookSound}
+use Rattle.book_sound_law.specs.Sound.{eachSound, distinct, uncrossed, bookSound}
 use Rattle.state_law.specs.Opening.{openedSession}
 use Rattle.state_law.specs.Clock.{widenedBy, coolingBy, clockStep}
 use Rattle.state_law.specs.Trades.{withTrade, withTrades}
 use Rattle.soundness_law.specs.Sound.{timeSound, countsSound, slabSound, numbersSound, every, rememberedSound, halfSound, minuteSound, clockSound, tapeSound, sessionSound, counted, sound}
 use Rattle.refusal_law.specs.Refusals.{numbersRight, inHours, ticksRight, bandRight, finds, hasPlace, hasNumbers, refusalOf}
 use Rattle.engine_law.specs.Outcome.{outcome}
-use Rattle.text_law.specs.Grammar.{word}
-use Rattle.text_law.specs.Pieces.{at}
-use Rattle.reading_law.specs.Grammars.{settingsGrammar, eventGrammar}
-use Rattle.reading_law.specs.Answers.{readSettings, readEvent}
+use Rattle.lines_text_law.specs.Grammar.{word}
+use Rattle.lines_text_law.specs.Pieces.{at}
+use Rattle.lines_reading_law.specs.Grammars.{settingsGrammar, eventGrammar}
+use Rattle.lines_reading_law.specs.Answers.{readSettings, readEvent}
 use Rattle.promises.specs.Cases.{SmallCases}
 
 pub small-cases : SmallCases

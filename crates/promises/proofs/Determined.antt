@@ -2,14 +2,14 @@
 use mathlib.Core.Path.{_≡_, refl, sym, ap, _∙_}
 use Rattle.terms.specs.declared.Event.{Event}
 use Rattle.terms.specs.declared.Settings.{Settings}
-use Rattle.text_law.specs.Grammar.{Answer, whole, unfinished, wrong}
-use Rattle.reading_law.specs.declared.ReadEvent.{ReadEvent}
-use Rattle.reading_law.specs.declared.ReadSettings.{ReadSettings}
-use Rattle.reading_law.specs.Answers.{eventAnswer, settingsAnswer}
-use Rattle.reading_law.proofs.EventLines.{event-only}
-use Rattle.reading_law.proofs.SettingsLines.{settings-only}
+use Rattle.lines_text_law.specs.Grammar.{Answer, whole, unfinished, wrong}
+use Rattle.lines_reading_law.specs.declared.ReadEvent.{ReadEvent}
+use Rattle.lines_reading_law.specs.declared.ReadSettings.{ReadSettings}
+use Rattle.lines_reading_law.specs.Answers.{eventAnswer, settingsAnswer}
+use Rattle.lines_reading_law.proofs.EventLines.{event-only}
+use Rattle.lines_reading_law.proofs.SettingsLines.{settings-only}
 use Rattle.records.proofs.Told.{told-only}
-use Rattle.writing_law.proofs.Back.{writes-one}
+use Rattle.lines_writing_law.proofs.Back.{writes-one}
 use Rattle.feed_law.specs.Worlds.{Lent, lentOf}
 use Rattle.promises.specs.Determined.{OpeningDetermined, ViewDetermined, ApplyDetermined, EventReadDetermined, SettingsReadDetermined, WriteDetermined, RecordReadDetermined, WalkDetermined, FeedDetermined, EndDetermined}
 

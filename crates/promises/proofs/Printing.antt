@@ -23,8 +23,8 @@ use Rattle.tables.specs.Tables.{decode}
 use Rattle.tables.proofs.Puts.{length-put}
 use Rattle.tables.proofs.Whole.{length-tableOf}
 use Rattle.terms.proofs.Records.{length-records}
-use Rattle.text_law.specs.Grammar.{Answer, whole, unfinished, wrong}
-use Rattle.reading_law.specs.Answers.{readEvent, readSettings}
+use Rattle.lines_text_law.specs.Grammar.{Answer, whole, unfinished, wrong}
+use Rattle.lines_reading_law.specs.Answers.{readEvent, readSettings}
 use Rattle.state_law.specs.Opening.{openedBy, openingOf, openedSession, fixedSession}
 use Rattle.state_law.specs.Day.{Day}
 use Rattle.soundness_law.specs.Sound.{sound, dayIn}

@@ -13,8 +13,8 @@ use Rattle.tables.specs.Tables.{decode, encode}
 use Rattle.tables.proofs.Slots.{length-encode, length-decode, decode-encode, encode-decode}
 use Rattle.book_law.specs.Over.{lotsOf}
 use Rattle.book_law.specs.View.{viewOf}
-use Rattle.audit_law.specs.Sound.{BookFits}
-use Rattle.audit_law.proofs.Facts.{book-fits}
+use Rattle.book_sound_law.specs.Sound.{BookFits}
+use Rattle.book_sound_law.proofs.Facts.{book-fits}
 use Rattle.state_law.specs.Now.{bandNow}
 use Rattle.soundness_law.specs.Sound.{sound}
 use Rattle.soundness_law.proofs.Days.{sound-day}

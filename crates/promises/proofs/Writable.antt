@@ -15,9 +15,9 @@ use Rattle.acts_law.specs.Small.{SmallReport, SmallReports}
 use Rattle.acts_law.proofs.Small.{append-small}
 use Rattle.engine_law.specs.Outcome.{outcome, told}
 use Rattle.engine_law.proofs.Kept.{outcome-small, outcome-ten}
-use Rattle.text_law.specs.Numerals.{Writable, allWritable}
-use Rattle.text_law.proofs.Fills.{writable-tested}
-use Rattle.writing_law.specs.Lines.{reportNumbers}
+use Rattle.lines_text_law.specs.Numerals.{Writable, allWritable}
+use Rattle.lines_text_law.proofs.Fills.{writable-tested}
+use Rattle.lines_writing_law.specs.Lines.{reportNumbers}
 use Rattle.promises.specs.Writable.{AllWritable, ReportsWritable, RunsWritable}
 
 said-writable : (time : ℕ) (x : Said) → SmallReport (record { time = time; said = x }) → Writable (reportNumbers (record { time = time; said = x }))

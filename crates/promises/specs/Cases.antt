@@ -23,7 +23,7 @@ use Rattle.state_law.specs.Opening.{openedSession}
 use Rattle.state_law.specs.Trades.{withTrades}
 use Rattle.state_law.specs.Day.{opened}
 use Rattle.engine_law.specs.Outcome.{outcome}
-use Rattle.reading_law.specs.Answers.{codeOf as lineCode, readSettings, readEvent}
+use Rattle.lines_reading_law.specs.Answers.{codeOf as lineCode, readSettings, readEvent}
 
 -- a contract of a category with this base, also its previous close and settlement, and this tick; no underlying is known
 abbrev pub contract : Category → ℕ → ℕ → Settings

@@ -10,13 +10,13 @@ use Rattle.state_law.specs.declared.Opened.{Opened}
 use Rattle.state_law.specs.Opening.{openingOf}
 use Rattle.engine_law.specs.declared.Applied.{Applied}
 use Rattle.engine_law.specs.Calls.{AppliedAs, viewCall}
-use Rattle.reading_law.specs.declared.ReadEvent.{ReadEvent}
-use Rattle.reading_law.specs.declared.ReadSettings.{ReadSettings}
-use Rattle.reading_law.specs.Answers.{eventAnswer, EventRead, SettingsRead}
+use Rattle.lines_reading_law.specs.declared.ReadEvent.{ReadEvent}
+use Rattle.lines_reading_law.specs.declared.ReadSettings.{ReadSettings}
+use Rattle.lines_reading_law.specs.Answers.{eventAnswer, EventRead, SettingsRead}
 use Rattle.records.specs.declared.ReadRecord.{ReadRecord}
 use Rattle.records.specs.Back.{RecordRead}
-use Rattle.writing_law.specs.declared.Wrote.{Wrote}
-use Rattle.writing_law.specs.Writes.{Writes}
+use Rattle.lines_writing_law.specs.declared.Wrote.{Wrote}
+use Rattle.lines_writing_law.specs.Writes.{Writes}
 use Rattle.feed_law.specs.declared.Run.{Run}
 use Rattle.feed_law.specs.declared.Stage.{Stage}
 use Rattle.feed_law.specs.declared.Taken.{Taken}
@@ -46,7 +46,7 @@ ApplyDetermined =
     AppliedAs s e buys sells room buys₁ sells₁ room₁ r₁ → AppliedAs s e buys sells room buys₂ sells₂ room₂ r₂ →
     Coincide buys₁ sells₁ room₁ buys₂ sells₂ room₂ r₁ r₂
 
--- `reading::read_event` and `reading::read_settings`
+-- `lines_reading::read_event` and `lines_reading::read_settings`
 abbrev pub EventReadDetermined : Type 0
 EventReadDetermined = (bytes : List ℕ) (r r′ : ReadEvent) → EventRead bytes r → EventRead bytes r′ → r ≡ r′
 

@@ -8,8 +8,8 @@ use Rattle.terms.specs.declared.Event.{Event}
 use Rattle.terms.specs.declared.Report.{Report}
 use Rattle.state_law.specs.Day.{Day, opened}
 use Rattle.engine_law.specs.Outcome.{outcome, told}
-use Rattle.text_law.specs.Numerals.{allWritable}
-use Rattle.writing_law.specs.Lines.{reportNumbers}
+use Rattle.lines_text_law.specs.Numerals.{allWritable}
+use Rattle.lines_writing_law.specs.Lines.{reportNumbers}
 
 -- each report among these
 abbrev pub AllWritable : List Report → Type 0

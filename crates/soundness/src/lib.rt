@@ -81,5 +81,5 @@ pub fn is_sound(s: Session, buys: &[u64], sells: &[u64]) -> bool
     let nbuys = s.buys as usize;
     let nsells = s.sells as usize;
     let band = force::band_now(s);
-    audit::book_sound(buys, nbuys, sells, nsells, s.given, tick, factor, band)
+    book_sound::book_sound(buys, nbuys, sells, nsells, s.given, tick, factor, band)
 }

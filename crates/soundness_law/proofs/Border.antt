@@ -9,7 +9,7 @@ use Rattle.terms.proofs.Logic.{both, make}
 use Rattle.terms.specs.declared.Band.{Band}
 use Rattle.tables.specs.Tables.{decode}
 use Rattle.tables.proofs.Slots.{length-decode}
-use Rattle.audit_law.specs.Sound.{bookSound}
+use Rattle.book_sound_law.specs.Sound.{bookSound}
 use Rattle.state_law.specs.declared.Session.{Session}
 use Rattle.state_law.specs.Now.{bandNow}
 use Rattle.state_law.specs.Day.{Day}

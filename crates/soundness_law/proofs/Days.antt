@@ -26,8 +26,8 @@ use Rattle.rules_law.proofs.Rows.{row-small}
 use Rattle.book_law.specs.Priority.{otherSide}
 use Rattle.book_law.specs.Over.{Each}
 use Rattle.book_law.proofs.Over.{each-map}
-use Rattle.audit_law.specs.Sound.{bookSound, onSide, OrderFits, BookFits}
-use Rattle.audit_law.proofs.Facts.{book-fits, empty-sound}
+use Rattle.book_sound_law.specs.Sound.{bookSound, onSide, OrderFits, BookFits}
+use Rattle.book_sound_law.proofs.Facts.{book-fits, empty-sound}
 use Rattle.state_law.specs.declared.Session.{Session}
 use Rattle.state_law.specs.Now.{percentNow, bandNow}
 use Rattle.state_law.specs.Opening.{openedSession}

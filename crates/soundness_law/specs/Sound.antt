@@ -15,7 +15,7 @@ use Rattle.rules_law.specs.Slabs.{coolingLength}
 use Rattle.rules_law.specs.Reference.{referenceMost}
 use Rattle.rules_law.specs.Close.{kept}
 use Rattle.tables.specs.Tables.{decode}
-use Rattle.audit_law.specs.Sound.{bookSound}
+use Rattle.book_sound_law.specs.Sound.{bookSound}
 use Rattle.state_law.specs.declared.Session.{Session}
 use Rattle.state_law.specs.Now.{bandNow}
 use Rattle.state_law.specs.Day.{Day}

@@ -11,7 +11,7 @@ use feed_law::Stage;
 use feed_law::Stop;
 use sink::Sink;
 use terms::sizes;
-use writing_law::Wrote;
+use lines_writing_law::Wrote;
 ghost use Prim.Native.Nat.{_≤_};
 ghost use lib.ListN.{length};
 

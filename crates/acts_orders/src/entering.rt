@@ -1,0 +1,102 @@
+// An order that comes in: accepted, matched with the counter side, its remainder settled.
+use crate::leftover;
+use acts_law::Entered;
+use acts_law::Met;
+use matching::Incoming;
+use matching::crossing;
+use acts_reports::remembering;
+use acts_reports::telling;
+use rules::close;
+use state::force;
+use state_law::Session;
+use terms::Band;
+use terms::Entry;
+use terms::Said;
+ghost use mathlib.Core.Path.{_≡_};
+ghost use Prim.Native.Nat.{_+_};
+ghost use Rattle.tables.specs.Tables.{decode};
+ghost use Rattle.acts_law.specs.Entering.{incomingIn, Meeting, MetAs, Entering, EnteredAs};
+
+// The order as it meets the counter side: with the next number, the range, and the price that stands for its last trade.
+fn incoming(s: Session, n: Entry, number: u64) -> Incoming
+    ensures { λ r. ⌜ r ≡ incomingIn s n number ⌝ }
+{
+    let side = n.side;
+    let kind = n.kind;
+    let tape = s.tape;
+    let range = force::range_now(s);
+    let last = close::last_or(s.settings.settle, tape);
+    Incoming {
+        side: side,
+        kind: kind,
+        range: range,
+        number: number,
+        lots: n.lots,
+        time: s.time,
+        last: last,
+    }
+}
+
+// Accepted and matched: the accept report, the trades in the room, the counter table and the session.
+fn meet(
+    s: Session,
+    band: Band,
+    n: Entry,
+    theirs: &mut [u64],
+    count: usize,
+    room: &mut [u64],
+    at: usize,
+) -> Met
+    requires { ⌜ Meeting s band count (now theirs) (now room) at ⌝ }
+    ensures { λ r. ⌜ MetAs s n (decode count (now (theirs .entry))) (now (theirs .entry)) (now (room .entry)) at (now (theirs .exit)) (now (room .exit)) r ⌝ }
+{
+    let number = s.given + 1;
+    let mut given = s;
+    given.given = number;
+    let x = incoming(s, n, number);
+    let first = telling::tell(room, at, s.time, Said::Accept(number));
+    let m = crossing::sweep(theirs, count, room, first, x);
+    let trades = m.trades;
+    let session = remembering::remember(given, band, room, first, trades);
+    Met {
+        session: session,
+        count: m.count,
+        at: m.at,
+        left: m.left,
+        last: m.last,
+        out: m.out,
+    }
+}
+
+// The whole of an order; mine is its own side's table, theirs the other one.
+pub fn enter(
+    s: Session,
+    n: Entry,
+    mine: &mut [u64],
+    nmine: usize,
+    theirs: &mut [u64],
+    ntheirs: usize,
+    room: &mut [u64],
+    at: usize,
+) -> Entered
+    requires { ⌜ Entering s n nmine (now mine) ntheirs (now theirs) (now room) at ⌝ }
+    ensures { λ r. ⌜ EnteredAs s n (decode nmine (now (mine .entry))) (decode ntheirs (now (theirs .entry))) (now (mine .entry)) (now (theirs .entry)) (now (room .entry)) at (now (mine .exit)) (now (theirs .exit)) (now (room .exit)) r ⌝ }
+{
+    let side = n.side;
+    let kind = n.kind;
+    let life = n.life;
+    let number = s.given + 1;
+    let band = force::band_now(s);
+    let m = meet(s, band, n, theirs, ntheirs, room, at);
+    let left = m.left;
+    let behind = m.at;
+    let session = m.session;
+    let fate = leftover::fate(life, kind, band, m.last, left, m.out);
+    let p = leftover::settle(mine, nmine, side, number, left, fate, s.time, room, behind);
+    Entered {
+        session: session,
+        mine: p.count,
+        theirs: m.count,
+        at: p.at,
+    }
+}

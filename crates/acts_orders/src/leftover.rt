@@ -1,0 +1,117 @@
+// What becomes of the lots that an order has left.
+use acts_law::Placed;
+use acts_law::Remainder;
+use acts_reports::telling;
+use rules::slabs;
+use terms::Band;
+use terms::Kind;
+use terms::Life;
+use terms::Order;
+use terms::Said;
+use terms::Side;
+use terms::Why;
+ghost use mathlib.Core.Path.{_≡_};
+ghost use Prim.Native.Nat.{_<_};
+ghost use lib.ListN.{length};
+ghost use Rattle.terms.specs.Sizes.{slots};
+ghost use Rattle.tables.specs.Tables.{decode, tableOf, Holds};
+ghost use Rattle.book_law.specs.Priority.{insert};
+ghost use Rattle.book_law.specs.Matching.{fateOfLeft};
+ghost use Rattle.acts_law.specs.Written.{remainderOf, fateFrom, fateBack, Settling, Settled};
+
+// A market order that lives all day turns into a limit at its last price, if that is in the band.
+fn turned(band: Band, last: u64) -> Remainder
+    ensures { λ r. ⌜ r ≡ remainderOf (fateOfLeft Life.AllDay Kind.Market band last) ⌝ }
+{
+    if slabs::in_band(band, last) {
+        return Remainder::Turned(last);
+    }
+    Remainder::Ended(Why::OutsideBand)
+}
+
+// By life and kind.
+fn by_life(life: Life, kind: Kind, band: Band, last: u64) -> Remainder
+    ensures { λ r. ⌜ r ≡ remainderOf (fateOfLeft life kind band last) ⌝ }
+{
+    match life {
+        Life::Ioc => Remainder::Ended(Why::Immediate),
+        Life::AllDay => match kind {
+            Kind::Limit(price) => Remainder::Resting(price),
+            Kind::Market => turned(band, last),
+        },
+    }
+}
+
+// The fate of an order with so many lots left, which did or did not stop out of range.
+pub fn fate(life: Life, kind: Kind, band: Band, last: u64, left: u64, out: bool) -> Remainder
+    ensures { λ r. ⌜ r ≡ remainderOf (fateFrom life kind band last left out) ⌝ }
+{
+    if left == 0 {
+        return Remainder::Nothing;
+    }
+    if out {
+        return Remainder::Ended(Why::OutOfRange);
+    }
+    by_life(life, kind, band, last)
+}
+
+fn order_of(number: u64, price: u64, lots: u64) -> Order
+    ensures { λ r. ⌜ r ≡ record { number = number; price = price; lots = lots } ⌝ }
+{
+    Order {
+        number: number,
+        price: price,
+        lots: lots,
+    }
+}
+
+// The remainder takes its place on its own side.
+fn rest(mine: &mut [u64], n: usize, side: Side, o: Order) -> usize
+    requires { ⌜ Holds n (now mine) × (n < slots) ⌝ }
+    ensures { λ r. ⌜ (now (mine .exit) ≡ tableOf (insert side o (decode n (now (mine .entry)))) (now (mine .entry))) × (r ≡ length (insert side o (decode n (now (mine .entry))))) ⌝ }
+{
+    let count = n + 1;
+    book::side::add(mine, n, side, o);
+    count
+}
+
+// The remainder takes its place, or is reported cancelled.
+pub fn settle(
+    mine: &mut [u64],
+    n: usize,
+    side: Side,
+    number: u64,
+    left: u64,
+    fate: Remainder,
+    time: u64,
+    room: &mut [u64],
+    at: usize,
+) -> Placed
+    requires { ⌜ Settling n (now mine) (now room) at fate ⌝ }
+    ensures { λ r. ⌜ Settled side time number left (fateBack fate) (decode n (now (mine .entry))) (now (mine .entry)) (now (room .entry)) at (now (mine .exit)) (now (room .exit)) r ⌝ }
+{
+    match fate {
+        Remainder::Nothing => Placed { count: n, at: at },
+        Remainder::Resting(price) => {
+            let o = order_of(number, price, left);
+            let count = rest(mine, n, side, o);
+            Placed {
+                count: count,
+                at: at,
+            }
+        }
+        Remainder::Turned(price) => {
+            let o = order_of(number, price, left);
+            let count = rest(mine, n, side, o);
+            let next = telling::tell(room, at, time, Said::Convert(o));
+            Placed {
+                count: count,
+                at: next,
+            }
+        }
+        Remainder::Ended(why) => {
+            let next = telling::tell_cancel(room, at, time, number, left, why);
+            Placed { count: n, at: next }
+        }
+    }
+}

@@ -1,0 +1,78 @@
+-- The trades that are left, from the session so far, make the session that all of them make.
+use Prim.Native.Nat.{_-_}
+use borrow.Author.Needs.{needs}
+use Rattle.acts_law.proofs.Recalled.{Recalling, recall-none, deals-at, one-fits, recall-turn, recall-all}
+use Rattle.acts_reports.proofs.remembering.remember.Statement.{statement}
+use Rattle.acts_reports.proofs.remembering.remember.Tie as tie
+
+abbrev Inv-loop : tie.InvT-loop
+Inv-loop band room at n s₀ i₀ s i = Recalling band room at n s₀ s i
+
+abbrev μ-loop : tie.MeasureT-loop
+μ-loop band room at n s₀ i₀ s i = n - i
+
+loop-holds : tie.Need-loop-holds Inv-loop μ-loop
+loop-holds c = let a = c .before .args in recall-none (a .band) (a .room .now) (a .at) (a .n) (a .s0) (c .before .pre .0) (c .before .pre .1)
+
+mul-place : tie.Need-mul-place Inv-loop μ-loop
+mul-place c = search needs
+
+add-place : tie.Need-add-place Inv-loop μ-loop
+add-place c = search needs
+
+add-lots : tie.Need-add-lots Inv-loop μ-loop
+add-lots c = search needs
+
+mul-lots : tie.Need-mul-lots Inv-loop μ-loop
+mul-lots c = search needs
+
+shared-slice-read-lots : tie.Need-shared-slice-read-lots Inv-loop μ-loop
+shared-slice-read-lots c = search needs
+
+add-price : tie.Need-add-price Inv-loop μ-loop
+add-price c = search needs
+
+mul-price : tie.Need-mul-price Inv-loop μ-loop
+mul-price c = search needs
+
+shared-slice-read-price : tie.Need-shared-slice-read-price Inv-loop μ-loop
+shared-slice-read-price c = search needs
+
+with-trade-requires : tie.Need-with-trade-requires Inv-loop μ-loop
+with-trade-requires c κs = let a = c .before .before .before .before .before .args in let l = c .before .before .before .loop in
+    let d = deals-at (a .room .now) (a .at) (a .n) (l .i) (c .before .before .before .before .before .pre .4) (c .before .before .loop-test .taken) in
+    (one-fits (a .room .now) (a .at) (a .n) (l .i) (c .before .before .before .before .before .pre .4) (c .before .before .loop-test .taken) (a .band) (a .s0) (l .s) (l .inv), l .inv .banded, d .price-small, d .lots-small)
+
+add-i : tie.Need-add-i Inv-loop μ-loop
+add-i c = search needs
+
+loop-less : tie.Need-loop-less Inv-loop μ-loop
+loop-less c = search needs
+
+loop-again : tie.Need-loop-again Inv-loop μ-loop
+loop-again c = let a = c .before .before .before .before .before .before .args in let l = c .before .before .before .before .loop in
+    recall-turn (a .room .now) (a .at) (a .n) (l .i) (c .before .before .before .before .before .before .pre .4) (c .before .before .before .loop-test .taken) (a .band) (a .s0) (l .s) (l .inv) (c .with-trade .result) (c .with-trade .ensures)
+
+returns : tie.Need-returns Inv-loop μ-loop
+returns c = let a = c .before .before .before .args in let l = c .before .loop in recall-all (a .band) (a .room .now) (a .at) (a .n) (l .i) (a .s0) (l .s) (l .inv) (c .loop-test .left)
+
+pub remember-spec : {M : Type 1} → statement M
+remember-spec =
+    tie.close
+    (tie.spec
+    Inv-loop
+    μ-loop
+    loop-holds
+    mul-place
+    add-place
+    add-lots
+    mul-lots
+    shared-slice-read-lots
+    add-price
+    mul-price
+    shared-slice-read-price
+    with-trade-requires
+    add-i
+    loop-less
+    loop-again
+    returns)

@@ -1,9 +1,0 @@
--- Field by field.
-use Rattle.audit.proofs.held_to.Statement.{statement}
-use Rattle.audit.proofs.held_to.Tie as tie
-
-returns : tie.Need-returns
-returns c = simp (c .pre)
-
-pub held-to-spec : {M : Type 1} → statement M
-held-to-spec = tie.close (tie.spec returns)

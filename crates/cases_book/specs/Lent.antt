@@ -1,0 +1,15 @@
+-- What the steps of the program need of the numbers that are lent.
+use Prim.Native.Nat.{ℕ, _≤_}
+use mathlib.Core.List.{List}
+use lib.ListN.{length}
+use Rattle.terms.specs.Sizes.{slots, tableLength}
+use Rattle.cases_book.specs.declared.steps.Counts.{Counts}
+
+pub record Counted (c : Counts) : Type 0 where
+  pub own : c .own ≤ slots
+  pub other : c .other ≤ slots
+
+-- both tables are long enough
+pub record Lent (own other : List ℕ) : Type 0 where
+  pub own-long : tableLength ≤ length own
+  pub other-long : tableLength ≤ length other

@@ -1,0 +1,43 @@
+// Runs of numbers: how long each is, and a run laid into lent numbers.
+ghost use mathlib.Core.Path.{_≡_};
+ghost use Prim.Native.Nat.{_+_, _≤_};
+ghost use lib.ListN.{length};
+ghost use Rattle.tables.specs.Put.{put};
+ghost use Rattle.desk_packing.specs.Runs.{tenAt};
+
+pub const SETTINGS: usize = 8;
+
+pub const SESSION: usize = 43;
+
+pub const EVENT: usize = 6;
+
+// The numbers of a run from its front on; what lies past them is as it was.
+pub fn lay(run: &mut [u64], ns: &[u64])
+    requires { ⌜ length (now ns) ≤ length (now run) ⌝ }
+    ensures { λ _. ⌜ now (run .exit) ≡ put (now (run .entry)) 0 (now (ns .entry)) ⌝ }
+{
+    let mut j: usize = 0;
+    while j < ns.len() {
+        run[j] = ns[j];
+        j += 1;
+    }
+}
+
+// Ten numbers of a run, as an array.
+pub fn ten_at(ns: &[u64], at: usize) -> [u64; 10]
+    requires { ⌜ at + 10 ≤ length (now ns) ⌝ }
+    ensures { λ r. ⌜ r ≡ tenAt (now (ns .entry)) at ⌝ }
+{
+    [
+        ns[at],
+        ns[at + 1],
+        ns[at + 2],
+        ns[at + 3],
+        ns[at + 4],
+        ns[at + 5],
+        ns[at + 6],
+        ns[at + 7],
+        ns[at + 8],
+        ns[at + 9],
+    ]
+}

@@ -1,0 +1,65 @@
+// What is said, printed into an output room.
+use records::ReadRecord;
+use terms::Refusal;
+use terms::sizes;
+use lines_writing_law::Wrote;
+ghost use mathlib.Core.Path.{_≡_};
+ghost use Prim.Native.Nat.{_+_, _*_, _≤_};
+ghost use lib.ListN.{length, drop};
+ghost use Rattle.terms.specs.Sizes.{lineRoom, recordLength};
+ghost use Rattle.feed_law.specs.Texts.{recordText, recordsText, refusedText, badText};
+ghost use Rattle.feed_law.specs.Feeds.{Prints, wroteLength};
+
+// How many bytes a writer wrote.
+fn length_of(w: Wrote) -> usize
+    ensures { λ r. ⌜ r ≡ wroteLength w ⌝ }
+{
+    match w {
+        Wrote::Written(n) => n,
+        Wrote::Refused(_) => 0,
+    }
+}
+
+// The line of a refused event.
+pub fn tell_refused(time: u64, refusal: Refusal, out: &mut [u8]) -> usize
+    requires { ⌜ lineRoom ≤ length (now out) ⌝ }
+    ensures { λ r. ⌜ Prints (now (out .entry)) (refusedText time refusal) r (now (out .exit)) ⌝ }
+{
+    length_of(lines_writing_reports::write_refused(time, refusal, out))
+}
+
+// The line of a bad line, or of refused settings.
+pub fn tell_bad(refusal: Refusal, place: usize, out: &mut [u8]) -> usize
+    requires { ⌜ lineRoom ≤ length (now out) ⌝ }
+    ensures { λ r. ⌜ Prints (now (out .entry)) (badText refusal place) r (now (out .exit)) ⌝ }
+{
+    length_of(lines_writing_reports::write_bad(refusal, place, out))
+}
+
+// The line of the record that stands in the room from `at` on.
+fn tell_record(room: &[u64], at: usize, out: &mut [u8]) -> usize
+    requires { ⌜ (at + recordLength ≤ length (now room)) × (lineRoom ≤ length (now out)) ⌝ }
+    ensures { λ r. ⌜ Prints (now (out .entry)) (recordText (drop at (now (room .entry)))) r (now (out .exit)) × (r ≤ lineRoom) ⌝ }
+{
+    match records::read_record(room, at) {
+        ReadRecord::Told(report) => length_of(lines_writing_reports::write_report(report, out)),
+        ReadRecord::Nothing => 0,
+    }
+}
+
+// The lines of the first records in the room.
+pub fn tell_records(room: &[u64], count: u64, out: &mut [u8]) -> usize
+    requires { ⌜ (recordLength * count ≤ length (now room)) × (lineRoom * count ≤ length (now out)) ⌝ }
+    ensures { λ r. ⌜ Prints (now (out .entry)) (recordsText count (now (room .entry))) r (now (out .exit)) ⌝ }
+{
+    let mut i: u64 = 0;
+    let mut at: usize = 0;
+    let mut wrote: usize = 0;
+    while i < count {
+        let n = tell_record(room, at, &mut out[wrote..]);
+        wrote += n;
+        at += sizes::RECORD;
+        i += 1;
+    }
+    wrote
+}

@@ -1,0 +1,146 @@
+// One line of a run.
+use engine::apply;
+use engine_law::Answer;
+use feed_law::Run;
+use feed_law::Stage;
+use feed_law::Turned;
+use feed_prints::telling;
+use lines_reading_law::ReadEvent;
+use lines_reading_law::ReadSettings;
+use state::opening;
+use state_law::Session;
+use terms::Event;
+use terms::Refusal;
+use terms::Settings;
+use terms::Verdict;
+ghost use Prim.Native.Nat.{_≤_};
+ghost use mathlib.Core.Path.{_≡_};
+ghost use lib.ListN.{length};
+ghost use Rattle.lines_text_law.specs.Grammar.{whole};
+ghost use Rattle.lines_reading_law.specs.Answers.{readSettings, readEvent};
+ghost use Rattle.state_law.specs.Opening.{openingOf, fixedSession};
+ghost use Rattle.feed_law.specs.Texts.{textMost};
+ghost use Rattle.feed_law.specs.Worlds.{lentOf, calls};
+ghost use Rattle.feed_law.specs.Turns.{ends, openTurn, settingsTurn, eventTurn};
+ghost use Rattle.feed_law.specs.Feeds.{turnBy, turnedTo, TurnedAs, TablesAside};
+
+// Where a run stands after a line.
+fn turned(stage: Stage, session: Session, used: usize, wrote: usize) -> Turned
+    ensures { λ r. ⌜ r ≡ turnedTo stage session used wrote ⌝ }
+{
+    Turned {
+        run: Run {
+            stage: stage,
+            session: session,
+        },
+        used: used,
+        wrote: wrote,
+    }
+}
+
+// A bad line: it is told, and the run is over.
+fn bad_line(session: Session, place: usize, out: &mut [u8]) -> Turned
+    requires { ⌜ textMost ≤ length (now out) ⌝ }
+    ensures { λ r. ⌜ TablesAside session (λ l. ends calls l place) (now (out .entry)) (now (out .exit)) r ⌝ }
+{
+    let wrote = telling::tell_bad(Refusal::LineWrong, place, out);
+    turned(Stage::Over, session, 0, wrote)
+}
+
+// A whole line of settings: the session opens, or the run is over.
+fn opens(settings: Settings, used: usize, out: &mut [u8]) -> Turned
+    requires { ⌜ textMost ≤ length (now out) ⌝ }
+    ensures { λ r. ⌜ TablesAside fixedSession (λ l. openTurn calls l used (openingOf settings)) (now (out .entry)) (now (out .exit)) r ⌝ }
+{
+    let o = opening::begin(settings);
+    let verdict = o.verdict;
+    let opened = o.session;
+    match verdict {
+        Verdict::Fine => turned(Stage::Trading, opened, used, 0),
+        Verdict::Refused(refusal) => {
+            let wrote = telling::tell_bad(refusal, 0, out);
+            turned(Stage::Over, opened, used, wrote)
+        }
+    }
+}
+
+// The line of settings that a run begins with.
+fn settings_line(session: Session, bytes: &[u8], out: &mut [u8]) -> Turned
+    requires { ⌜ textMost ≤ length (now out) ⌝ }
+    ensures { λ r. ⌜ TablesAside session (λ l. settingsTurn calls l (readSettings (now (bytes .entry)))) (now (out .entry)) (now (out .exit)) r ⌝ }
+{
+    match lines_reading::read_settings(bytes) {
+        ReadSettings::Whole(settings, used) => opens(settings, used, out),
+        ReadSettings::Unfinished => turned(Stage::Awaiting, session, 0, 0),
+        ReadSettings::Wrong(place) => bad_line(session, place, out),
+    }
+}
+
+// A whole line of an event: its reports, or its refusal.
+fn goes(
+    session: Session,
+    event: Event,
+    used: usize,
+    buys: &mut [u64],
+    sells: &mut [u64],
+    room: &mut [u64],
+    out: &mut [u8],
+) -> Turned
+    requires { ⌜ textMost ≤ length (now out) ⌝ }
+    ensures { λ r. ⌜ TurnedAs (eventTurn calls (lentOf session (now (buys .entry)) (now (sells .entry)) (now (room .entry))) (whole event used)) (now (out .entry)) (now (buys .exit)) (now (sells .exit)) (now (room .exit)) (now (out .exit)) r ⌝ }
+{
+    let time = event.time;
+    let a = apply::apply(session, event, buys, sells, room);
+    let answer = a.answer;
+    let after = a.session;
+    match answer {
+        Answer::Reported(count) => {
+            let wrote = telling::tell_records(room, count, out);
+            turned(Stage::Trading, after, used, wrote)
+        }
+        Answer::Refused(refusal) => {
+            let wrote = telling::tell_refused(time, refusal, out);
+            turned(Stage::Trading, after, used, wrote)
+        }
+    }
+}
+
+// The line of an event.
+fn event_line(
+    session: Session,
+    bytes: &[u8],
+    buys: &mut [u64],
+    sells: &mut [u64],
+    room: &mut [u64],
+    out: &mut [u8],
+) -> Turned
+    requires { ⌜ textMost ≤ length (now out) ⌝ }
+    ensures { λ r. ⌜ TurnedAs (eventTurn calls (lentOf session (now (buys .entry)) (now (sells .entry)) (now (room .entry))) (readEvent (now (bytes .entry)))) (now (out .entry)) (now (buys .exit)) (now (sells .exit)) (now (room .exit)) (now (out .exit)) r ⌝ }
+{
+    match lines_reading::read_event(bytes) {
+        ReadEvent::Whole(event, used) => goes(session, event, used, buys, sells, room, out),
+        ReadEvent::Unfinished => turned(Stage::Trading, session, 0, 0),
+        ReadEvent::Wrong(place) => bad_line(session, place, out),
+    }
+}
+
+// The first line of some bytes, by what it has to be.
+pub fn turn(
+    run: Run,
+    bytes: &[u8],
+    buys: &mut [u64],
+    sells: &mut [u64],
+    room: &mut [u64],
+    out: &mut [u8],
+) -> Turned
+    requires { ⌜ textMost ≤ length (now out) ⌝ }
+    ensures { λ r. ⌜ TurnedAs (turnBy run (now (buys .entry)) (now (sells .entry)) (now (room .entry)) (now (bytes .entry))) (now (out .entry)) (now (buys .exit)) (now (sells .exit)) (now (room .exit)) (now (out .exit)) r × (r .used ≤ length (now (bytes .entry))) × (r .wrote ≤ length (now (out .entry))) ⌝ }
+{
+    let stage = run.stage;
+    let session = run.session;
+    match stage {
+        Stage::Awaiting => settings_line(session, bytes, out),
+        Stage::Trading => event_line(session, bytes, buys, sells, room, out),
+        Stage::Over => turned(Stage::Over, session, 0, 0),
+    }
+}

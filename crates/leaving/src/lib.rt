@@ -1,5 +1,0 @@
-// leaving: orders that leave the book: one by a cancel, all of them at the close.
-// It may use acts_law, state and reporting. It promises: tables, room and session are what acts_law makes of the day.
-
-pub mod closing;
-pub mod withdrawing;

@@ -1,0 +1,14 @@
+-- The grammar's answer is the right one.
+use Rattle.lines_reading_law.proofs.SettingsLines.{settings-right}
+use borrow.Author.Needs.{needs}
+use Rattle.lines_reading.proofs.read_settings.Statement.{statement}
+use Rattle.lines_reading.proofs.read_settings.Tie as tie
+
+read-requires : tie.Need-read-requires
+read-requires c κs = search needs
+
+returns : tie.Need-returns
+returns c = record { right = rw (c .read .ensures) (settings-right (c .before .before .args .bytes .now)) }
+
+pub read-settings-spec : {M : Type 1} → statement M
+read-settings-spec = tie.close (tie.spec read-requires returns)

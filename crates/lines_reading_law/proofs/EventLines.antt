@@ -1,0 +1,206 @@
+-- The grammar of events has the lines of events and no others, so the reader's answer is the right one. Assumes nothing.
+use Prim.Native.Nat.{ℕ, _≤_}
+use mathlib.Core.Path.{_≡_, refl}
+use mathlib.Core.Bool.{Bool, true, false}
+use mathlib.Core.List.{List, [], _++_}
+use lib.ListN.{length, take}
+use Rattle.terms.specs.declared.Side.{Side}
+use Rattle.terms.specs.declared.Side.the-variants.{Buy, Sell}
+use Rattle.terms.specs.declared.Kind.{Kind}
+use Rattle.terms.specs.declared.Kind.the-variants.{Limit, Market}
+use Rattle.terms.specs.declared.Life.{Life}
+use Rattle.terms.specs.declared.Life.the-variants.{AllDay, Ioc}
+use Rattle.terms.specs.declared.Act.{Act}
+use Rattle.terms.specs.declared.Act.the-variants.{Enter, Withdraw, Under, Clock, Finish}
+use Rattle.terms.specs.declared.Event.{Event}
+use Rattle.terms.specs.Sizes.{writtenMost}
+use Rattle.lines_text_law.specs.Text.{bytes}
+use Rattle.lines_text_law.specs.Numerals.{numeral, Writable}
+use Rattle.lines_text_law.specs.Forms.{fill}
+use Rattle.lines_text_law.specs.Grammar.{word, Answer, whole}
+use Rattle.lines_text_law.specs.Reading.{Right}
+use Rattle.lines_text_law.specs.Pieces.{at, lastly}
+use Rattle.lines_text_law.proofs.Grammars.{Spells, s-stop, s-byte, s-this, s-else, s-number, s-word, s-last, Plain, Agrees, agreed}
+use Rattle.lines_text_law.proofs.Rightness.{right, one, read-back, apart}
+use Rattle.lines_reading_law.specs.declared.Single.{Single}
+use Rattle.lines_reading_law.specs.Lines.{sideWord, eventNumbers, renderEvent, EventLine}
+use Rattle.lines_reading_law.specs.Grammars.{event, order, priceRest, lifeRest, lives, kindRest, kinds, sideRest, actOf, singleRest, clockRest, cancelRest, acts, eventGrammar}
+use Rattle.lines_reading_law.specs.declared.ReadEvent.{ReadEvent}
+use Rattle.lines_reading_law.specs.Answers.{eventAnswer, codeOf, EventRead, readEvent}
+
+-- what the values of the grammar's ends must say
+abbrev Fine : Event → Type 0
+Fine e = Writable (eventNumbers e)
+
+-- ---- the grammar is plain
+
+order-plain : (t : ℕ) (side : Side) → Plain (kinds t side)
+unfolding kinds kindRest lives lifeRest priceRest lastly word
+order-plain t side = (
+  refl,
+  (refl, (λ q. (refl, λ p. (refl, tt))), (λ q. (refl, λ p. (refl, tt)))),
+  (refl, (λ q. (refl, tt)), (λ q. (refl, tt))),
+)
+
+plain : Plain eventGrammar
+unfolding eventGrammar acts sideRest cancelRest clockRest singleRest lastly word
+plain =
+    λ t. (
+      refl,
+      (
+        (refl, (refl, refl)),
+        order-plain t Buy,
+        (
+          (refl, refl),
+          order-plain t Sell,
+          (refl, (λ p. (refl, tt)), (refl, (λ i. (refl, tt)), (refl, (λ p. (refl, tt)), tt))),
+        ),
+      ),
+    )
+
+-- ---- each of its ends is the line of its value
+
+abbrev kindWord : Kind → List ℕ
+kindWord (Limit p) = bytes "limit"
+kindWord Market = bytes "market"
+
+abbrev lifeWord : Life → List ℕ
+lifeWord AllDay = bytes "day"
+lifeWord Ioc = bytes "ioc"
+
+-- what follows the lots
+abbrev priceText : Kind → List ℕ
+priceText (Limit p) = bytes " price=" ++ (numeral p ++ bytes "\n")
+priceText Market = bytes "\n"
+
+abbrev orderText : Side → Kind → Life → ℕ → List ℕ
+orderText side kind life q =
+    sideWord side ++ (bytes " kind=" ++ (kindWord kind ++ (bytes " life=" ++ (lifeWord life ++ (bytes " qty=" ++ (numeral q ++ priceText kind))))))
+
+-- the line of an order, by its words
+order-line : (t : ℕ) (side : Side) (kind : Kind) (life : Life) (q : ℕ)
+    → bytes "t=" ++ (numeral t ++ (bytes " do=" ++ orderText side kind life q)) ≡ renderEvent (order t side kind life q)
+unfolding renderEvent fill
+order-line t Buy (Limit p) AllDay q = refl
+order-line t Buy (Limit p) Ioc q = refl
+order-line t Buy Market AllDay q = refl
+order-line t Buy Market Ioc q = refl
+order-line t Sell (Limit p) AllDay q = refl
+order-line t Sell (Limit p) Ioc q = refl
+order-line t Sell Market AllDay q = refl
+order-line t Sell Market Ioc q = refl
+
+order-agrees : (t : ℕ) → t ≤ writtenMost → (side : Side)
+    → Agrees renderEvent Fine (kinds t side) (λ x. bytes "t=" ++ (numeral t ++ (bytes " do=" ++ (sideWord side ++ (bytes " kind=" ++ x)))))
+unfolding kinds kindRest lives lifeRest priceRest lastly word
+order-agrees t h side = (
+  (
+    (λ q k p l. (order-line t side (Limit p) AllDay q, (h, (k, (l, tt))))),
+    (λ q k p l. (order-line t side (Limit p) Ioc q, (h, (k, (l, tt))))),
+  ),
+  ((λ q k. (order-line t side Market AllDay q, (h, (k, tt)))), (λ q k. (order-line t side Market Ioc q, (h, (k, tt))))),
+)
+
+agrees : Agrees renderEvent Fine eventGrammar (λ x. x)
+unfolding eventGrammar acts sideRest cancelRest clockRest singleRest lastly word renderEvent fill
+agrees =
+    λ t h. (
+      order-agrees t h Buy,
+      (
+        order-agrees t h Sell,
+        ((λ p k. (refl, (h, (k, tt)))), ((λ i k. (refl, (h, (k, tt)))), ((λ p k. (refl, (h, (k, tt)))), (refl, (h, tt))))),
+      ),
+    )
+
+to : (e : Event) (bs : List ℕ) → Spells eventGrammar e bs → EventLine e bs
+to e bs s = agreed renderEvent Fine (λ x. x) agrees s
+
+-- ---- and each value's line is one of its ends
+
+module _ (t : ℕ) {e : Event} {bs : List ℕ} where
+  time-spells : t ≤ writtenMost → Spells (acts t) e bs → Spells eventGrammar e (bytes "t=" ++ (numeral t ++ (bytes " do=" ++ bs)))
+  unfolding eventGrammar
+  time-spells h s = s-word (bytes "t=") (s-number t h (s-word (bytes " do=") s))
+
+  side-spells : (side : Side) → Spells (kinds t side) e bs → Spells (acts t) e (sideWord side ++ (bytes " kind=" ++ bs))
+  unfolding acts sideRest
+  side-spells Buy s = s-this (s-word (bytes "uy kind=") s)
+  side-spells Sell s = s-else (s-this (s-word (bytes "ell kind=") s))
+
+  limit-kind : (side : Side) → Spells (lives t side true) e bs → Spells (kinds t side) e (bytes "limit life=" ++ bs)
+  unfolding kinds kindRest
+  limit-kind side s = s-this (s-word (bytes "imit life=") s)
+
+  market-kind : (side : Side) → Spells (lives t side false) e bs → Spells (kinds t side) e (bytes "market life=" ++ bs)
+  unfolding kinds kindRest
+  market-kind side s = s-else (s-byte (s-word (bytes "arket life=") s))
+
+  life-spells : (side : Side) (limit : Bool) (life : Life) (q : ℕ) → q ≤ writtenMost
+      → Spells (priceRest t side limit life q) e bs → Spells (lives t side limit) e (lifeWord life ++ (bytes " qty=" ++ (numeral q ++ bs)))
+  unfolding lives lifeRest
+  life-spells side limit AllDay q h s = s-this (s-word (bytes "ay qty=") (s-number q h s))
+  life-spells side limit Ioc q h s = s-else (s-byte (s-word (bytes "oc qty=") (s-number q h s)))
+
+order-spells : (t : ℕ) (side : Side) (kind : Kind) (life : Life) (q : ℕ) → Fine (order t side kind life q)
+    → Spells (acts t) (order t side kind life q) (orderText side kind life q)
+unfolding priceRest
+order-spells t side (Limit p) life q f =
+    let price = s-last (bytes " price=") (λ p. order t side (Limit p) life q) p (f .1 .1 .0) in
+    side-spells t side (limit-kind t side (life-spells t side true life q (f .1 .0) price))
+order-spells t side Market life q f =
+    side-spells t side (market-kind t side (life-spells t side false life q (f .1 .0) (s-word (bytes "\n") s-stop)))
+
+single-spells : (w : List ℕ) (t : ℕ) (single : Single) (v : ℕ) → v ≤ writtenMost → Spells (singleRest w t single) (event t (actOf single v)) (w ++ (numeral v ++ bytes "\n"))
+unfolding singleRest
+single-spells w t single v h = s-last w (λ i. event t (actOf single i)) v h
+
+-- a line a kind of event
+act-spells : (t : ℕ) (a : Act) → Fine (event t a) → Spells eventGrammar (event t a) (renderEvent (event t a))
+unfolding acts cancelRest clockRest renderEvent fill
+act-spells t (Enter o) f =
+    rw (← order-line t (o .side) (o .kind) (o .life) (o .lots))
+    (time-spells t (f .0) (order-spells t (o .side) (o .kind) (o .life) (o .lots) f))
+act-spells t (Under p) f = time-spells t (f .0) (s-else (s-else (s-this (single-spells (bytes "nder price=") t Single.Under p (f .1 .0)))))
+act-spells t (Withdraw i) f =
+    time-spells t (f .0) (s-else (s-else (s-else (s-byte (s-this (single-spells (bytes "ncel id=") t Single.Withdraw i (f .1 .0)))))))
+act-spells t (Finish p) f =
+    time-spells t (f .0)
+    (s-else (s-else (s-else (s-byte (s-else (s-word (bytes "lo") (s-this (single-spells (bytes "e settle=") t Single.Finish p (f .1 .0)))))))))
+act-spells t Clock f =
+    time-spells t (f .0) (s-else (s-else (s-else (s-byte (s-else (s-word (bytes "lo") (s-else (s-word (bytes "ck\n") s-stop))))))))
+
+from : (e : Event) (bs : List ℕ) → EventLine e bs → Spells eventGrammar e bs
+from e bs l = rw (l .0) (act-spells (e .time) (e .act) (l .1))
+
+-- ---- so
+
+-- the reader's answer is the right one
+pub event-right : (s : List ℕ) → Right EventLine s (readEvent s)
+unfolding readEvent at
+event-right s = right EventLine eventGrammar plain to from s
+
+-- and no other is
+pub event-only : (s : List ℕ) (o q : Answer Event) → Right EventLine s o → Right EventLine s q → o ≡ q
+event-only = one EventLine eventGrammar plain to from
+
+-- an event's line is read back as the event, whatever follows
+pub event-back : (e : Event) (rest : List ℕ) → Writable (eventNumbers e) → readEvent (renderEvent e ++ rest) ≡ whole e (length (renderEvent e))
+unfolding readEvent at
+event-back e rest w = read-back EventLine eventGrammar plain to from e (renderEvent e) rest (refl, w)
+
+-- two events never share a line
+pub event-apart : (e f : Event) → Writable (eventNumbers e) → Writable (eventNumbers f) → renderEvent e ≡ renderEvent f → e ≡ f
+event-apart e f v w q = apart EventLine eventGrammar plain to from e f (renderEvent e) (refl, v) (q, w)
+
+-- bytes that are read as a value are its line, so it has one spelling
+pub event-spelled : (s : List ℕ) (e : Event) (n : ℕ) → readEvent s ≡ whole e n → take n s ≡ renderEvent e
+event-spelled s e n q = (rw q at (event-right s)) .1 .0
+
+-- what the reader answers is the computed answer
+pub event-told : (s : List ℕ) (r : ReadEvent) → EventRead s r → eventAnswer r ≡ readEvent s
+event-told s r a = event-only s (eventAnswer r) (readEvent s) (a .right) (event-right s)
+
+-- P12: "empty bytes: 14"
+pub event-none : codeOf (readEvent []) ≡ 14
+unfolding readEvent at eventGrammar word
+event-none = refl

@@ -1,0 +1,45 @@
+-- What the two readers answer, by the paper's numbers.
+use Prim.Native.Nat.{ℕ}
+use mathlib.Core.List.{List}
+use Rattle.terms.specs.declared.Event.{Event}
+use Rattle.terms.specs.declared.Settings.{Settings}
+use Rattle.terms.specs.declared.Refusal.the-variants.{LineUnfinished, LineWrong}
+use Rattle.terms.specs.Refusals.{numberOf}
+use Rattle.lines_text_law.specs.Grammar.{Answer, whole, unfinished, wrong}
+use Rattle.lines_text_law.specs.Reading.{Right}
+use Rattle.lines_text_law.specs.Pieces.{at}
+use Rattle.lines_reading_law.specs.declared.ReadEvent.{ReadEvent}
+use Rattle.lines_reading_law.specs.declared.ReadSettings.{ReadSettings}
+use Rattle.lines_reading_law.specs.Lines.{SettingsLine, EventLine}
+use Rattle.lines_reading_law.specs.Grammars.{settingsGrammar, eventGrammar}
+
+-- each reader's answers, as answers of any reader
+abbrev pub eventAnswer : ReadEvent → Answer Event
+eventAnswer (ReadEvent.Whole e n) = whole e n
+eventAnswer ReadEvent.Unfinished = unfinished
+eventAnswer (ReadEvent.Wrong n) = wrong n
+
+abbrev pub settingsAnswer : ReadSettings → Answer Settings
+settingsAnswer (ReadSettings.Whole g n) = whole g n
+settingsAnswer ReadSettings.Unfinished = unfinished
+settingsAnswer (ReadSettings.Wrong n) = wrong n
+
+-- the paper's number of an answer: 14 unfinished, 15 wrong, 0 for a line
+abbrev pub codeOf : {E : Type 0} → Answer E → ℕ
+codeOf (whole e n) = 0
+codeOf unfinished = numberOf LineUnfinished
+codeOf (wrong n) = numberOf LineWrong
+
+-- the contract of a reader: its answer is the right one for the bytes
+pub record EventRead (bytes : List ℕ) (r : ReadEvent) : Type 0 where
+  pub right : Right EventLine bytes (eventAnswer r)
+
+pub record SettingsRead (bytes : List ℕ) (r : ReadSettings) : Type 0 where
+  pub right : Right SettingsLine bytes (settingsAnswer r)
+
+-- the same answers computed
+unfoldable pub readEvent : List ℕ → Answer Event
+readEvent bytes = at bytes eventGrammar 0
+
+unfoldable pub readSettings : List ℕ → Answer Settings
+readSettings bytes = at bytes settingsGrammar 0

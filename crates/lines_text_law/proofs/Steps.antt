@@ -1,0 +1,240 @@
+-- How the grammar's reader goes by the pieces that code reads, and the turns of the two loops over bytes. Assumes nothing.
+use Prim.Native.Nat.{ℕ, zero, suc, _+_, _-_, _*_, _^_, _≤_, _<_}
+use native.Mathlib.Nat.{pow-suc}
+use native.Mathlib.Numerals.{add-one}
+use native.Mathlib.Omega.{arith}
+use mathlib.Core.Path.{_≡_, refl, sym, ap, _∙_}
+use mathlib.Core.List.{List, [], _∷_}
+use lib.ListN.{length, getD, drop, length-drop, drop-of-length-le}
+use lib.Seq.{drop-cons}
+use lib.Dec.{eqb}
+use borrow.Author.Tests.{eq-eqb, ne-eqb}
+use Rattle.terms.proofs.Logic.{cases}
+use Rattle.lines_text_law.specs.declared.Passed.{Passed}
+use Rattle.lines_text_law.specs.declared.Found.{Found}
+use Rattle.lines_text_law.specs.Text.{bytes}
+use Rattle.lines_text_law.specs.Grammar.{Grammar, stop, byte, either, number, word, Answer, whole, unfinished, wrong, digit, more, look}
+use Rattle.lines_text_law.specs.Pieces.{at, wordOn, moreOn, numberOn, thenNumber, fieldOn, ended, thenEnd, lastOn, lastly}
+use Rattle.lines_text_law.proofs.Digits.{digit-yes, digit-low, digit-high}
+
+-- what is left of a list is empty, or a byte and what is left from there
+rest-cases : {P : Type 0} (s : List ℕ) (n : ℕ) → (drop n s ≡ [] → P) → (drop n s ≡ getD s n 0 ∷ drop (n + 1) s → P) → P
+rest-cases {P} s n a b = go (drop n s) refl
+  where
+    go : (l : List ℕ) → drop n s ≡ l → P
+    go [] e = a e
+    go (x ∷ l) e =
+        let len : length s - n ≡ suc (length l) = sym (length-drop n s) ∙ ap length e in
+        b (rw add-one (drop-cons s n 0 (omega arith)))
+
+-- ---- pieces
+
+pub at-stop : {E : Type 0} (s : List ℕ) (e : E) (n : ℕ) → whole e n ≡ at s (stop e) n
+unfolding at
+at-stop s e n = refl
+
+-- what comes after a piece
+abbrev afterWord : {E : Type 0} → Passed → (ℕ → Answer E) → Answer E
+afterWord (Passed.To m) k = k m
+afterWord Passed.Short k = unfinished
+afterWord (Passed.Wrong m) k = wrong m
+
+abbrev afterNumber : {E : Type 0} → Found → (ℕ → ℕ → Answer E) → Answer E
+afterNumber (Found.Value v m) k = k v m
+afterNumber Found.Short k = unfinished
+afterNumber (Found.Wrong m) k = wrong m
+
+module _ {E : Type 0} (s : List ℕ) where
+  at-word : (w : List ℕ) (g : Grammar E) (n : ℕ) → at s (word w g) n ≡ afterWord (wordOn w (drop n s) n) (at s g)
+  unfolding at word
+  at-word [] g n = refl
+  at-word (b ∷ w) g n =
+      rest-cases s n (λ e. rw e)
+      (λ e. cases (eqb (getD s n 0) b) (λ y. rw (e, y) (at-word w g (n + 1))) (λ y. rw (e, y)))
+
+  at-more : (f v n : ℕ) (g : ℕ → Grammar E)
+      → more f v (drop n s) n (λ u l m. look (g u) l m) ≡ afterNumber (moreOn f v (drop n s) n) (λ u m. at s (g u) m)
+  unfolding at
+  at-more zero v n g = refl
+  at-more (suc f) v n g =
+      rest-cases s n (λ e. rw e (sym (rw e)))
+      (λ e.
+      cases (digit (getD s n 0))
+      (λ y. rw (e, y) (at-more f (v * 10 + (getD s n 0 - 48)) (n + 1) g))
+      (λ y. rw (e, y) (sym (rw e))))
+
+  at-number : (g : ℕ → Grammar E) (n : ℕ) → at s (number g) n ≡ afterNumber (numberOn (drop n s) n) (λ v m. at s (g v) m)
+  unfolding at
+  at-number g n =
+      rest-cases s n (λ e. rw e)
+      (λ e.
+      cases (eqb (getD s n 0) 48)
+      (λ y. rw (e, y))
+      (λ y.
+      cases (digit (getD s n 0))
+      (λ d. rw (e, y, d) (at-more 8 (getD s n 0 - 48) (n + 1) g))
+      (λ d. rw (e, y, d))))
+
+  at-field : (w : List ℕ) (g : ℕ → Grammar E) (n : ℕ) → at s (word w (number g)) n ≡ afterNumber (fieldOn w s n) (λ v m. at s (g v) m)
+  unfolding fieldOn
+  at-field w g n = at-word w (number g) n ∙ go (wordOn w (drop n s) n)
+    where
+      go : (l : Passed) → afterWord l (at s (number g)) ≡ afterNumber (thenNumber s l) (λ v m. at s (g v) m)
+      go (Passed.To m) = at-number g m
+      go Passed.Short = refl
+      go (Passed.Wrong m) = refl
+
+  at-last : (w : List ℕ) (f : ℕ → E) (n : ℕ) → at s (lastly w f) n ≡ afterNumber (lastOn w s n) (λ v m. whole (f v) m)
+  unfolding lastOn lastly
+  at-last w f n = at-field w (λ v. word (bytes "\n") (stop (f v))) n ∙ go (fieldOn w s n)
+    where
+      end : (v : ℕ) (l : Passed) → afterWord l (at s (stop (f v))) ≡ afterNumber (ended v l) (λ u m. whole (f u) m)
+      end v (Passed.To m) = sym (at-stop s (f v) m)
+      end v Passed.Short = refl
+      end v (Passed.Wrong m) = refl
+
+      go : (l : Found) → afterNumber l (λ v m. at s (word (bytes "\n") (stop (f v))) m) ≡ afterNumber (thenEnd s l) (λ v m. whole (f v) m)
+      go (Found.Value v m) = at-word (bytes "\n") (stop (f v)) m ∙ end v (wordOn (bytes "\n") (drop m s) m)
+      go Found.Short = refl
+      go (Found.Wrong m) = refl
+
+-- ---- the same as rules for `search`: o is what a reader answers, r what a piece found
+
+module _ {E : Type 0} (s w : List ℕ) (g : Grammar E) (n m : ℕ) (r : Passed) (found : r ≡ wordOn w (drop n s) n) where
+  pub word-to : (o : Answer E) → r ≡ Passed.To m → o ≡ at s g m → o ≡ at s (word w g) n
+  word-to o e h = h ∙ sym (rw (at-word s w g n, ← found, e))
+
+  pub word-wrong : r ≡ Passed.Wrong m → wrong m ≡ at s (word w g) n
+  word-wrong e = sym (rw (at-word s w g n, ← found, e))
+
+pub word-short : {E : Type 0} (s w : List ℕ) (g : Grammar E) (n : ℕ) (r : Passed) → r ≡ wordOn w (drop n s) n → r ≡ Passed.Short → unfinished ≡ at s (word w g) n
+word-short s w g n r found e = sym (rw (at-word s w g n, ← found, e))
+
+module _ {E : Type 0} (s w : List ℕ) (g : ℕ → Grammar E) (n : ℕ) (r : Found) (found : r ≡ fieldOn w s n) where
+  pub field-value : (v m : ℕ) (o : Answer E) → r ≡ Found.Value v m → o ≡ at s (g v) m → o ≡ at s (word w (number g)) n
+  field-value v m o e h = h ∙ sym (rw (at-field s w g n, ← found, e))
+
+  pub field-short : r ≡ Found.Short → unfinished ≡ at s (word w (number g)) n
+  field-short e = sym (rw (at-field s w g n, ← found, e))
+
+  pub field-wrong : (m : ℕ) → r ≡ Found.Wrong m → wrong m ≡ at s (word w (number g)) n
+  field-wrong m e = sym (rw (at-field s w g n, ← found, e))
+
+module _ {E : Type 0} (s w : List ℕ) (f : ℕ → E) (n : ℕ) (r : Found) (found : r ≡ lastOn w s n) where
+  pub last-value : (v m : ℕ) (o : Answer E) → r ≡ Found.Value v m → o ≡ whole (f v) m → o ≡ at s (lastly w f) n
+  last-value v m o e h = h ∙ sym (rw (at-last s w f n, ← found, e))
+
+  pub last-short : r ≡ Found.Short → unfinished ≡ at s (lastly w f) n
+  last-short e = sym (rw (at-last s w f n, ← found, e))
+
+  pub last-wrong : (m : ℕ) → r ≡ Found.Wrong m → wrong m ≡ at s (lastly w f) n
+  last-wrong m e = sym (rw (at-last s w f n, ← found, e))
+
+-- a choice, by the byte there
+module _ {E : Type 0} (s : List ℕ) (b : ℕ) (g h : Grammar E) (n : ℕ) where
+  pub either-end : length s ≤ n → unfinished ≡ at s (either b g h) n
+  unfolding at
+  either-end k = sym (rw (drop-of-length-le s k))
+
+  pub either-this : (o : Answer E) → n < length s → getD s n 0 ≡ b → o ≡ at s g (n + 1) → o ≡ at s (either b g h) n
+  unfolding at
+  either-this o k e q = q ∙ sym (rw (drop-cons s n 0 k, eq-eqb (getD s n 0) b e, add-one))
+
+  pub either-else : (o : Answer E) → n < length s → (getD s n 0 ≡ b → ⊥) → o ≡ at s h n → o ≡ at s (either b g h) n
+  unfolding at
+  either-else o k e q = q ∙ sym (rw (drop-cons s n 0 k, ne-eqb (getD s n 0) b e))
+
+-- its last way
+module _ {E : Type 0} (s : List ℕ) (b : ℕ) (g : Grammar E) (n : ℕ) where
+  pub byte-this : (o : Answer E) → n < length s → getD s n 0 ≡ b → o ≡ at s g (n + 1) → o ≡ at s (byte b g) n
+  unfolding at
+  byte-this o k e q = q ∙ sym (rw (drop-cons s n 0 k, eq-eqb (getD s n 0) b e, add-one))
+
+  pub byte-else : n < length s → (getD s n 0 ≡ b → ⊥) → wrong n ≡ at s (byte b g) n
+  unfolding at
+  byte-else k e = sym (rw (drop-cons s n 0 k, ne-eqb (getD s n 0) b e))
+
+-- a reader's `return`, by the pieces found on the way, by the byte there, or by both: `search pieces`, `search choices`, `search steps`
+pub ruleset pieces = (
+  at-stop,
+  word-to,
+  word-short,
+  word-wrong,
+  field-value,
+  field-short,
+  field-wrong,
+  last-value,
+  last-short,
+  last-wrong,
+)
+
+pub ruleset choices = (either-end, either-this, either-else, byte-this, byte-else)
+
+pub ruleset steps = (pieces, choices)
+
+-- ---- the loop over a word's bytes
+
+module _ (w s : List ℕ) (i p : ℕ) where
+  pub word-past : length w ≤ i → wordOn (drop i w) (drop p s) p ≡ Passed.To p
+  word-past h = rw (drop-of-length-le w h)
+
+  pub word-ends : i < length w → length s ≤ p → wordOn (drop i w) (drop p s) p ≡ Passed.Short
+  word-ends h k = rw (drop-cons w i 0 h, drop-of-length-le s k)
+
+  pub word-differs : i < length w → p < length s → (getD s p 0 ≡ getD w i 0 → ⊥) → wordOn (drop i w) (drop p s) p ≡ Passed.Wrong p
+  word-differs h k n = rw (drop-cons w i 0 h, drop-cons s p 0 k, ne-eqb (getD s p 0) (getD w i 0) n)
+
+  pub word-turn : i < length w → p < length s → getD s p 0 ≡ getD w i 0
+      → wordOn (drop i w) (drop p s) p ≡ wordOn (drop (i + 1) w) (drop (p + 1) s) (p + 1)
+  word-turn h k n = rw (drop-cons w i 0 h, drop-cons s p 0 k, eq-eqb (getD s p 0) (getD w i 0) n, add-one i, add-one p)
+
+-- ---- the loop over a number's digits
+
+module _ (s : List ℕ) (p : ℕ) where
+  pub number-ends : length s ≤ p → numberOn (drop p s) p ≡ Found.Short
+  number-ends h = rw (drop-of-length-le s h)
+
+  pub number-zero : p < length s → getD s p 0 ≡ 48 → numberOn (drop p s) p ≡ Found.Value 0 (p + 1)
+  number-zero h e = rw (drop-cons s p 0 h, e)
+
+  pub number-low : p < length s → getD s p 0 < 48 → numberOn (drop p s) p ≡ Found.Wrong p
+  number-low h e = rw (drop-cons s p 0 h, ne-eqb (getD s p 0) 48 (λ q. omega arith), digit-low (getD s p 0) e)
+
+  pub number-high : p < length s → 58 ≤ getD s p 0 → numberOn (drop p s) p ≡ Found.Wrong p
+  number-high h e = rw (drop-cons s p 0 h, ne-eqb (getD s p 0) 48 (λ q. omega arith), digit-high (getD s p 0) e)
+
+  pub number-first : p < length s → 48 < getD s p 0 → getD s p 0 < 58
+      → numberOn (drop p s) p ≡ moreOn 8 (getD s p 0 - 48) (drop (p + 1) s) (p + 1)
+  number-first h a b =
+      rw (
+        drop-cons s p 0 h,
+        ne-eqb (getD s p 0) 48 (λ q. omega arith),
+        digit-yes (getD s p 0) (omega arith) b,
+        add-one p,
+      )
+
+  pub more-ends : (f v : ℕ) → length s ≤ p → moreOn f v (drop p s) p ≡ Found.Value v p
+  more-ends zero v h = refl
+  more-ends (suc f) v h = rw (drop-of-length-le s h)
+
+  pub more-low : (f v : ℕ) → p < length s → getD s p 0 < 48 → moreOn f v (drop p s) p ≡ Found.Value v p
+  more-low zero v h e = refl
+  more-low (suc f) v h e = rw (drop-cons s p 0 h, digit-low (getD s p 0) e)
+
+  pub more-high : (f v : ℕ) → p < length s → 58 ≤ getD s p 0 → moreOn f v (drop p s) p ≡ Found.Value v p
+  more-high zero v h e = refl
+  more-high (suc f) v h e = rw (drop-cons s p 0 h, digit-high (getD s p 0) e)
+
+  pub more-turn : (f v : ℕ) → p < length s → 48 ≤ getD s p 0 → getD s p 0 < 58 → 0 < f
+      → moreOn f v (drop p s) p ≡ moreOn (f - 1) (v * 10 + (getD s p 0 - 48)) (drop (p + 1) s) (p + 1)
+  more-turn zero v h a b z = absurd (let y : ⊥ = omega arith in y)
+  more-turn (suc f) v h a b z =
+      let e : suc f - 1 ≡ f = omega arith in
+      rw (drop-cons s p 0 h, digit-yes (getD s p 0) a b, e, add-one p)
+
+-- one digit more, one place less
+pub one-more : (left v d : ℕ) → 0 < left → left ≤ 8 → v < 10 ^ (9 - left) → d < 10 → v * 10 + d < 10 ^ (9 - (left - 1))
+one-more left v d a b c h =
+    let e : 9 - (left - 1) ≡ suc (9 - left) = omega arith in
+    let q = pow-suc 10 (9 - left) in
+    rw e (omega arith)

@@ -1,0 +1,63 @@
+-- What is written is read back, and a writer's answer and room are determined. Assumes nothing.
+use Prim.Native.Nat.{ℕ, _≤_}
+use native.Mathlib.Omega.{arith}
+use mathlib.Core.Path.{_≡_, refl, sym, ap, _∙_}
+use mathlib.Core.List.{List, [], _++_}
+use lib.ListN.{length, drop, length-append, length-drop}
+use lib.Dec.{leb}
+use Rattle.terms.specs.declared.Event.{Event}
+use Rattle.terms.specs.declared.Settings.{Settings}
+use Rattle.terms.specs.declared.Refusal.{Refusal}
+use Rattle.terms.specs.declared.Verdict.{Verdict}
+use Rattle.terms.specs.declared.Verdict.the-variants.{Fine, Refused}
+use Rattle.terms.specs.Sizes.{lineRoom}
+use Rattle.terms.proofs.Cascade.{fine-first}
+use Rattle.lines_text_law.specs.Numerals.{Writable, allWritable}
+use Rattle.lines_text_law.specs.Grammar.{whole}
+use Rattle.lines_text_law.proofs.Fills.{tested-writable}
+use Rattle.lines_reading_law.specs.Lines.{renderEvent, eventNumbers, renderSettings, settingsNumbers}
+use Rattle.lines_reading_law.specs.Answers.{readEvent, readSettings}
+use Rattle.lines_reading_law.proofs.EventLines.{event-back}
+use Rattle.lines_reading_law.proofs.SettingsLines.{settings-back}
+use Rattle.lines_writing_law.specs.declared.Wrote.{Wrote}
+use Rattle.lines_writing_law.specs.Writes.{lineVerdict, wroteOf, roomOf, Writes}
+
+-- a writer's answer and room are determined by what it was handed
+pub writes-one : {d line ns d′ d″ : List ℕ} {r q : Wrote} → Writes d line ns r d′ → Writes d line ns q d″ → (r ≡ q) × (d′ ≡ d″)
+writes-one a b = (a .answer ∙ sym (b .answer), a .laid ∙ sym (b .laid))
+
+fine-writable : (d ns : List ℕ) → lineVerdict d ns ≡ Fine → Writable ns
+unfolding lineVerdict
+fine-writable d ns e = tested-writable ns (fine-first _ (allWritable ns) [] (fine-first _ (leb lineRoom (length d)) _ e .1) .0)
+
+never : (n : ℕ) (r : Refusal) → Wrote.Written n ≡ Wrote.Refused r → ⊥
+never n r p = let z : _≡_ {A = ℕ} 0 1 = cc in omega arith
+
+-- where a length is answered, the room starts with the line, and each number could be written
+written-line : {d line ns d′ : List ℕ} {n : ℕ} → Writes d line ns (Wrote.Written n) d′ → (n ≡ length line) × (d′ ≡ line ++ drop (length line) d) × Writable ns
+written-line {d} {line} {ns} {d′} {n} w = go (lineVerdict d ns) refl (w .answer) (w .laid)
+  where
+    go : (v : Verdict) → lineVerdict d ns ≡ v → Wrote.Written n ≡ wroteOf v (length line) → d′ ≡ roomOf v line d
+        → (n ≡ length line) × (d′ ≡ line ++ drop (length line) d) × Writable ns
+    go Fine e p q = ((cc), q, fine-writable d ns e)
+    go (Refused r) e p q = absurd (never n r p)
+
+-- the length that is answered is within the room
+pub written-within : {d line ns d′ : List ℕ} {n : ℕ} → Writes d line ns (Wrote.Written n) d′ → length d′ ≡ length d → n ≤ length d
+written-within {d} {line} {ns} {d′} {n} w s =
+    let l = written-line w in
+    let e = ap length (l .1) ∙ length-append line (drop (length line) d) in
+    let f = length-drop (length line) d in
+    let g = l .0 in
+    omega arith
+
+-- what was written is read back as the same value and length, with whatever else stands in the room
+pub written-event-back : {d d′ : List ℕ} {n : ℕ} (e : Event) → Writes d (renderEvent e) (eventNumbers e) (Wrote.Written n) d′ → readEvent d′ ≡ whole e n
+written-event-back {d} e w =
+    let l = written-line w in
+    ap readEvent (l .1) ∙ event-back e (drop (length (renderEvent e)) d) (l .2) ∙ ap (whole e) (sym (l .0))
+
+pub written-settings-back : {d d′ : List ℕ} {n : ℕ} (g : Settings) → Writes d (renderSettings g) (settingsNumbers g) (Wrote.Written n) d′ → readSettings d′ ≡ whole g n
+written-settings-back {d} g w =
+    let l = written-line w in
+    ap readSettings (l .1) ∙ settings-back g (drop (length (renderSettings g)) d) (l .2) ∙ ap (whole g) (sym (l .0))

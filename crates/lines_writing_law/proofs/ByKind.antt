@@ -1,0 +1,52 @@
+-- The line of a value, by its kind: what code found the kind to be, and the line that it wrote for that kind. Assumes nothing.
+use Prim.Native.Nat.{ℕ}
+use mathlib.Core.Path.{_≡_}
+use mathlib.Core.List.{List, [], _∷_, _++_}
+use Rattle.terms.specs.declared.Act.{Act}
+use Rattle.terms.specs.declared.Act.the-variants.{Enter}
+use Rattle.terms.specs.declared.Category.{Category}
+use Rattle.terms.specs.declared.Entry.{Entry}
+use Rattle.terms.specs.declared.Event.{Event}
+use Rattle.terms.specs.declared.Kind.{Kind}
+use Rattle.terms.specs.declared.Life.{Life}
+use Rattle.terms.specs.declared.Report.{Report}
+use Rattle.terms.specs.declared.Said.{Said}
+use Rattle.terms.specs.declared.Said.the-variants.{Cancel}
+use Rattle.terms.specs.declared.Ended.{Ended}
+use Rattle.terms.specs.declared.Settings.{Settings}
+use Rattle.terms.specs.declared.Side.{Side}
+use Rattle.terms.specs.Reports.{whyOf}
+use Rattle.lines_reading_law.specs.Lines.{actHead, sideWord, orderForm, priceNumbers, actNumbers, eventForm, eventNumbers, renderEvent, settingsForm, settingsNumbers, renderSettings}
+use Rattle.lines_writing_law.specs.declared.Wrote.{Wrote}
+use Rattle.lines_writing_law.specs.Lines.{orderNumbers, saidNumbers, reportForm, reportNumbers, renderReport}
+use Rattle.lines_writing_law.specs.Writes.{Writes, WritesForm}
+
+module _ {d d′ : List ℕ} {r : Wrote} where
+  pub by-order : (head : List ℕ) (time : ℕ) (o : Entry) (kind : Kind) (life : Life) → o .kind ≡ kind → o .life ≡ life
+      → WritesForm d (head ++ orderForm kind life) (time ∷ o .lots ∷ priceNumbers kind) r d′
+      → WritesForm d (head ++ orderForm (o .kind) (o .life)) (orderNumbers time o) r d′
+  by-order head time o kind life k l w = rw (k, l) w
+
+  pub by-act : (e : Event) (a : Act) → e .act ≡ a → WritesForm d (eventForm a) (e .time ∷ actNumbers a) r d′ → Writes d (renderEvent e) (eventNumbers e) r d′
+  unfolding renderEvent
+  by-act e a q w = rw q w
+
+  pub by-side : (e : Event) (o : Entry) (side : Side) → e .act ≡ Enter o → o .side ≡ side
+      → WritesForm d (actHead ++ (sideWord side ++ orderForm (o .kind) (o .life))) (orderNumbers (e .time) o) r d′
+      → Writes d (renderEvent e) (eventNumbers e) r d′
+  unfolding renderEvent
+  by-side e o side q s w = rw (q, s) w
+
+  pub by-category : (g : Settings) (c : Category) → g .category ≡ c → WritesForm d (settingsForm c) (settingsNumbers g) r d′ → Writes d (renderSettings g) (settingsNumbers g) r d′
+  unfolding renderSettings
+  by-category g c q w = rw q w
+
+  pub by-said : (p : Report) (s : Said) → p .said ≡ s → WritesForm d (reportForm s) (p .time ∷ saidNumbers s) r d′ → Writes d (renderReport p) (reportNumbers p) r d′
+  unfolding renderReport
+  by-said p s q w = rw q w
+
+  pub by-ended : (p : Report) (e : Ended) (why : ℕ) → p .said ≡ Cancel e → why ≡ whyOf (e .why)
+      → WritesForm d (reportForm (Cancel e)) (p .time ∷ e .number ∷ e .lots ∷ why ∷ []) r d′
+      → Writes d (renderReport p) (reportNumbers p) r d′
+  unfolding renderReport
+  by-ended p e why q n w = rw (q, ← n) w

@@ -1,0 +1,67 @@
+-- Document 01, "Session lines": the lines that are written and never read, those of reports and the program's own.
+use Prim.Native.Nat.{ℕ}
+use mathlib.Core.List.{List, [], _∷_, _++_}
+use Rattle.terms.specs.declared.Entry.{Entry}
+use Rattle.terms.specs.declared.Said.{Said}
+use Rattle.terms.specs.declared.Said.the-variants.{Accept, Trade, Convert, Cancel, Slab, Ref, Close}
+use Rattle.terms.specs.declared.Report.{Report}
+use Rattle.terms.specs.declared.Refusal.{Refusal}
+use Rattle.terms.specs.Reports.{whyOf}
+use Rattle.terms.specs.Refusals.{numberOf}
+use Rattle.lines_text_law.specs.Text.{bytes}
+use Rattle.lines_text_law.specs.Forms.{fill}
+use Rattle.lines_reading_law.specs.Lines.{priceNumbers}
+
+-- ---- orders: the numbers of an order's line
+
+abbrev pub orderNumbers : ℕ → Entry → List ℕ
+orderNumbers time o = time ∷ o .lots ∷ priceNumbers (o .kind)
+
+-- ---- reports: "fields are time, kind, then order numbers, lots, paise or reason"
+
+abbrev pub saidForm : Said → List ℕ
+saidForm (Accept number) = bytes "accept id=#\n"
+saidForm (Trade deal) = bytes "trade buy=# sell=# qty=# price=#\n"
+saidForm (Convert order) = bytes "convert id=# qty=# price=#\n"
+saidForm (Cancel ended) = bytes "cancel id=# qty=# why=#\n"
+saidForm (Slab band) = bytes "slab low=# high=#\n"
+saidForm (Ref price) = bytes "ref price=#\n"
+saidForm (Close closing) = bytes "close price=# base=#\n"
+
+abbrev pub saidNumbers : Said → List ℕ
+saidNumbers (Accept number) = number ∷ []
+saidNumbers (Trade d) = d .buy ∷ d .sell ∷ d .lots ∷ d .price ∷ []
+saidNumbers (Convert o) = o .number ∷ o .lots ∷ o .price ∷ []
+saidNumbers (Cancel e) = e .number ∷ e .lots ∷ whyOf (e .why) ∷ []
+saidNumbers (Slab b) = b .low ∷ b .high ∷ []
+saidNumbers (Ref price) = price ∷ []
+saidNumbers (Close c) = c .price ∷ c .base ∷ []
+
+-- "t=# say=", which every report line begins with
+abbrev pub saidHead : List ℕ
+saidHead = bytes "t=# say="
+
+abbrev pub reportForm : Said → List ℕ
+reportForm s = saidHead ++ saidForm s
+
+abbrev pub reportNumbers : Report → List ℕ
+reportNumbers r = r .time ∷ saidNumbers (r .said)
+
+unfoldable pub renderReport : Report → List ℕ
+renderReport r = fill (reportForm (r .said)) (reportNumbers r)
+
+-- ---- the program's own lines
+
+-- "A refused event prints `t=5 say=refuse code=8` with its own time"
+abbrev pub refusedNumbers : ℕ → Refusal → List ℕ
+refusedNumbers time r = time ∷ numberOf r ∷ []
+
+unfoldable pub renderRefused : ℕ → Refusal → List ℕ
+renderRefused time r = fill (bytes "t=# say=refuse code=#\n") (refusedNumbers time r)
+
+-- "a bad line prints `say=bad code=15 at=3`, the place counted from that line's start"
+abbrev pub badNumbers : Refusal → ℕ → List ℕ
+badNumbers r place = numberOf r ∷ place ∷ []
+
+unfoldable pub renderBad : Refusal → ℕ → List ℕ
+renderBad r place = fill (bytes "say=bad code=# at=#\n") (badNumbers r place)
