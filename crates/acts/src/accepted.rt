@@ -1,10 +1,10 @@
 // An event that no row refuses: the clock steps, the act, and their reports.
-use acts_orders::entering;
-use engine_law::Applied;
 use acts_cancels::closing;
 use acts_cancels::withdrawing;
+use acts_orders::entering;
 use acts_reports::counting;
 use acts_reports::telling;
+use engine_law::Applied;
 use state::clock;
 use state_law::Session;
 use tables::orders;

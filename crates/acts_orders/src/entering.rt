@@ -2,10 +2,10 @@
 use crate::leftover;
 use acts_law::Entered;
 use acts_law::Met;
-use matching::Incoming;
-use matching::crossing;
 use acts_reports::remembering;
 use acts_reports::telling;
+use matching::Incoming;
+use matching::crossing;
 use rules::close;
 use state::force;
 use state_law::Session;

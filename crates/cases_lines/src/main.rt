@@ -4,13 +4,13 @@ use libc::STDIN_FILENO;
 use libc::STDOUT_FILENO;
 use lines_reading_law::ReadEvent;
 use lines_reading_law::ReadSettings;
+use lines_writing_law::Wrote;
 use records::ReadRecord;
 use terms::Act;
 use terms::Event;
 use terms::Refusal;
 use terms::numbers;
 use terms::sizes;
-use lines_writing_law::Wrote;
 ghost use Prim.Native.Nat.{_<_, _≤_};
 ghost use lib.ListN.{length};
 

@@ -1,11 +1,11 @@
 // The calls on a session: open, apply, sound, view, on runs of numbers that an app keeps.
-use engine::apply;
-use engine::looking;
-use engine_law::Answer;
 use desk_packing::events;
 use desk_packing::runs;
 use desk_packing::sessions;
 use desk_packing::settings;
+use engine::apply;
+use engine::looking;
+use engine_law::Answer;
 use state::opening;
 use state_law::Opened;
 use state_law::Session;

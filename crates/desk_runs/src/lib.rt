@@ -1,10 +1,10 @@
 // desk_runs: where a run of session lines stands, as 44 numbers, for apps that keep and hand over nothing else.
 // It may use feed_law and packing, and what these use. It promises: packing and unpacking are the definitions of specs/, for any numbers
 // whatever, and inverse to each other; numbers that are no run's are a run that is over, which takes no byte and prints none.
-use feed_law::Run;
-use feed_law::Stage;
 use desk_packing::runs;
 use desk_packing::sessions;
+use feed_law::Run;
+use feed_law::Stage;
 ghost use mathlib.Core.Path.{_≡_};
 ghost use Prim.Native.Nat.{_≤_, _<_};
 ghost use mathlib.Core.List.{_∷_};

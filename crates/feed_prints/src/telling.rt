@@ -1,8 +1,8 @@
 // What is said, printed into an output room.
+use lines_writing_law::Wrote;
 use records::ReadRecord;
 use terms::Refusal;
 use terms::sizes;
-use lines_writing_law::Wrote;
 ghost use mathlib.Core.Path.{_≡_};
 ghost use Prim.Native.Nat.{_+_, _*_, _≤_};
 ghost use lib.ListN.{length, drop};

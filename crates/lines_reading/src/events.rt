@@ -1,15 +1,15 @@
 // The reader of events: a function for each choice, each with the grammar's part of the same name.
 use lines_reading_law::ReadEvent;
 use lines_reading_law::Single;
+use lines_text::pieces;
+use lines_text_law::Found;
+use lines_text_law::Passed;
 use terms::Act;
 use terms::Entry;
 use terms::Event;
 use terms::Kind;
 use terms::Life;
 use terms::Side;
-use lines_text::pieces;
-use lines_text_law::Found;
-use lines_text_law::Passed;
 ghost use mathlib.Core.Path.{_≡_};
 ghost use Rattle.lines_text_law.specs.Pieces.{at as lookAt};
 ghost use Rattle.lines_reading_law.specs.Grammars.{order, priceRest, lifeRest, lives, kindRest, kinds, sideRest, actOf, singleRest, clockRest, cancelRest, acts};

@@ -1,10 +1,10 @@
 // The reader of settings: a function for each choice, each with the grammar's part of the same name.
 use lines_reading_law::ReadSettings;
-use terms::Category;
-use terms::Settings;
 use lines_text::pieces;
 use lines_text_law::Found;
 use lines_text_law::Passed;
+use terms::Category;
+use terms::Settings;
 ghost use mathlib.Core.Path.{_≡_};
 ghost use Rattle.lines_text_law.specs.Pieces.{at as lookAt};
 ghost use Rattle.lines_reading_law.specs.Grammars.{lastNumbers, laterNumbers, categoryRest, categories};

@@ -1,6 +1,6 @@
 // Forms and their numbers put into a lent room: one pass over the form, each digit written at its place at once.
-use terms::sizes;
 use lines_text_law::Spot;
+use terms::sizes;
 ghost use mathlib.Core.Path.{_≡_};
 ghost use Prim.Native.Nat.{_+_, _≤_};
 ghost use lib.ListN.{length, getD, drop};

@@ -4,6 +4,7 @@
 
 pub mod lines;
 
+use lines_writing_law::Wrote;
 use terms::Act;
 use terms::Category;
 use terms::Entry;
@@ -12,7 +13,6 @@ use terms::Kind;
 use terms::Life;
 use terms::Settings;
 use terms::Side;
-use lines_writing_law::Wrote;
 ghost use mathlib.Core.List.{_++_};
 ghost use mathlib.Core.Path.{_≡_};
 ghost use Prim.Native.Nat.{_≤_};

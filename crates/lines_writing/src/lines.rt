@@ -1,9 +1,9 @@
 // A line written: its form, in two parts, and its numbers.
-use terms::Refusal;
-use terms::sizes;
 use lines_text::room;
 use lines_text_law::Spot;
 use lines_writing_law::Wrote;
+use terms::Refusal;
+use terms::sizes;
 ghost use mathlib.Core.List.{_++_};
 ghost use Rattle.lines_writing_law.specs.Writes.{WritesForm, Formed};
 

@@ -1,12 +1,12 @@
 // lines_writing_reports: what is said, written into a lent line room: the line of a report, of a refused event, of a bad line.
 // It may use terms and writing, and writing_law. It promises, for any value and room: what writing promises of session lines.
 
+use lines_writing::lines;
+use lines_writing_law::Wrote;
 use terms::Refusal;
 use terms::Report;
 use terms::Said;
 use terms::numbers;
-use lines_writing::lines;
-use lines_writing_law::Wrote;
 ghost use mathlib.Core.List.{_++_};
 ghost use Rattle.lines_writing_law.specs.Lines.{saidHead, reportNumbers, renderReport, refusedNumbers, renderRefused, badNumbers, renderBad};
 ghost use Rattle.lines_writing_law.specs.Writes.{Writes, WritesForm, Formed};

@@ -9,9 +9,9 @@ use feed::lines;
 use feed_law::Run;
 use feed_law::Stage;
 use feed_law::Stop;
+use lines_writing_law::Wrote;
 use sink::Sink;
 use terms::sizes;
-use lines_writing_law::Wrote;
 ghost use Prim.Native.Nat.{_≤_};
 ghost use lib.ListN.{length};
 
