@@ -7,7 +7,6 @@ use feed_law::Taken;
 use feed_law::Turned;
 use feed_prints::telling;
 use feed_turns::turns;
-use lines_writing_law::Wrote;
 use terms::Refusal;
 use terms::sizes;
 ghost use Prim.Native.Nat.{_≤_};
@@ -15,13 +14,24 @@ ghost use mathlib.Core.Path.{_≡_};
 ghost use lib.ListN.{length};
 ghost use Rattle.terms.specs.Sizes.{lineRoom};
 ghost use Rattle.feed_law.specs.declared.Stage.{Stage};
-ghost use Rattle.feed_law.specs.Texts.{endText};
-ghost use Rattle.feed_law.specs.Worlds.{lentOf, calls};
-ghost use Rattle.feed_law.specs.Turns.{fedIn, stopAt};
-ghost use Rattle.feed_law.specs.Feeds.{Prints, TakenAs, takenTo, fedOf, EndedAs};
+ghost use Rattle.feed_law.specs.declared.Stop.{Stop};
+ghost use Rattle.feed_law.specs.Texts.{mostAt, endText};
+ghost use Rattle.feed_law.specs.Turns.{stopAt};
+ghost use Rattle.feed_law.specs.Feeds.{Prints, TakenAs, TakenBy, takenTo, linesOf, fedOf, endedOf, EndsBehind};
 
 // The output room that the reports of any event fit in.
 pub const TEXT: usize = sizes::REPORTS * sizes::LINE;
+
+// The most that the next line can print, by where the run stands.
+fn most_at(stage: Stage) -> usize
+    ensures { λ r. ⌜ r ≡ mostAt stage ⌝ }
+{
+    match stage {
+        Stage::Awaiting => sizes::LINE,
+        Stage::Trading => TEXT,
+        Stage::Over => 0,
+    }
+}
 
 // Why a run takes no further line of bytes that it has gone through.
 fn stop_at(stage: Stage) -> Stop
@@ -45,7 +55,7 @@ fn taken(run: Run, used: usize, wrote: usize, stop: Stop) -> Taken
     }
 }
 
-// The lines of the bytes, while there is room for whatever the next one prints.
+// The lines of the bytes, while there is room for whatever the next one can print.
 fn while_room(
     run: Run,
     bytes: &[u8],
@@ -54,13 +64,14 @@ fn while_room(
     room: &mut [u64],
     out: &mut [u8],
 ) -> Taken
-    ensures { λ r. ⌜ TakenAs (fedIn calls (length (now (bytes .entry))) (length (now (out .entry))) (run .stage) (lentOf (run .session) (now (buys .entry)) (now (sells .entry)) (now (room .entry))) (now (bytes .entry))) (now (out .entry)) (now (buys .exit)) (now (sells .exit)) (now (room .exit)) (now (out .exit)) r ⌝ }
+    ensures { λ r. ⌜ TakenAs (linesOf run (now (buys .entry)) (now (sells .entry)) (now (room .entry)) (now (bytes .entry)) (now (out .entry))) (now (out .entry)) (now (buys .exit)) (now (sells .exit)) (now (room .exit)) (now (out .exit)) r ⌝ }
 {
     let mut now = run;
     let mut at: usize = 0;
     let mut wrote: usize = 0;
     while at < bytes.len() {
-        if out.len() - wrote < TEXT {
+        let stands = now.stage;
+        if out.len() - wrote < most_at(stands) {
             return taken(now, at, wrote, Stop::Full);
         }
         let t = turns::turn(now, &bytes[at..], buys, sells, room, &mut out[wrote..]);
@@ -88,42 +99,84 @@ pub fn take_lines(
     room: &mut [u64],
     out: &mut [u8],
 ) -> Taken
-    ensures { λ r. ⌜ TakenAs (fedOf run (now (buys .entry)) (now (sells .entry)) (now (room .entry)) (now (bytes .entry)) (now (out .entry))) (now (out .entry)) (now (buys .exit)) (now (sells .exit)) (now (room .exit)) (now (out .exit)) r × (r .used ≤ length (now (bytes .entry))) × (r .wrote ≤ length (now (out .entry))) ⌝ }
+    ensures { λ r. ⌜ TakenBy fedOf run (now (buys .entry)) (now (sells .entry)) (now (room .entry)) (now (bytes .entry)) (now (out .entry)) (now (buys .exit)) (now (sells .exit)) (now (room .exit)) (now (out .exit)) r ⌝ }
 {
     if !apply::is_roomy(buys, sells, room) {
         return taken(run, 0, 0, Stop::Refused(Refusal::SmallRoom));
     }
-    if out.len() < TEXT {
-        return taken(run, 0, 0, Stop::Refused(Refusal::SmallLineRoom));
-    }
     while_room(run, bytes, buys, sells, room, out)
 }
 
-// What bytes behind the last line of a day print.
-fn tail(rest: &[u8], out: &mut [u8]) -> usize
+// What the end prints behind the last line of a day, with so many bytes left.
+fn tell_tail(rest: usize, out: &mut [u8]) -> usize
     requires { ⌜ lineRoom ≤ length (now out) ⌝ }
-    ensures { λ r. ⌜ Prints (now (out .entry)) (endText Stage.Trading (length (now (rest .entry)))) r (now (out .exit)) ⌝ }
+    ensures { λ r. ⌜ Prints (now (out .entry)) (endText Stage.Trading rest) r (now (out .exit)) ⌝ }
 {
-    if rest.len() == 0 {
+    if rest == 0 {
         return 0;
     }
-    telling::tell_bad(Refusal::LineUnfinished, rest.len(), out)
+    telling::tell_bad(Refusal::LineUnfinished, rest, out)
 }
 
-// The end of the input, where some bytes of an unfinished line are left: what it prints.
-pub fn take_end(stage: Stage, rest: &[u8], out: &mut [u8]) -> Wrote
-    ensures { λ r. ⌜ EndedAs stage (now (rest .entry)) (now (out .entry)) r (now (out .exit)) ⌝ }
+// What the end of the input prints, by where the run stands.
+fn tell_end(stage: Stage, rest: usize, out: &mut [u8]) -> usize
+    requires { ⌜ lineRoom ≤ length (now out) ⌝ }
+    ensures { λ r. ⌜ Prints (now (out .entry)) (endText stage rest) r (now (out .exit)) × (r ≤ lineRoom) ⌝ }
 {
-    if out.len() < sizes::LINE {
-        return Wrote::Refused(Refusal::SmallLineRoom);
-    }
     match stage {
-        Stage::Awaiting => Wrote::Written(telling::tell_bad(
-            Refusal::LineUnfinished,
-            rest.len(),
-            out,
-        )),
-        Stage::Trading => Wrote::Written(tail(rest, out)),
-        Stage::Over => Wrote::Written(0),
+        Stage::Awaiting => telling::tell_bad(Refusal::LineUnfinished, rest, out),
+        Stage::Trading => tell_tail(rest, out),
+        Stage::Over => 0,
     }
+}
+
+// The end behind lines that left no whole one: it is told where a line fits, and the run is over.
+fn finish(t: Taken, bytes: usize, out: &mut [u8]) -> Taken
+    requires { ⌜ (t .used ≤ bytes) × (t .wrote ≤ length (now out)) ⌝ }
+    ensures { λ r. ⌜ (t .stop ≡ Stop.Waits → EndsBehind t bytes (now (out .entry)) (now (out .exit)) r) ⌝ }
+{
+    let run = t.run;
+    let used = t.used;
+    let wrote = t.wrote;
+    let stage = run.stage;
+    let session = run.session;
+    if out.len() - wrote < sizes::LINE {
+        return taken(run, used, wrote, Stop::Full);
+    }
+    let told = tell_end(stage, bytes - used, &mut out[wrote..]);
+    let over = Run {
+        stage: Stage::Over,
+        session: session,
+    };
+    taken(over, used, wrote + told, Stop::Over)
+}
+
+// The end behind lines that were taken, by why they stopped.
+fn end_behind(t: Taken, bytes: usize, out: &mut [u8]) -> Taken
+    requires { ⌜ (t .used ≤ bytes) × (t .wrote ≤ length (now out)) ⌝ }
+    ensures { λ r. ⌜ EndsBehind t bytes (now (out .entry)) (now (out .exit)) r ⌝ }
+{
+    let stop = t.stop;
+    match stop {
+        Stop::Waits => finish(t, bytes, out),
+        Stop::Full => t,
+        Stop::Over => t,
+        Stop::Refused(r) => t,
+    }
+}
+
+// The end of the input: takes the whole lines of the last bytes as `take_lines` does, and then tells the end. Where the output room is to
+// be emptied first it answers so, and the rest of the bytes is to be handed in again.
+pub fn take_end(
+    run: Run,
+    bytes: &[u8],
+    buys: &mut [u64],
+    sells: &mut [u64],
+    room: &mut [u64],
+    out: &mut [u8],
+) -> Taken
+    ensures { λ r. ⌜ TakenBy endedOf run (now (buys .entry)) (now (sells .entry)) (now (room .entry)) (now (bytes .entry)) (now (out .entry)) (now (buys .exit)) (now (sells .exit)) (now (room .exit)) (now (out .exit)) r ⌝ }
+{
+    let t = take_lines(run, bytes, buys, sells, room, out);
+    end_behind(t, bytes.len(), out)
 }

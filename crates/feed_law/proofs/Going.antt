@@ -3,23 +3,16 @@ use Prim.Native.Nat.{ℕ, zero, suc, _+_, _-_, _≤_, _<_}
 use native.Mathlib.Omega.{arith}
 use native.Mathlib.Nat.{zero-add, add-assoc}
 use mathlib.Core.Path.{_≡_, refl, sym, ap, _∙_, subst}
-use mathlib.Core.Bool.{Bool, true, false, not}
-use mathlib.Core.List.{List, [], _∷_, _++_, append-assoc, append-nil}
+use mathlib.Core.List.{List, [], _++_, append-assoc, append-nil}
 use lib.ListN.{length, take, drop, length-drop, length-take}
 use lib.Seq.{drop-drop, take-all}
-use lib.Dec.{leb}
-use borrow.Author.Tests.{lt-ltb, le-ltb, lt-leb, le-leb, eq-eqb, ne-eqb}
+use lib.Dec.{ltb, eqb}
+use borrow.Author.Tests.{lt-ltb, le-ltb, eq-eqb, ne-eqb, ltb-true, ltb-false, eqb-true, eqb-false}
 use borrow.Rule.Slice.PartMut.{putMid, same-len-mid}
 use native.Mathlib.Nat.{le-of-eq}
 use Rattle.terms.specs.declared.Event.{Event}
 use Rattle.terms.specs.declared.Settings.{Settings}
-use Rattle.terms.specs.declared.Refusal.{Refusal}
-use Rattle.terms.specs.declared.Refusal.the-variants.{SmallRoom, SmallLineRoom}
-use Rattle.terms.specs.declared.Verdict.{Verdict}
-use Rattle.terms.specs.declared.Verdict.the-variants.{Fine, Refused}
-use Rattle.terms.specs.Refusals.{unless, firstFailed}
-use Rattle.terms.proofs.Cascade.{stops-here, goes-on}
-use Rattle.engine_law.specs.Calls.{roomy}
+use Rattle.terms.proofs.Logic.{cases}
 use Rattle.lines_text_law.specs.Grammar.{Answer, whole, unfinished, wrong}
 use Rattle.lines_text_law.specs.Reading.{Right}
 use Rattle.lines_reading_law.specs.Lines.{EventLine, SettingsLine}
@@ -31,10 +24,10 @@ use Rattle.feed_law.specs.declared.Stage.{Stage}
 use Rattle.feed_law.specs.declared.Stop.{Stop}
 use Rattle.feed_law.specs.declared.Turned.{Turned}
 use Rattle.feed_law.specs.declared.Taken.{Taken}
-use Rattle.feed_law.specs.Texts.{textMost}
+use Rattle.feed_law.specs.Texts.{mostAt}
 use Rattle.feed_law.specs.Worlds.{World, Lent, lentOf, calls}
 use Rattle.feed_law.specs.Turns.{Turn, turnOf, stopAt, Fed, halted, lastly, ahead, fedIn, settingsTurn, eventTurn}
-use Rattle.feed_law.specs.Feeds.{Prints, turnBy, TurnedAs, TakenAs, takenTo, feedVerdict, fedBy, fedOf}
+use Rattle.feed_law.specs.Feeds.{Prints, turnBy, TurnedAs, TakenAs, takenTo}
 use Rattle.feed_law.proofs.Prints.{prints-on, prints-within}
 
 -- ---- one line
@@ -68,18 +61,47 @@ module _ {W : Type 0} (on : World W) where
     abbrev t : Turn W
     t = turnOf on stage w bytes
 
-    pub fed-full : left < textMost → fedIn on (suc n) left stage w bytes ≡ halted on Stop.Full stage w
+    pub fed-full : left < mostAt stage → fedIn on (suc n) left stage w bytes ≡ halted on Stop.Full stage w
     unfolding fedIn
-    fed-full h = rw (lt-ltb 0 (length bytes) some, lt-ltb left textMost h)
+    fed-full h = rw (lt-ltb 0 (length bytes) some, lt-ltb left (mostAt stage) h)
 
-    pub fed-last : textMost ≤ left → t .used ≡ 0 → fedIn on (suc n) left stage w bytes ≡ lastly on t
+    pub fed-last : mostAt stage ≤ left → t .used ≡ 0 → fedIn on (suc n) left stage w bytes ≡ lastly on t
     unfolding fedIn
-    fed-last h e = rw (lt-ltb 0 (length bytes) some, le-ltb left textMost h, eq-eqb (t .used) 0 e)
+    fed-last h e = rw (lt-ltb 0 (length bytes) some, le-ltb left (mostAt stage) h, eq-eqb (t .used) 0 e)
 
-    pub fed-ahead : textMost ≤ left → (t .used ≡ 0 → ⊥) →
+    pub fed-ahead : mostAt stage ≤ left → (t .used ≡ 0 → ⊥) →
         fedIn on (suc n) left stage w bytes ≡ ahead on t (fedIn on n (left - length (t .text)) (t .stage) (t .world) (drop (t .used) bytes))
     unfolding fedIn
-    fed-ahead h e = rw (lt-ltb 0 (length bytes) some, le-ltb left textMost h, ne-eqb (t .used) 0 e)
+    fed-ahead h e = rw (lt-ltb 0 (length bytes) some, le-ltb left (mostAt stage) h, ne-eqb (t .used) 0 e)
+
+  -- ---- one induction serves every law of many lines: none are left; the room is to be emptied first; no whole one is left; a line, and then the rest
+
+  module _ (P : ℕ → Stage → W → List ℕ → Fed W → Type 0)
+      (none : (left : ℕ) (stage : Stage) (w : W) (xs : List ℕ) → length xs ≤ 0 → P left stage w xs (halted on (stopAt stage) stage w))
+      (full : (left : ℕ) (stage : Stage) (w : W) (xs : List ℕ) → left < mostAt stage → P left stage w xs (halted on Stop.Full stage w))
+      (last : (left : ℕ) (stage : Stage) (w : W) (xs : List ℕ) → mostAt stage ≤ left → turnOf on stage w xs .used ≡ 0 → P left stage w xs (lastly on (turnOf on stage w xs)))
+      (more : (left : ℕ) (stage : Stage) (w : W) (xs : List ℕ) (f : Fed W) → (turnOf on stage w xs .used ≡ 0 → ⊥) →
+      let t : Turn W = turnOf on stage w xs in P (left - length (t .text)) (t .stage) (t .world) (drop (t .used) xs) f → P left stage w xs (ahead on t f)) where
+    pub fed-by : (n left : ℕ) (stage : Stage) (w : W) (xs : List ℕ) → length xs ≤ n → P left stage w xs (fedIn on n left stage w xs)
+    fed-by zero left stage w xs h = subst (P left stage w xs) (sym (fed-none zero left stage w xs h)) (none left stage w xs h)
+    fed-by (suc n) left stage w xs h =
+        let t : Turn W = turnOf on stage w xs in
+        cases (ltb 0 (length xs))
+        (λ e.
+        let some = ltb-true 0 (length xs) e in
+        cases (ltb left (mostAt stage))
+        (λ b. let k = ltb-true left (mostAt stage) b in subst (P left stage w xs) (sym (fed-full n left stage w xs some k)) (full left stage w xs k))
+        (λ b.
+        let wide = ltb-false left (mostAt stage) b in
+        cases (eqb (t .used) 0)
+        (λ u. let z = eqb-true (t .used) 0 u in subst (P left stage w xs) (sym (fed-last n left stage w xs some wide z)) (last left stage w xs wide z))
+        (λ u.
+        let z = eqb-false (t .used) 0 u in
+        let l = length-drop (t .used) xs in
+        let a : length (drop (t .used) xs) ≤ n = omega (arith, z) in
+        subst (P left stage w xs) (sym (fed-ahead n left stage w xs some wide z))
+        (more left stage w xs _ z (fed-by n (left - length (t .text)) (t .stage) (t .world) (drop (t .used) xs) a)))))
+        (λ e. let k = ltb-false 0 (length xs) e in subst (P left stage w xs) (sym (fed-none (suc n) left stage w xs k)) (none left stage w xs k))
 
 -- a turn on lent numbers takes no more bytes than there are, and prints no more than there is room for
 pub bounded : (run : Run) (buys sells room bytes : List ℕ) {out buys′ sells′ room′ out′ : List ℕ} {r : Turned} →
@@ -125,7 +147,7 @@ going-start bytes out now buys sells room =
     }
 
 -- where a run stops
-taken-as : {f x : Fed Lent} {out₀ buys sells room out : List ℕ} {run : Run} {used wrote : ℕ} {stop : Stop} {r : Taken} → f ≡ x →
+pub taken-as : {f x : Fed Lent} {out₀ buys sells room out : List ℕ} {run : Run} {used wrote : ℕ} {stop : Stop} {r : Taken} → f ≡ x →
     r ≡ takenTo run used wrote stop → run .stage ≡ x .stage → lentOf (run .session) buys sells room ≡ x .world → used ≡ x .used →
     Prints out₀ (x .text) wrote out → stop ≡ x .stop → TakenAs f out₀ buys sells room out r
 taken-as {f} {x} {out₀} {buys} {sells} {room} {out} {run} {used} {wrote} {stop} {r} e q s w u p h =
@@ -176,12 +198,12 @@ module _ {bytes out₀ : List ℕ} {f : Fed Lent} {now : Run} {buys sells room o
     again = ap (λ (n : ℕ). fedIn calls n left (now .stage) lent (drop at bytes)) fuelled
 
     -- where the room is to be emptied first
-    pub going-full : {r : Taken} → length out - wrote < textMost → r ≡ takenTo now at wrote Stop.Full → TakenAs f out₀ buys sells room out r
-    going-full h q =
-        let l : left < textMost = omega (arith, g .same) in
+    pub going-full : {r : Taken} {most : ℕ} → most ≡ mostAt (now .stage) → length out - wrote < most → r ≡ takenTo now at wrote Stop.Full → TakenAs f out₀ buys sells room out r
+    going-full m h q =
+        let l : left < mostAt (now .stage) = omega (arith, g .same, m) in
         halts (again ∙ fed-full calls (g .fuel - 1) left (now .stage) lent (drop at bytes) some l) q
 
-    module _ {part′ buys′ sells′ room′ : List ℕ} {r : Turned} (wide : textMost ≤ length out - wrote)
+    module _ {part′ buys′ sells′ room′ : List ℕ} {r : Turned} {most : ℕ} (m : most ≡ mostAt (now .stage)) (wide : most ≤ length out - wrote)
         (k : TurnedAs (turnBy now buys sells room (take (length bytes - at) (drop at bytes))) (take (length out - wrote) (drop wrote out)) buys′ sells′ room′ part′ r) where
       abbrev line : Turn Lent
       line = turnOf calls (now .stage) lent (drop at bytes)
@@ -192,8 +214,8 @@ module _ {bytes out₀ : List ℕ} {f : Fed Lent} {now : Run} {buys sells room o
       turned : TurnedAs line (take (length out - wrote) (drop wrote out)) buys′ sells′ room′ part′ r
       turned = rw part at k
 
-      wide-left : textMost ≤ left
-      wide-left = omega (arith, g .same)
+      wide-left : mostAt (now .stage) ≤ left
+      wide-left = omega (arith, g .same, m)
 
       abbrev out′ : List ℕ
       out′ = putMid wrote (length out - wrote) out part′
@@ -269,44 +291,3 @@ module _ {bytes out₀ : List ℕ} {f : Fed Lent} {now : Run} {buys sells room o
             printed = line-printed;
             rest = here (again ∙ ahead-is e) ∙ joined ∙ moved;
           }
-
--- ---- the call
-
-module _ (run : Run) (buys sells room bytes out : List ℕ) where
-  abbrev whole-run : Fed Lent
-  whole-run = fedIn calls (length bytes) (length out) (run .stage) (lentOf (run .session) buys sells room) bytes
-
-  judged : (v : Verdict) → feedVerdict buys sells room out ≡ v →
-      fedOf run buys sells room bytes out ≡ fedBy v run (lentOf (run .session) buys sells room) bytes (length out)
-  unfolding fedOf
-  judged v e = ap (λ (x : Verdict). fedBy x run (lentOf (run .session) buys sells room) bytes (length out)) e
-
-  -- something lent is too short: nothing is taken
-  short-room : (found : Bool) → found ≡ roomy buys sells room → not found ≡ true → feedVerdict buys sells room out ≡ Refused SmallRoom
-  unfolding feedVerdict
-  short-room found e n = sym (stops-here SmallRoom found _ _ e n)
-
-  past-room : (found : Bool) → found ≡ roomy buys sells room → not found ≡ false → feedVerdict buys sells room out ≡ firstFailed (unless SmallLineRoom (leb textMost (length out)) ∷ [])
-  unfolding feedVerdict
-  past-room found e n = sym (goes-on _ SmallRoom found _ _ e n refl)
-
-  refused : {r : Taken} (q : Refusal) → feedVerdict buys sells room out ≡ Refused q → r ≡ takenTo run 0 0 (Stop.Refused q) →
-      TakenAs (fedOf run buys sells room bytes out) out buys sells room out r
-  refused q v e = taken-as (judged (Refused q) v) e refl refl refl (record { count = refl; laid = refl }) refl
-
-  pub refused-room : {r : Taken} (found : Bool) → found ≡ roomy buys sells room → not found ≡ true → r ≡ takenTo run 0 0 (Stop.Refused SmallRoom) →
-      TakenAs (fedOf run buys sells room bytes out) out buys sells room out r
-  refused-room found f n e = refused SmallRoom (short-room found f n) e
-
-  pub refused-out : {r : Taken} (found : Bool) → found ≡ roomy buys sells room → not found ≡ false → length out < textMost →
-      r ≡ takenTo run 0 0 (Stop.Refused SmallLineRoom) → TakenAs (fedOf run buys sells room bytes out) out buys sells room out r
-  unfolding firstFailed
-  refused-out found f n h e = refused SmallLineRoom (past-room found f n ∙ rw (lt-leb textMost (length out) h)) e
-
-  -- or all is long enough
-  pub taken-fine : {buys′ sells′ room′ out′ : List ℕ} {r : Taken} (found : Bool) → found ≡ roomy buys sells room → not found ≡ false →
-      textMost ≤ length out → TakenAs whole-run out buys′ sells′ room′ out′ r → TakenAs (fedOf run buys sells room bytes out) out buys′ sells′ room′ out′ r
-  unfolding firstFailed
-  taken-fine {buys′} {sells′} {room′} {out′} {r} found f n h k =
-      subst (λ (x : Fed Lent). TakenAs x out buys′ sells′ room′ out′ r)
-      (sym (judged Fine (past-room found f n ∙ rw (le-leb textMost (length out) h)))) k

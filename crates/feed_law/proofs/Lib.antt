@@ -6,3 +6,5 @@ pub mod Longer
 pub mod Pieces
 pub mod Starts
 pub mod Said
+pub mod Calls
+pub mod Progress

@@ -3,14 +3,15 @@ use Prim.Native.Nat.{ℕ, zero, suc, _+_, _-_, _≤_, _<_}
 use native.Mathlib.Omega.{arith}
 use mathlib.Core.Path.{_≡_, refl, sym, ap, _∙_, subst}
 use mathlib.Core.Bool.{cond}
-use mathlib.Core.List.{List, [], _∷_, _++_, append-assoc}
+use mathlib.Core.List.{List, [], _∷_, _++_, append-assoc, append-nil}
 use lib.ListN.{length, drop, length-drop}
 use lib.Seq.{drop-drop, drop-append-le}
 use lib.Dec.{ltb, eqb}
-use borrow.Author.Tests.{ltb-true, ltb-false, eqb-true, eqb-false, ne-eqb}
+use borrow.Author.Tests.{eqb-false, ne-eqb}
 use Rattle.terms.specs.declared.Event.{Event}
 use Rattle.terms.specs.declared.Settings.{Settings}
-use Rattle.terms.proofs.Logic.{cases}
+use Rattle.terms.specs.Sizes.{lineRoom}
+use Rattle.terms.proofs.Logic.{by, cases}
 use Rattle.lines_text_law.specs.Grammar.{Answer, whole, unfinished, wrong, word}
 use Rattle.lines_text_law.specs.Pieces.{at}
 use Rattle.lines_text_law.specs.Reading.{Right}
@@ -21,12 +22,12 @@ use Rattle.lines_reading_law.proofs.EventLines.{event-right, event-only}
 use Rattle.lines_reading_law.proofs.SettingsLines.{settings-right, settings-only}
 use Rattle.feed_law.specs.declared.Stage.{Stage}
 use Rattle.feed_law.specs.declared.Stop.{Stop}
-use Rattle.feed_law.specs.Texts.{textMost, endText}
+use Rattle.feed_law.specs.Texts.{endText}
 use Rattle.feed_law.specs.Worlds.{World}
-use Rattle.feed_law.specs.Turns.{Turn, Fed, waits, ends, settingsTurn, eventTurn, turnOf, printedIn, printedFrom, lastly, ahead, fedIn}
+use Rattle.feed_law.specs.Turns.{Turn, Fed, waits, ends, settingsTurn, eventTurn, turnOf, printedIn, printedFrom, stopAt, lastly, ahead, fedIn, finished, endBy, endBehind}
 use Rattle.feed_law.specs.Pieces.{PiecesPrintTheWhole, EndPrintsTheRest}
 use Rattle.feed_law.proofs.Longer.{right-longer}
-use Rattle.feed_law.proofs.Going.{turn-within, fed-none, fed-full, fed-last, fed-ahead}
+use Rattle.feed_law.proofs.Going.{turn-within, fed-by}
 
 -- ---- reading: no bytes are the start of a line, so no line has no bytes
 
@@ -43,6 +44,9 @@ not-whole p q = let z : _≡_ {A = ℕ} 0 1 = cc in omega arith
 
 not-wrong : {E : Type 0} {o : Answer E} {n : ℕ} → o ≡ wrong n → o ≡ unfinished → ⊥
 not-wrong p q = let z : _≡_ {A = ℕ} 0 1 = cc in omega arith
+
+not-both : {s : Stop} → s ≡ Stop.Full → s ≡ Stop.Waits → ⊥
+not-both p q = let z : _≡_ {A = ℕ} 0 1 = cc in omega arith
 
 pub settings-some : (s : List ℕ) (g : Settings) (n : ℕ) → Right SettingsLine s (whole g n) → n ≡ 0 → ⊥
 settings-some s g n r z = not-whole (settings-only [] (readSettings []) (whole g 0) (settings-right []) (omega arith, rw z at (r .1))) no-settings
@@ -143,9 +147,6 @@ module _ {W : Type 0} (on : World W) where
     abbrev t : Turn W
     t = turnOf on stage w xs
 
-    by : {f x : Fed W} → f ≡ x → Whole stage w xs ys x → Whole stage w xs ys f
-    by e k = subst (Whole stage w xs ys) (sym e) k
-
     -- a bad line: it is told, and then nothing
     bad : (place : ℕ) → t ≡ ends on w place → turnOf on stage w (xs ++ ys) ≡ ends on w place → Whole stage w xs ys (lastly on t)
     bad place e l =
@@ -166,85 +167,112 @@ module _ {W : Type 0} (on : World W) where
         ∙ sym (append-assoc (t .text) (f .text) (printedFrom on (f .stage) (f .world) (drop (f .used) (drop (t .used) xs) ++ ys)))
         ∙ rw (drop-drop (f .used) (t .used) xs))
 
-    none-used : t ≡ waits on stage w → t .used ≡ 0
-    none-used e = ap (λ (x : Turn W). x .used) e
+    -- no whole line is left
+    last-by : Sort stage w xs ys → t .used ≡ 0 → Whole stage w xs ys (lastly on t)
+    last-by (waiting e) z = ap (λ (x : Turn W). x .text ++ printedFrom on (x .stage) (x .world) (xs ++ ys)) (sym e)
+    last-by (ending place e l) z = bad place e l
+    last-by (going u l) z = absurd (u z)
 
-    module _ (n left : ℕ) (some : 0 < length xs) (wide : textMost ≤ left)
-        (k : Whole (t .stage) (t .world) (drop (t .used) xs) ys (fedIn on n (left - length (t .text)) (t .stage) (t .world) (drop (t .used) xs))) where
-      by-sort : Sort stage w xs ys → Whole stage w xs ys (fedIn on (suc n) left stage w xs)
-      by-sort (waiting e) =
-          by (fed-last on n left stage w xs some wide (none-used e))
-          (ap (λ (x : Turn W). x .text ++ printedFrom on (x .stage) (x .world) (xs ++ ys)) (sym e))
-      by-sort (ending place e l) =
-          by (fed-last on n left stage w xs some wide (ap (λ (x : Turn W). x .used) e)) (bad place e l)
-      by-sort (going u l) = by (fed-ahead on n left stage w xs some wide u) (on-with (fedIn on n (left - length (t .text)) (t .stage) (t .world) (drop (t .used) xs)) u l k)
+    more-by : (f : Fed W) → (t .used ≡ 0 → ⊥) → Sort stage w xs ys → Whole (t .stage) (t .world) (drop (t .used) xs) ys f → Whole stage w xs ys (ahead on t f)
+    more-by f u (waiting e) k = absurd (u (ap (λ (x : Turn W). x .used) e))
+    more-by f u (ending place e l) k = absurd (u (ap (λ (x : Turn W). x .used) e))
+    more-by f u (going n l) k = on-with f u l k
 
   pub pieces : PiecesPrintTheWhole on
-  unfolding fedIn
-  pieces zero left stage w xs ys = refl
-  pieces (suc n) left stage w xs ys =
-      let t : Turn W = turnOf on stage w xs in
-      cases (ltb 0 (length xs))
-      (λ e.
-      let some = ltb-true 0 (length xs) e in
-      cases (ltb left textMost)
-      (λ h. by stage w xs ys (fed-full on n left stage w xs some (ltb-true left textMost h)) refl)
-      (λ h.
-      by-sort stage w xs ys n left some (ltb-false left textMost h)
-      (pieces n (left - length (t .text)) (t .stage) (t .world) (drop (t .used) xs) ys) (sort w xs ys stage)))
-      (λ e. by stage w xs ys (fed-none on (suc n) left stage w xs (ltb-false 0 (length xs) e)) refl)
+  pieces left stage w bytes more =
+      fed-by on (λ left stage w xs f. Whole stage w xs more f) (λ left stage w xs h. refl) (λ left stage w xs h. refl)
+      (λ left stage w xs h z. last-by stage w xs more (sort w xs more stage) z)
+      (λ left stage w xs f u k. more-by stage w xs more f u (sort w xs more stage) k) (length bytes) left stage w bytes (omega arith)
 
   -- ---- the end
 
+  -- unless the room is to be emptied first, what is left to be printed is what the end prints
   abbrev Rest : List ℕ → Fed W → Type 0
-  Rest xs f = (f .stop ≡ Stop.Full → ⊥) → printedFrom on (f .stage) (f .world) (drop (f .used) xs) ≡ endText (f .stage) (length (drop (f .used) xs))
+  Rest xs f = (f .stop ≡ Stop.Full → ⊥) → printedFrom on (f .stage) (f .world) (drop (f .used) xs) ≡ endText (f .stage) (length xs - f .used)
 
   module _ (stage : Stage) (w : W) (xs : List ℕ) where
     abbrev t₁ : Turn W
     t₁ = turnOf on stage w xs
 
-    by-rest : {f x : Fed W} → f ≡ x → Rest xs x → Rest xs f
-    by-rest e k = subst (Rest xs) (sym e) k
+    abbrev Ends : Turn W → Type 0
+    Ends x = printedFrom on (x .stage) (x .world) xs ≡ endText (x .stage) (length xs - 0)
 
-    -- no whole line is left
-    last-rest : Sort stage w xs [] → t₁ .used ≡ 0 → printedFrom on (t₁ .stage) (t₁ .world) xs ≡ endText (t₁ .stage) (length xs)
+    all-left : length xs - 0 ≡ length xs
+    all-left = omega arith
+
+    last-rest : Sort stage w xs [] → t₁ .used ≡ 0 → Ends t₁
     last-rest (waiting e) u =
-        subst (λ (x : Turn W). printedFrom on (x .stage) (x .world) xs ≡ endText (x .stage) (length xs)) (sym e)
-        (printed-turn stage w xs
-        ∙ ap (λ (x : Turn W). after x xs (printedFrom on (x .stage) (x .world) (drop (x .used) xs))) e)
-    last-rest (ending place e l) u =
-        subst (λ (x : Turn W). printedFrom on (x .stage) (x .world) xs ≡ endText (x .stage) (length xs)) (sym e) (over-silent w xs)
+        subst Ends (sym e)
+        (rw all-left (printed-turn stage w xs ∙ ap (λ (x : Turn W). after x xs (printedFrom on (x .stage) (x .world) (drop (x .used) xs))) e))
+    last-rest (ending place e l) u = subst Ends (sym e) (over-silent w xs)
     last-rest (going n l) u = absurd (n u)
 
     ahead-rest : (f : Fed W) → Rest (drop (t₁ .used) xs) f → Rest xs (ahead on t₁ f)
-    ahead-rest f k = rw (← drop-drop (f .used) (t₁ .used) xs) k
+    ahead-rest f k went =
+        let l = length-drop (t₁ .used) xs in
+        let n : length (drop (t₁ .used) xs) - f .used ≡ length xs - (t₁ .used + f .used) = omega arith in
+        rw (← drop-drop (f .used) (t₁ .used) xs, ← n) (k went)
 
-  none-rest : (n left : ℕ) (stage : Stage) (w : W) (xs : List ℕ) → length xs ≤ 0 → Rest xs (fedIn on n left stage w xs)
-  none-rest n left stage w xs h = by-rest stage w xs (fed-none on n left stage w xs h) (λ _. none-printed (length xs) stage w xs h)
+  none-rest : (stage : Stage) (w : W) (xs : List ℕ) → length xs ≤ 0 → printedFrom on stage w xs ≡ endText stage (length xs - 0)
+  none-rest stage w xs h = let n : length xs - 0 ≡ length xs = omega arith in rw n (none-printed (length xs) stage w xs h)
 
-  rest : (n left : ℕ) (stage : Stage) (w : W) (xs : List ℕ) → length xs ≤ n → Rest xs (fedIn on n left stage w xs)
-  rest zero left stage w xs h = none-rest zero left stage w xs h
-  rest (suc n) left stage w xs h =
-      let t : Turn W = turnOf on stage w xs in
-      cases (ltb 0 (length xs))
-      (λ e.
-      let some = ltb-true 0 (length xs) e in
-      cases (ltb left textMost)
-      (λ f. by-rest stage w xs (fed-full on n left stage w xs some (ltb-true left textMost f)) (λ no. absurd (no refl)))
-      (λ f.
-      let wide = ltb-false left textMost f in
-      cases (eqb (t .used) 0)
-      (λ u.
-      let z = eqb-true (t .used) 0 u in
-      by-rest stage w xs (fed-last on n left stage w xs some wide z) (λ _. last-rest stage w xs (sort w xs [] stage) z))
-      (λ u.
-      let z = eqb-false (t .used) 0 u in
-      let l = length-drop (t .used) xs in
-      let a : length (drop (t .used) xs) ≤ n = omega (arith, z) in
-      by-rest stage w xs (fed-ahead on n left stage w xs some wide z)
-      (ahead-rest stage w xs (fedIn on n (left - length (t .text)) (t .stage) (t .world) (drop (t .used) xs))
-      (rest n (left - length (t .text)) (t .stage) (t .world) (drop (t .used) xs) a)))))
-      (λ e. none-rest (suc n) left stage w xs (ltb-false 0 (length xs) e))
+  rest : (left : ℕ) (stage : Stage) (w : W) (xs : List ℕ) → Rest xs (fedIn on (length xs) left stage w xs)
+  rest left stage w xs =
+      fed-by on (λ left stage w xs f. Rest xs f) (λ left stage w xs h _. none-rest stage w xs h) (λ left stage w xs h went. absurd (went refl))
+      (λ left stage w xs h z _. last-rest stage w xs (sort w xs [] stage) z) (λ left stage w xs f u k. ahead-rest stage w xs f k)
+      (length xs) left stage w xs (omega arith)
+
+  -- why the lines stopped: the room is to be emptied, or by where the run stands
+  data Stopped (f : Fed W) : Type 0 where
+    full : f .stop ≡ Stop.Full → Stopped f
+    stands : f .stop ≡ stopAt (f .stage) → Stopped f
+
+  ahead-stopped : (t : Turn W) (f : Fed W) → Stopped f → Stopped (ahead on t f)
+  ahead-stopped t f (full e) = full e
+  ahead-stopped t f (stands e) = stands e
+
+  stopped : (left : ℕ) (stage : Stage) (w : W) (xs : List ℕ) → Stopped (fedIn on (length xs) left stage w xs)
+  stopped left stage w xs =
+      fed-by on (λ left stage w xs f. Stopped f) (λ left stage w xs h. stands refl) (λ left stage w xs h. full refl) (λ left stage w xs h z. stands refl)
+      (λ left stage w xs f u k. ahead-stopped (turnOf on stage w xs) f k) (length xs) left stage w xs (omega arith)
+
+  -- lines, and the end behind them
+  module _ (left : ℕ) (stage : Stage) (w : W) (xs : List ℕ) (f : Fed W)
+      (lines : printedFrom on stage w xs ≡ f .text ++ printedFrom on (f .stage) (f .world) (drop (f .used) xs)) (end : Rest xs f) where
+    abbrev Told : Fed W → Type 0
+    Told x =
+        (printedFrom on stage w xs ≡ x .text ++ printedFrom on (x .stage) (x .world) (drop (x .used) xs))
+        × ((x .stop ≡ Stop.Full → ⊥) → (x .stop ≡ Stop.Over) × (printedFrom on (x .stage) (x .world) (drop (x .used) xs) ≡ []))
+
+    abbrev ended : Stop → Fed W
+    ended s = endBy on s (left - length (f .text)) (length xs - f .used) f
+
+    told-finished : (f .stop ≡ Stop.Full → ⊥) → Told (finished on (length xs - f .used) f)
+    told-finished went =
+        let silent = over-silent (f .world) (drop (f .used) xs) in (
+          lines
+          ∙ ap (λ (x : List ℕ). f .text ++ x) (end went)
+          ∙ sym (append-nil (f .text ++ endText (f .stage) (length xs - f .used)))
+          ∙ ap (λ (x : List ℕ). (f .text ++ endText (f .stage) (length xs - f .used)) ++ x) (sym silent),
+          (λ _. (refl, silent)),
+        )
+
+    told-waits : f .stop ≡ Stop.Waits → Told (ended Stop.Waits)
+    told-waits e =
+        by Told (ltb (left - length (f .text)) lineRoom) _ _ (λ b. (lines, (λ went. absurd (went refl)))) (λ b. told-finished (λ full. not-both full e))
+
+    told-stage : (s : Stage) → f .stage ≡ s → f .stop ≡ stopAt s → Told (ended (stopAt s))
+    told-stage Stage.Awaiting e q = told-waits q
+    told-stage Stage.Trading e q = told-waits q
+    told-stage Stage.Over e q = (lines, (λ _. (q, rw e (over-silent (f .world) (drop (f .used) xs)))))
+
+    told-by : Stopped f → Told (ended (f .stop))
+    told-by (full e) = subst (λ (s : Stop). Told (ended s)) (sym e) (lines, (λ went. absurd (went e)))
+    told-by (stands e) = subst (λ (s : Stop). Told (ended s)) (sym e) (told-stage (f .stage) refl e)
 
   pub end-prints-rest : EndPrintsTheRest on
-  end-prints-rest left stage w xs = rest (length xs) left stage w xs (omega arith)
+  unfolding endBehind
+  end-prints-rest left stage w xs =
+      let f : Fed W = fedIn on (length xs) left stage w xs in
+      told-by left stage w xs f (rw (append-nil xs, append-nil (drop (f .used) xs)) at (pieces left stage w xs [])) (rest left stage w xs)
+      (stopped left stage w xs)

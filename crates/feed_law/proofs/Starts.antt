@@ -1,18 +1,15 @@
 -- What a feed takes is there, and what it leaves is the start of a line, which is short. Assumes nothing.
-use Prim.Native.Nat.{ℕ, zero, suc, _+_, _-_, _≤_}
+use Prim.Native.Nat.{ℕ, _+_, _≤_}
 use native.Mathlib.Omega.{arith}
-use mathlib.Core.Path.{_≡_, sym, ap, _∙_, subst}
+use mathlib.Core.Path.{_≡_, refl, sym, ap, _∙_}
 use mathlib.Core.List.{List, _++_}
 use lib.ListN.{length, drop, length-append, length-drop}
 use lib.Seq.{drop-drop}
-use lib.Dec.{ltb, eqb}
-use borrow.Author.Tests.{ltb-true, ltb-false, eqb-true, eqb-false}
+use lib.Dec.{ltb}
 use Rattle.terms.specs.declared.Settings.{Settings}
 use Rattle.terms.specs.declared.Event.{Event}
-use Rattle.terms.specs.declared.Verdict.{Verdict}
-use Rattle.terms.specs.declared.Verdict.the-variants.{Fine, Refused}
 use Rattle.terms.specs.Sizes.{lineRoom}
-use Rattle.terms.proofs.Logic.{cases}
+use Rattle.terms.proofs.Logic.{by}
 use Rattle.lines_text_law.specs.Grammar.{Answer, whole, unfinished, wrong}
 use Rattle.lines_text_law.specs.Reading.{Begins, Right}
 use Rattle.lines_reading_law.specs.Lines.{EventLine, SettingsLine, renderEvent, renderSettings}
@@ -20,17 +17,12 @@ use Rattle.lines_reading_law.specs.Answers.{readEvent, readSettings}
 use Rattle.lines_reading_law.proofs.EventLines.{event-right}
 use Rattle.lines_reading_law.proofs.SettingsLines.{settings-right}
 use Rattle.lines_writing_law.proofs.Short.{event-short, settings-short}
-use Rattle.feed_law.specs.declared.Run.{Run}
-use Rattle.feed_law.specs.declared.Taken.{Taken}
 use Rattle.feed_law.specs.declared.Stage.{Stage}
 use Rattle.feed_law.specs.declared.Stop.{Stop}
-use Rattle.feed_law.specs.Texts.{textMost}
-use Rattle.feed_law.specs.Worlds.{World, lentOf, calls}
-use Rattle.feed_law.specs.Turns.{Turn, Fed, settingsTurn, eventTurn, turnOf, stopAt, ahead, fedIn}
+use Rattle.feed_law.specs.Worlds.{World}
+use Rattle.feed_law.specs.Turns.{Turn, Fed, settingsTurn, eventTurn, turnOf, stopAt, ahead, fedIn, endBy}
 use Rattle.feed_law.specs.Pieces.{StartsAreShort}
-use Rattle.feed_law.specs.Feeds.{TakenAs, feedVerdict, fedBy, fedOf}
-use Rattle.feed_law.proofs.Prints.{prints-within}
-use Rattle.feed_law.proofs.Going.{turn-within, fed-none, fed-full, fed-last, fed-ahead}
+use Rattle.feed_law.proofs.Going.{turn-within, fed-by}
 use Rattle.feed_law.proofs.Pieces.{settings-some, event-some}
 
 -- ---- lines are short, and so are their starts
@@ -48,6 +40,9 @@ settings-start s (g, rest, l) = start-short s rest (renderSettings g) (l .0) (se
 
 not-waits : Stop.Over ≡ Stop.Waits → ⊥
 not-waits p = let z : _≡_ {A = ℕ} 0 1 = cc in omega arith
+
+not-full : Stop.Full ≡ Stop.Waits → ⊥
+not-full p = let z : _≡_ {A = ℕ} 0 1 = cc in omega arith
 
 module _ {W : Type 0} (on : World W) where
   -- ---- what waits is a start
@@ -75,63 +70,29 @@ module _ {W : Type 0} (on : World W) where
   abbrev Left : List ℕ → Fed W → Type 0
   Left xs f = (f .used ≤ length xs) × (f .stop ≡ Stop.Waits → length (drop (f .used) xs) ≤ lineRoom)
 
-  module _ (stage : Stage) (w : W) (xs : List ℕ) where
-    abbrev t : Turn W
-    t = turnOf on stage w xs
-
-    by : {f x : Fed W} → f ≡ x → Left xs x → Left xs f
-    by e k = subst (Left xs) (sym e) k
-
-    more : (f : Fed W) → Left (drop (t .used) xs) f → Left xs (ahead on t f)
-    more f k =
-        let d = turn-within on stage w xs in
-        let l = length-drop (t .used) xs in
-        (omega (arith, k .0), rw (← drop-drop (f .used) (t .used) xs) (k .1))
-
-  none-left : (n left : ℕ) (stage : Stage) (w : W) (xs : List ℕ) → length xs ≤ 0 → Left xs (fedIn on n left stage w xs)
-  none-left n left stage w xs h = by stage w xs (fed-none on n left stage w xs h) (omega arith, (λ _. omega arith))
-
-  not-full : Stop.Full ≡ Stop.Waits → ⊥
-  not-full p = let z : _≡_ {A = ℕ} 0 1 = cc in omega arith
-
-  left-by : (n left : ℕ) (stage : Stage) (w : W) (xs : List ℕ) → length xs ≤ n → Left xs (fedIn on n left stage w xs)
-  left-by zero left stage w xs h = none-left zero left stage w xs h
-  left-by (suc n) left stage w xs h =
+  more-left : (stage : Stage) (w : W) (xs : List ℕ) (f : Fed W) →
+      let t : Turn W = turnOf on stage w xs in Left (drop (t .used) xs) f → Left xs (ahead on t f)
+  more-left stage w xs f k =
       let t : Turn W = turnOf on stage w xs in
-      cases (ltb 0 (length xs))
-      (λ e.
-      let some = ltb-true 0 (length xs) e in
-      cases (ltb left textMost)
-      (λ f. by stage w xs (fed-full on n left stage w xs some (ltb-true left textMost f)) (omega arith, (λ s. absurd (not-full s))))
-      (λ f.
-      let wide = ltb-false left textMost f in
-      cases (eqb (t .used) 0)
-      (λ u.
-      let z = eqb-true (t .used) 0 u in
-      by stage w xs (fed-last on n left stage w xs some wide z) (omega arith, (λ s. turn-waits stage w xs z s)))
-      (λ u.
-      let z = eqb-false (t .used) 0 u in
+      let d = turn-within on stage w xs in
       let l = length-drop (t .used) xs in
-      let a : length (drop (t .used) xs) ≤ n = omega (arith, z) in
-      by stage w xs (fed-ahead on n left stage w xs some wide z)
-      (more stage w xs (fedIn on n (left - length (t .text)) (t .stage) (t .world) (drop (t .used) xs))
-      (left-by n (left - length (t .text)) (t .stage) (t .world) (drop (t .used) xs) a)))))
-      (λ e. none-left (suc n) left stage w xs (ltb-false 0 (length xs) e))
+      (omega (arith, k .0), rw (← drop-drop (f .used) (t .used) xs) (k .1))
+
+  left-by : (left : ℕ) (stage : Stage) (w : W) (xs : List ℕ) → Left xs (fedIn on (length xs) left stage w xs)
+  left-by left stage w xs =
+      fed-by on (λ left stage w xs f. Left xs f) (λ left stage w xs h. (omega arith, (λ _. omega arith))) (λ left stage w xs h. (omega arith, (λ s. absurd (not-full s))))
+      (λ left stage w xs h z. (omega arith, (λ s. turn-waits stage w xs z s))) (λ left stage w xs f u k. more-left stage w xs f k)
+      (length xs) left stage w xs (omega arith)
 
   pub starts-short : StartsAreShort on
-  starts-short left stage w xs = left-by (length xs) left stage w xs (omega arith) .1
+  starts-short left stage w xs = left-by left stage w xs .1
 
   pub taken-there : (left : ℕ) (stage : Stage) (w : W) (xs : List ℕ) → fedIn on (length xs) left stage w xs .used ≤ length xs
-  taken-there left stage w xs = left-by (length xs) left stage w xs (omega arith) .0
+  taken-there left stage w xs = left-by left stage w xs .0
 
--- ---- the call
-
-module _ (run : Run) (buys sells room bytes out : List ℕ) where
-  within-by : (v : Verdict) → fedBy v run (lentOf (run .session) buys sells room) bytes (length out) .used ≤ length bytes
-  within-by Fine = taken-there calls (length out) (run .stage) (lentOf (run .session) buys sells room) bytes
-  within-by (Refused r) = omega arith
-
-  pub taken-within : {buys′ sells′ room′ out′ : List ℕ} {r : Taken} → TakenAs (fedOf run buys sells room bytes out) out buys′ sells′ room′ out′ r →
-      length out′ ≡ length out → TakenAs (fedOf run buys sells room bytes out) out buys′ sells′ room′ out′ r × (r .used ≤ length bytes) × (r .wrote ≤ length out)
-  unfolding fedOf
-  taken-within k kept = (k, rw (k .used) (within-by (feedVerdict buys sells room out)), prints-within (k .printed) kept)
+  -- the end takes no further line
+  pub end-used : (s : Stop) (left rest : ℕ) (f : Fed W) → endBy on s left rest f .used ≡ f .used
+  end-used Stop.Waits left rest f = by (λ (x : Fed W). x .used ≡ f .used) (ltb left lineRoom) _ _ (λ _. refl) (λ _. refl)
+  end-used Stop.Full left rest f = refl
+  end-used Stop.Over left rest f = refl
+  end-used (Stop.Refused r) left rest f = refl

@@ -30,7 +30,7 @@ use Rattle.engine_law.proofs.Called.{called-few, fine-roomy}
 use Rattle.feed_law.specs.declared.Run.{Run}
 use Rattle.feed_law.specs.declared.Stage.{Stage}
 use Rattle.feed_law.specs.declared.Turned.{Turned}
-use Rattle.feed_law.specs.Texts.{textMost, recordsText, refusedText, eventText, badText}
+use Rattle.feed_law.specs.Texts.{textMost, mostAt, recordsText, refusedText, eventText, badText}
 use Rattle.feed_law.specs.Worlds.{Lent, lentOf, calls}
 use Rattle.feed_law.specs.Turns.{Turn, stageBy, ends, openTurn, settingsTurn, eventTurn, turnOf}
 use Rattle.feed_law.specs.Feeds.{Prints, turnBy, turnedTo, TurnedAs, TablesAside}
@@ -190,6 +190,13 @@ module _ {s : Session} {e : Event} {buys sells room buys′ sells′ room′ : L
       turned-as h refl (left f) refl (subst (λ (x : List ℕ). Prints out x wrote out′) text t)
 
 -- ---- by where the run stands
+
+-- what a line may print fits
+pub most-awaiting : {stage : Stage} {n : ℕ} → stage ≡ Stage.Awaiting → mostAt stage ≤ n → lineRoom ≤ n
+most-awaiting e h = rw e at h
+
+pub most-trading : {stage : Stage} {n : ℕ} → stage ≡ Stage.Trading → mostAt stage ≤ n → textMost ≤ n
+most-trading e h = rw e at h
 
 module _ (run : Run) (buys sells room bytes : List ℕ) where
   pub in-stage : {out buys′ sells′ room′ out′ : List ℕ} {r : Turned} (stage : Stage) → run .stage ≡ stage →

@@ -1,27 +1,23 @@
 -- The calls of this crate on lent numbers: what each is answered, and what it leaves.
-use Prim.Native.Nat.{ℕ}
+use Prim.Native.Nat.{ℕ, _≤_}
 use mathlib.Core.Path.{_≡_}
 use mathlib.Core.List.{List, [], _∷_, _++_}
 use lib.ListN.{length, drop}
-use lib.Dec.{leb}
-use Rattle.terms.specs.declared.Refusal.the-variants.{SmallRoom, SmallLineRoom}
+use Rattle.terms.specs.declared.Refusal.the-variants.{SmallRoom}
 use Rattle.terms.specs.declared.Verdict.{Verdict}
 use Rattle.terms.specs.declared.Verdict.the-variants.{Fine, Refused}
-use Rattle.terms.specs.Sizes.{lineRoom}
 use Rattle.terms.specs.Refusals.{unless, firstFailed}
 use Rattle.state_law.specs.declared.Session.{Session}
 use Rattle.state_law.specs.Opening.{fixedSession}
 use Rattle.engine_law.specs.Calls.{roomy}
 use Rattle.lines_writing_law.specs.declared.Wrote.{Wrote}
-use Rattle.lines_writing_law.specs.Writes.{wroteOf, roomOf}
 use Rattle.feed_law.specs.declared.Run.{Run}
 use Rattle.feed_law.specs.declared.Stage.{Stage}
 use Rattle.feed_law.specs.declared.Stop.{Stop}
 use Rattle.feed_law.specs.declared.Turned.{Turned}
 use Rattle.feed_law.specs.declared.Taken.{Taken}
-use Rattle.feed_law.specs.Texts.{textMost, endText}
 use Rattle.feed_law.specs.Worlds.{Lent, lentOf, calls}
-use Rattle.feed_law.specs.Turns.{Turn, turnOf, Fed, halted, fedIn}
+use Rattle.feed_law.specs.Turns.{Turn, turnOf, Fed, halted, fedIn, endBehind}
 
 -- text at the start of an output room, the rest of which is untouched
 abbrev pub laid : List ℕ → List ℕ → List ℕ
@@ -62,18 +58,26 @@ TablesAside s t out out′ r = (buys sells room : List ℕ) → TurnedAs (t (len
 
 -- ---- all lines
 
--- 1 and 16: a line's tables and room, and the output room, are long enough for any line
-unfoldable pub feedVerdict : List ℕ → List ℕ → List ℕ → List ℕ → Verdict
-feedVerdict buys sells room out = firstFailed (unless SmallRoom (roomy buys sells room) ∷ unless SmallLineRoom (leb textMost (length out)) ∷ [])
+-- 1: the tables and the room are long enough for any event
+unfoldable pub feedVerdict : List ℕ → List ℕ → List ℕ → Verdict
+feedVerdict buys sells room = firstFailed (unless SmallRoom (roomy buys sells room) ∷ [])
 
-abbrev pub fedBy : Verdict → Run → Lent → List ℕ → ℕ → Fed Lent
-fedBy Fine run l bytes left = fedIn calls (length bytes) left (run .stage) l bytes
-fedBy (Refused r) run l bytes left = halted calls (Stop.Refused r) (run .stage) l
+-- the lines that there is room for
+abbrev pub linesOf : Run → List ℕ → List ℕ → List ℕ → List ℕ → List ℕ → Fed Lent
+linesOf run buys sells room bytes out = fedIn calls (length bytes) (length out) (run .stage) (lentOf (run .session) buys sells room) bytes
+
+abbrev pub fedBy : Verdict → Run → List ℕ → List ℕ → List ℕ → List ℕ → List ℕ → Fed Lent
+fedBy Fine run buys sells room bytes out = linesOf run buys sells room bytes out
+fedBy (Refused r) run buys sells room bytes out = halted calls (Stop.Refused r) (run .stage) (lentOf (run .session) buys sells room)
 
 unfoldable pub fedOf : Run → List ℕ → List ℕ → List ℕ → List ℕ → List ℕ → Fed Lent
-fedOf run buys sells room bytes out = fedBy (feedVerdict buys sells room out) run (lentOf (run .session) buys sells room) bytes (length out)
+fedOf run buys sells room bytes out = fedBy (feedVerdict buys sells room) run buys sells room bytes out
 
--- THE CONTRACT of `take_lines`: each answer and each lent number by an equation
+-- and then the end of the input
+unfoldable pub endedOf : Run → List ℕ → List ℕ → List ℕ → List ℕ → List ℕ → Fed Lent
+endedOf run buys sells room bytes out = endBehind calls (length out) (length bytes) (fedOf run buys sells room bytes out)
+
+-- what was answered and what every lent slice holds, each by an equation
 pub record TakenAs (f : Fed Lent) (out buys′ sells′ room′ out′ : List ℕ) (r : Taken) : Type 0 where
   pub stage : r .run .stage ≡ f .stage
   pub world : lentOf (r .run .session) buys′ sells′ room′ ≡ f .world
@@ -81,16 +85,18 @@ pub record TakenAs (f : Fed Lent) (out buys′ sells′ room′ out′ : List �
   pub printed : Prints out (f .text) (r .wrote) out′
   pub stop : r .stop ≡ f .stop
 
+-- THE CONTRACT of `take_lines`, where it is `fedOf`, and of `take_end`, where it is `endedOf`
+pub record TakenBy (of : Run → List ℕ → List ℕ → List ℕ → List ℕ → List ℕ → Fed Lent) (run : Run)
+    (buys sells room bytes out buys′ sells′ room′ out′ : List ℕ) (r : Taken) : Type 0 where
+  pub taken : TakenAs (of run buys sells room bytes out) out buys′ sells′ room′ out′ r
+  pub used-there : r .used ≤ length bytes
+  pub wrote-there : r .wrote ≤ length out
+
 abbrev pub takenTo : Run → ℕ → ℕ → Stop → Taken
 takenTo run used wrote stop = record { run = run; used = used; wrote = wrote; stop = stop }
 
--- ---- the end
-
--- 16, "line room under 128 bytes"
-unfoldable pub endVerdict : List ℕ → Verdict
-endVerdict out = firstFailed (unless SmallLineRoom (leb lineRoom (length out)) ∷ [])
-
--- THE CONTRACT of `take_end`: what the end of the input prints, with the bytes that were left
-pub record EndedAs (stage : Stage) (rest out : List ℕ) (r : Wrote) (out′ : List ℕ) : Type 0 where
-  pub answer : r ≡ wroteOf (endVerdict out) (length (endText stage (length rest)))
-  pub laid : out′ ≡ roomOf (endVerdict out) (endText stage (length rest)) out
+-- what the end of the input makes of lines that were taken: of whatever they come to, and whatever the tables hold
+abbrev pub EndsBehind : Taken → ℕ → List ℕ → List ℕ → Taken → Type 0
+EndsBehind t bytes out out′ r =
+    (f : Fed Lent) (out₀ buys sells room : List ℕ) → TakenAs f out₀ buys sells room out t → length out ≡ length out₀ →
+    TakenAs (endBehind calls (length out₀) bytes f) out₀ buys sells room out′ r

@@ -1,30 +1,44 @@
 -- THE PIECES OF AN INPUT: whatever way it is cut, the same is printed.
-use Prim.Native.Nat.{ℕ, _≤_}
+use Prim.Native.Nat.{ℕ, _≤_, _<_}
 use mathlib.Core.Path.{_≡_}
-use mathlib.Core.List.{List, _++_}
+use mathlib.Core.List.{List, [], _++_}
 use lib.ListN.{length, drop}
 use Rattle.terms.specs.Sizes.{lineRoom}
 use Rattle.feed_law.specs.declared.Stage.{Stage}
 use Rattle.feed_law.specs.declared.Stop.{Stop}
-use Rattle.feed_law.specs.Texts.{endText}
+use Rattle.feed_law.specs.Texts.{textMost}
 use Rattle.feed_law.specs.Worlds.{World}
-use Rattle.feed_law.specs.Turns.{Fed, printedFrom, fedIn}
+use Rattle.feed_law.specs.Turns.{Fed, printedFrom, fedIn, endBehind}
 
 module _ {W : Type 0} (on : World W) where
   -- Some bytes are fed, and others may follow: what is printed now, and what is then printed for the bytes that are left and those that
   -- follow, is what is printed for all of them at once. So it never matters how the input is cut, nor how large the output room is.
   abbrev pub PiecesPrintTheWhole : Type 0
   PiecesPrintTheWhole =
-      (n left : ℕ) (stage : Stage) (w : W) (bytes more : List ℕ) →
-      let f : Fed W = fedIn on n left stage w bytes in
+      (left : ℕ) (stage : Stage) (w : W) (bytes more : List ℕ) →
+      let f : Fed W = fedIn on (length bytes) left stage w bytes in
       printedFrom on stage w (bytes ++ more) ≡ f .text ++ printedFrom on (f .stage) (f .world) (drop (f .used) bytes ++ more)
 
-  -- And where no more follow, the end prints what is left to be printed.
+  -- some bytes are fed and no others follow: the lines that there is room for, then the end
+  abbrev pub fedToEnd : ℕ → Stage → W → List ℕ → Fed W
+  fedToEnd left stage w bytes = endBehind on left (length bytes) (fedIn on (length bytes) left stage w bytes)
+
+  -- What is printed now, and what is then printed for the bytes that are left, is what is printed for all of them; and unless the room is
+  -- to be emptied first, the run is over and nothing is left to be printed. So it is whatever the bytes hold: whole lines, the start of
+  -- one, or what begins none.
   abbrev pub EndPrintsTheRest : Type 0
   EndPrintsTheRest =
       (left : ℕ) (stage : Stage) (w : W) (bytes : List ℕ) →
-      let f : Fed W = fedIn on (length bytes) left stage w bytes in
-      (f .stop ≡ Stop.Full → ⊥) → printedFrom on (f .stage) (f .world) (drop (f .used) bytes) ≡ endText (f .stage) (length (drop (f .used) bytes))
+      let f : Fed W = fedToEnd left stage w bytes in
+      (printedFrom on stage w bytes ≡ f .text ++ printedFrom on (f .stage) (f .world) (drop (f .used) bytes))
+      × ((f .stop ≡ Stop.Full → ⊥) → (f .stop ≡ Stop.Over) × (printedFrom on (f .stage) (f .world) (drop (f .used) bytes) ≡ []))
+
+  -- In a room that whatever an event prints fits in, something is always taken before the room is to be emptied.
+  abbrev pub RoomMakesProgress : Type 0
+  RoomMakesProgress =
+      (left : ℕ) (stage : Stage) (w : W) (bytes : List ℕ) → textMost ≤ left →
+      (fedIn on (length bytes) left stage w bytes .stop ≡ Stop.Full → 0 < fedIn on (length bytes) left stage w bytes .used)
+      × (fedToEnd left stage w bytes .stop ≡ Stop.Full → 0 < fedToEnd left stage w bytes .used)
 
   -- What is kept for the next piece is the start of a line, and no line is longer than 128 bytes: a longer one is bad as soon as it is
   -- seen to be, wherever the pieces are cut.

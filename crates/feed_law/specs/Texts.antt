@@ -17,9 +17,16 @@ use Rattle.records.specs.declared.ReadRecord.{ReadRecord}
 use Rattle.records.specs.Back.{reportFrom}
 use Rattle.feed_law.specs.declared.Stage.{Stage}
 
--- the most that one line of input can print: a line for each of an event's reports
+-- the most that an event can print: a line for each of its reports
 abbrev pub textMost : ℕ
 textMost = reportsMost * lineRoom
+
+-- the most that the next line can print, by where the run stands: the answer to settings that are bad or refused; the reports of an
+-- event; nothing
+abbrev pub mostAt : Stage → ℕ
+mostAt Stage.Awaiting = lineRoom
+mostAt Stage.Trading = textMost
+mostAt Stage.Over = 0
 
 -- a line, where each of its numbers can be written
 abbrev pub written : List ℕ → List ℕ → List ℕ

@@ -9,13 +9,14 @@ use Rattle.terms.specs.declared.Settings.{Settings}
 use Rattle.terms.specs.declared.Refusal.the-variants.{LineWrong}
 use Rattle.terms.specs.declared.Verdict.{Verdict}
 use Rattle.terms.specs.declared.Verdict.the-variants.{Fine, Refused}
+use Rattle.terms.specs.Sizes.{lineRoom}
 use Rattle.lines_text_law.specs.Grammar.{Answer, whole, unfinished, wrong}
 use Rattle.lines_reading_law.specs.Answers.{readEvent, readSettings}
 use Rattle.state_law.specs.declared.Opened.{Opened}
 use Rattle.state_law.specs.Opening.{openingOf, fixedSession}
 use Rattle.feed_law.specs.declared.Stage.{Stage}
 use Rattle.feed_law.specs.declared.Stop.{Stop}
-use Rattle.feed_law.specs.Texts.{textMost, eventText, settingsText, badText, endText}
+use Rattle.feed_law.specs.Texts.{mostAt, eventText, settingsText, badText, endText}
 use Rattle.feed_law.specs.Worlds.{World, days}
 
 -- where a run stands after the first line of some bytes: how many bytes that line has, 0 where none was taken; and what it prints
@@ -88,7 +89,7 @@ module _ {W : Type 0} (on : World W) where
   abbrev pub printedFrom : Stage → W → List ℕ → List ℕ
   printedFrom stage w bytes = printedIn (length bytes) stage w bytes
 
-  -- ---- as many as there is room for: a line is taken only where whatever it prints fits in what is left
+  -- ---- as many as there is room for: a line is taken only where whatever it can print fits in what is left
 
   abbrev pub halted : Stop → Stage → W → Fed W
   halted stop stage w = record { stage = stage; world = w; used = 0; text = []; stop = stop }
@@ -106,8 +107,29 @@ module _ {W : Type 0} (on : World W) where
       let t : Turn W = turnOf stage w bytes in
       let more : Fed W = fedIn n (left - length (t .text)) (t .stage) (t .world) (drop (t .used) bytes) in
       cond (ltb 0 (length bytes))
-      (cond (ltb left textMost) (halted Stop.Full stage w) (cond (eqb (t .used) 0) (lastly t) (ahead t more)))
+      (cond (ltb left (mostAt stage)) (halted Stop.Full stage w) (cond (eqb (t .used) 0) (lastly t) (ahead t more)))
       (halted (stopAt stage) stage w)
+
+  -- ---- the end of the input, behind the lines that were taken
+
+  -- the room is to be emptied first
+  abbrev pub filled : Fed W → Fed W
+  filled f = record { stage = f .stage; world = f .world; used = f .used; text = f .text; stop = Stop.Full }
+
+  -- the end is told, with so many bytes left of an unfinished line, and the run is over
+  abbrev pub finished : ℕ → Fed W → Fed W
+  finished rest f = record { stage = Stage.Over; world = f .world; used = f .used; text = f .text ++ endText (f .stage) rest; stop = Stop.Over }
+
+  -- where no whole line is left, the end is told as soon as a line fits in what is left of the room
+  abbrev pub endBy : Stop → ℕ → ℕ → Fed W → Fed W
+  endBy Stop.Waits left rest f = cond (ltb left lineRoom) (filled f) (finished rest f)
+  endBy Stop.Full left rest f = f
+  endBy Stop.Over left rest f = f
+  endBy (Stop.Refused r) left rest f = f
+
+  -- of a room and so many bytes
+  unfoldable pub endBehind : ℕ → ℕ → Fed W → Fed W
+  endBehind left bytes f = endBy (f .stop) (left - length (f .text)) (bytes - f .used) f
 
 -- THE PROGRAM: its input, and all that it prints
 unfoldable pub printed : List ℕ → List ℕ

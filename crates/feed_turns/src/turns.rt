@@ -16,10 +16,11 @@ use terms::Verdict;
 ghost use Prim.Native.Nat.{_≤_};
 ghost use mathlib.Core.Path.{_≡_};
 ghost use lib.ListN.{length};
+ghost use Rattle.terms.specs.Sizes.{lineRoom};
 ghost use Rattle.lines_text_law.specs.Grammar.{whole};
 ghost use Rattle.lines_reading_law.specs.Answers.{readSettings, readEvent};
 ghost use Rattle.state_law.specs.Opening.{openingOf, fixedSession};
-ghost use Rattle.feed_law.specs.Texts.{textMost};
+ghost use Rattle.feed_law.specs.Texts.{textMost, mostAt};
 ghost use Rattle.feed_law.specs.Worlds.{lentOf, calls};
 ghost use Rattle.feed_law.specs.Turns.{ends, openTurn, settingsTurn, eventTurn};
 ghost use Rattle.feed_law.specs.Feeds.{turnBy, turnedTo, TurnedAs, TablesAside};
@@ -40,7 +41,7 @@ fn turned(stage: Stage, session: Session, used: usize, wrote: usize) -> Turned
 
 // A bad line: it is told, and the run is over.
 fn bad_line(session: Session, place: usize, out: &mut [u8]) -> Turned
-    requires { ⌜ textMost ≤ length (now out) ⌝ }
+    requires { ⌜ lineRoom ≤ length (now out) ⌝ }
     ensures { λ r. ⌜ TablesAside session (λ l. ends calls l place) (now (out .entry)) (now (out .exit)) r ⌝ }
 {
     let wrote = telling::tell_bad(Refusal::LineWrong, place, out);
@@ -49,7 +50,7 @@ fn bad_line(session: Session, place: usize, out: &mut [u8]) -> Turned
 
 // A whole line of settings: the session opens, or the run is over.
 fn opens(settings: Settings, used: usize, out: &mut [u8]) -> Turned
-    requires { ⌜ textMost ≤ length (now out) ⌝ }
+    requires { ⌜ lineRoom ≤ length (now out) ⌝ }
     ensures { λ r. ⌜ TablesAside fixedSession (λ l. openTurn calls l used (openingOf settings)) (now (out .entry)) (now (out .exit)) r ⌝ }
 {
     let o = opening::begin(settings);
@@ -66,7 +67,7 @@ fn opens(settings: Settings, used: usize, out: &mut [u8]) -> Turned
 
 // The line of settings that a run begins with.
 fn settings_line(session: Session, bytes: &[u8], out: &mut [u8]) -> Turned
-    requires { ⌜ textMost ≤ length (now out) ⌝ }
+    requires { ⌜ lineRoom ≤ length (now out) ⌝ }
     ensures { λ r. ⌜ TablesAside session (λ l. settingsTurn calls l (readSettings (now (bytes .entry)))) (now (out .entry)) (now (out .exit)) r ⌝ }
 {
     match lines_reading::read_settings(bytes) {
@@ -133,7 +134,7 @@ pub fn turn(
     room: &mut [u64],
     out: &mut [u8],
 ) -> Turned
-    requires { ⌜ textMost ≤ length (now out) ⌝ }
+    requires { ⌜ mostAt (run .stage) ≤ length (now out) ⌝ }
     ensures { λ r. ⌜ TurnedAs (turnBy run (now (buys .entry)) (now (sells .entry)) (now (room .entry)) (now (bytes .entry))) (now (out .entry)) (now (buys .exit)) (now (sells .exit)) (now (room .exit)) (now (out .exit)) r × (r .used ≤ length (now (bytes .entry))) × (r .wrote ≤ length (now (out .entry))) ⌝ }
 {
     let stage = run.stage;

@@ -1,56 +1,50 @@
-use mathlib.Core.Path.{refl}
 use borrow.Author.Needs.{needs}
-use denote.Ref.{now}
-use Rattle.feed_law.proofs.Ending.{ended-short, ended-at}
+use Rattle.feed_law.proofs.Calls.{took-end}
 use Rattle.feed.proofs.lines.take_end.Statement.{statement}
 use Rattle.feed.proofs.lines.take_end.Tie as tie
-use Rattle.feed_law.specs.declared.Stage.{Stage}
+use Rattle.feed.proofs.lines.take_end.Reads as reads
+use Rattle.feed.proofs.lines.take_end.Lts as lts
+use Rattle.feed.proofs.lines.end_behind.Reads as end-behind-reads
+use Rattle.feed.proofs.lines.take_lines.Reads as take-lines-reads
 
-returns : tie.Need-returns
-returns c = ended-short (c .before .before .before .args .stage) (now (c .before .before .before .args .rest)) (now (c .before .before .before .args .out)) (c .if1 .taken)
+ruleset answers = (needs, took-end)
 
-enum-told : tie.Need-enum-told
-enum-told c = search needs
+-- src/lines.rt:181:9
+take-lines-requires : tie.Need-take-lines-requires
+take-lines-requires c κs = search answers
 
-tell-bad-requires : tie.Need-tell-bad-requires
-tell-bad-requires c κs = search needs
+-- src/lines.rt:182:5
+end-behind-requires : tie.Need-end-behind-requires
+end-behind-requires c κs = search answers
 
-enum-told-2 : tie.Need-enum-told-2
-enum-told-2 c = search needs
-
-tail-requires : tie.Need-tail-requires
-tail-requires c κs = search needs
-
-enum-told-3 : tie.Need-enum-told-3
-enum-told-3 c = search needs
-
+-- src/lines.rt:171:1
 same-length : tie.Need-same-length
-same-length c = search needs
+same-length c = search answers
 
-returns-2 : tie.Need-returns-2
-returns-2 c = ended-at (c .before .before .before .before .before .before .before .before .before .args .stage) (now (c .before .before .before .before .before .before .before .before .before .args .rest)) (now (c .before .before .before .before .before .before .before .before .before .args .out)) Stage.Awaiting (c .before .before .before .before .enum-told .given .1) (c .before .before .before .before .before .before .if1 .left) (c .before .before .tell-bad .ensures)
-
+-- src/lines.rt:171:1
 same-length-2 : tie.Need-same-length-2
-same-length-2 c = search needs
+same-length-2 c = search answers
 
-returns-3 : tie.Need-returns-3
-returns-3 c = ended-at (c .before .before .before .before .before .before .before .before .before .args .stage) (now (c .before .before .before .before .before .before .before .before .before .args .rest)) (now (c .before .before .before .before .before .before .before .before .before .args .out)) Stage.Trading (c .before .before .before .before .enum-told2 .given .1) (c .before .before .before .before .before .before .if1 .left) (c .before .before .tail .ensures)
+-- src/lines.rt:171:1
+same-length-3 : tie.Need-same-length-3
+same-length-3 c = search answers
 
-returns-4 : tie.Need-returns-4
-returns-4 c = ended-at (c .before .before .before .before .before .args .stage) (now (c .before .before .before .before .before .args .rest)) (now (c .before .before .before .before .before .args .out)) Stage.Over (c .enum-told3 .given .1) (c .before .before .if1 .left) (record { count = refl; laid = refl })
+-- src/lines.rt:171:1
+same-length-4 : tie.Need-same-length-4
+same-length-4 c = search answers
+
+-- src/lines.rt:171:1
+returns : tie.Need-returns
+returns c = took-end (c .before .before .before .before .before .before .before .before .before .before .before .before .take-lines .ensures) (search (needs, c .before .before .before .before .before .before .before .before .before .before .before .before .take-lines .kept)) (c .before .before .end-behind .ensures) (search (needs, c .before .before .before .before .before .before .before .before .before .before .before .before .take-lines .kept, c .before .before .end-behind .kept))
 
 pub take-end-spec : {M : Type 1} → statement M
 take-end-spec =
     tie.close
     (tie.spec
-    returns
-    enum-told
-    tell-bad-requires
-    enum-told-2
-    tail-requires
-    enum-told-3
+    take-lines-requires
+    end-behind-requires
     same-length
-    returns-2
     same-length-2
-    returns-3
-    returns-4)
+    same-length-3
+    same-length-4
+    returns)

@@ -22,6 +22,9 @@ loop-holds c = (going-start (now (c .before .before .before .before .before .arg
 sub-if1 : tie.Need-sub-if1 Inv-loop μ-loop
 sub-if1 c = search needs
 
+most-at-requires : tie.Need-most-at-requires Inv-loop μ-loop
+most-at-requires c κs = search needs
+
 taken-requires : tie.Need-taken-requires Inv-loop μ-loop
 taken-requires c κs = search needs
 
@@ -38,7 +41,7 @@ same-length-4 : tie.Need-same-length-4 Inv-loop μ-loop
 same-length-4 c = search needs
 
 returns : tie.Need-returns Inv-loop μ-loop
-returns c = going-full (c .before .before .before .loop .inv .0) (c .before .before .loop-test .taken) (c .before .if1 .taken) (c .taken .ensures)
+returns c = going-full (c .before .before .before .before .loop .inv .0) (c .before .before .before .loop-test .taken) (c .before .before .most-at .ensures) (c .before .if1 .taken) (c .taken .ensures)
 
 sub-turn : tie.Need-sub-turn Inv-loop μ-loop
 sub-turn c = search needs
@@ -62,7 +65,7 @@ turn-requires : tie.Need-turn-requires Inv-loop μ-loop
 turn-requires c κs = search needs
 
 add-wrote : tie.Need-add-wrote Inv-loop μ-loop
-add-wrote c = record { fits = lt-of-le-of-lt (line-fits (c .before .before .before .before .before .before .before .before .before .before .before .before .before .before .before .before .before .loop .inv .0) (c .before .before .before .before .before .before .before .before .before .before .before .before .before .before .before .before .loop-test .taken) (c .before .before .before .before .before .before .before .before .before .before .before .before .before .before .before .if1 .left) (c .before .before .before .before .before .before .before .before .before .turn .ensures .0) (search (needs, c .before .before .before .before .before .before .before .before .before .turn .kept))) (rw (c .before .before .before .before .before .before .before .before .before .before .before .before .before .before .before .before .before .loop .inv .0 .same) (search (needs, c .before .before .before .before .before .before .before .before .before .before .before .before .before .before .before .before .before .before .before .before .before .before .before .good .1))) }
+add-wrote c = record { fits = lt-of-le-of-lt (line-fits (c .before .before .before .before .before .before .before .before .before .before .before .before .before .before .before .before .before .before .loop .inv .0) (c .before .before .before .before .before .before .before .before .before .before .before .before .before .before .before .before .before .loop-test .taken) (c .before .before .before .before .before .before .before .before .before .before .before .before .before .before .before .before .most-at .ensures) (c .before .before .before .before .before .before .before .before .before .before .before .before .before .before .before .if1 .left) (c .before .before .before .before .before .before .before .before .before .turn .ensures .0) (search (needs, c .before .before .before .before .before .before .before .before .before .turn .kept))) (rw (c .before .before .before .before .before .before .before .before .before .before .before .before .before .before .before .before .before .before .loop .inv .0 .same) (search (needs, c .before .before .before .before .before .before .before .before .before .before .before .before .before .before .before .before .before .before .before .before .before .before .before .before .good .1))) }
 
 stop-at-requires : tie.Need-stop-at-requires Inv-loop μ-loop
 stop-at-requires c κs = search needs
@@ -71,28 +74,28 @@ taken-requires-2 : tie.Need-taken-requires-2 Inv-loop μ-loop
 taken-requires-2 c κs = search needs
 
 same-length-5 : tie.Need-same-length-5 Inv-loop μ-loop
-same-length-5 c = search (needs, c .before .before .before .before .before .before .before .before .before .before .before .before .turn .kept, c .before .before .before .before .before .before .before .before .before .before .before .before .before .before .before .before .before .before .before .before .loop .inv .1)
+same-length-5 c = search (needs, c .before .before .before .before .before .before .before .before .before .before .before .before .turn .kept, c .before .before .before .before .before .before .before .before .before .before .before .before .before .before .before .before .before .before .before .before .before .loop .inv .1)
 
 same-length-6 : tie.Need-same-length-6 Inv-loop μ-loop
-same-length-6 c = search (needs, c .before .before .before .before .before .before .before .before .before .before .before .before .turn .kept, c .before .before .before .before .before .before .before .before .before .before .before .before .before .before .before .before .before .before .before .before .loop .inv .2)
+same-length-6 c = search (needs, c .before .before .before .before .before .before .before .before .before .before .before .before .turn .kept, c .before .before .before .before .before .before .before .before .before .before .before .before .before .before .before .before .before .before .before .before .before .loop .inv .2)
 
 same-length-7 : tie.Need-same-length-7 Inv-loop μ-loop
-same-length-7 c = search (needs, c .before .before .before .before .before .before .before .before .before .before .before .before .turn .kept, c .before .before .before .before .before .before .before .before .before .before .before .before .before .before .before .before .before .before .before .before .loop .inv .3)
+same-length-7 c = search (needs, c .before .before .before .before .before .before .before .before .before .before .before .before .turn .kept, c .before .before .before .before .before .before .before .before .before .before .before .before .before .before .before .before .before .before .before .before .before .loop .inv .3)
 
 same-length-8 : tie.Need-same-length-8 Inv-loop μ-loop
-same-length-8 c = search (needs, c .before .before .before .before .before .before .before .before .before .before .before .before .turn .kept, c .before .before .before .before .before .before .before .before .before .before .before .before .before .before .before .before .before .before .before .before .loop .inv .0 .same)
+same-length-8 c = search (needs, c .before .before .before .before .before .before .before .before .before .before .before .before .turn .kept, c .before .before .before .before .before .before .before .before .before .before .before .before .before .before .before .before .before .before .before .before .before .loop .inv .0 .same)
 
 returns-2 : tie.Need-returns-2 Inv-loop μ-loop
-returns-2 c = going-last (c .before .before .before .before .before .before .before .before .before .before .before .before .before .before .before .before .before .before .before .before .loop .inv .0) (c .before .before .before .before .before .before .before .before .before .before .before .before .before .before .before .before .before .before .before .loop-test .taken) (c .before .before .before .before .before .before .before .before .before .before .before .before .before .before .before .before .before .before .if1 .left) (c .before .before .before .before .before .before .before .before .before .before .before .before .turn .ensures .0) (c .before .before .if2 .taken) (c .before .stop-at .ensures) (c .taken2 .ensures)
+returns-2 c = going-last (c .before .before .before .before .before .before .before .before .before .before .before .before .before .before .before .before .before .before .before .before .before .loop .inv .0) (c .before .before .before .before .before .before .before .before .before .before .before .before .before .before .before .before .before .before .before .before .loop-test .taken) (c .before .before .before .before .before .before .before .before .before .before .before .before .before .before .before .before .before .before .before .most-at .ensures) (c .before .before .before .before .before .before .before .before .before .before .before .before .before .before .before .before .before .before .if1 .left) (c .before .before .before .before .before .before .before .before .before .before .before .before .turn .ensures .0) (c .before .before .if2 .taken) (c .before .stop-at .ensures) (c .taken2 .ensures)
 
 add-at : tie.Need-add-at Inv-loop μ-loop
-add-at c = record { fits = lt-of-le-of-lt (line-within (c .before .before .before .before .before .before .before .before .before .before .before .before .before .before .before .before .before .before .loop .inv .0) (c .before .before .before .before .before .before .before .before .before .before .before .before .before .before .before .before .before .loop-test .taken) (c .before .before .before .before .before .before .before .before .before .before .before .before .before .before .before .before .if1 .left) (c .before .before .before .before .before .before .before .before .before .before .turn .ensures .0)) (search (needs, c .before .before .before .before .before .before .before .before .before .before .before .before .before .before .before .before .before .before .before .before .before .before .before .before .good .1)) }
+add-at c = record { fits = lt-of-le-of-lt (line-within (c .before .before .before .before .before .before .before .before .before .before .before .before .before .before .before .before .before .before .before .loop .inv .0) (c .before .before .before .before .before .before .before .before .before .before .before .before .before .before .before .before .before .before .loop-test .taken) (c .before .before .before .before .before .before .before .before .before .before .before .before .before .before .before .before .before .most-at .ensures) (c .before .before .before .before .before .before .before .before .before .before .before .before .before .before .before .before .if1 .left) (c .before .before .before .before .before .before .before .before .before .before .turn .ensures .0)) (search (needs, c .before .before .before .before .before .before .before .before .before .before .before .before .before .before .before .before .before .before .before .before .before .before .before .before .before .good .1)) }
 
 loop-less : tie.Need-loop-less Inv-loop μ-loop
 loop-less c = search needs
 
 loop-again : tie.Need-loop-again Inv-loop μ-loop
-loop-again c = (going-on (c .before .before .before .before .before .before .before .before .before .before .before .before .before .before .before .before .before .before .loop .inv .0) (c .before .before .before .before .before .before .before .before .before .before .before .before .before .before .before .before .before .loop-test .taken) (c .before .before .before .before .before .before .before .before .before .before .before .before .before .before .before .before .if1 .left) (c .before .before .before .before .before .before .before .before .before .before .turn .ensures .0) (c .if2 .left) (search (needs, c .before .before .before .before .before .before .before .before .before .before .turn .kept)), search (needs, c .before .before .before .before .before .before .before .before .before .before .turn .kept), search (needs, c .before .before .before .before .before .before .before .before .before .before .turn .kept), search (needs, c .before .before .before .before .before .before .before .before .before .before .turn .kept))
+loop-again c = (going-on (c .before .before .before .before .before .before .before .before .before .before .before .before .before .before .before .before .before .before .before .loop .inv .0) (c .before .before .before .before .before .before .before .before .before .before .before .before .before .before .before .before .before .before .loop-test .taken) (c .before .before .before .before .before .before .before .before .before .before .before .before .before .before .before .before .before .most-at .ensures) (c .before .before .before .before .before .before .before .before .before .before .before .before .before .before .before .before .if1 .left) (c .before .before .before .before .before .before .before .before .before .before .turn .ensures .0) (c .if2 .left) (search (needs, c .before .before .before .before .before .before .before .before .before .before .turn .kept)), search (needs, c .before .before .before .before .before .before .before .before .before .before .turn .kept), search (needs, c .before .before .before .before .before .before .before .before .before .before .turn .kept), search (needs, c .before .before .before .before .before .before .before .before .before .before .turn .kept))
 
 stop-at-requires-2 : tie.Need-stop-at-requires-2 Inv-loop μ-loop
 stop-at-requires-2 c κs = search needs
@@ -123,6 +126,7 @@ while-room-spec =
     μ-loop
     loop-holds
     sub-if1
+    most-at-requires
     taken-requires
     same-length
     same-length-2

@@ -2,7 +2,7 @@ use mathlib.Core.Path.{refl}
 use borrow.Author.Needs.{needs}
 use denote.Ref.{now}
 use Rattle.feed_law.proofs.Going.{bounded}
-use Rattle.feed_law.proofs.Taking.{in-stage, stays-over}
+use Rattle.feed_law.proofs.Taking.{most-awaiting, most-trading, in-stage, stays-over}
 use Rattle.feed_turns.proofs.turns.turn.Statement.{statement}
 use Rattle.feed_turns.proofs.turns.turn.Tie as tie
 use Rattle.feed_law.specs.declared.Stage.{Stage}
@@ -11,13 +11,13 @@ enum-told : tie.Need-enum-told
 enum-told c = search needs
 
 settings-line-requires : tie.Need-settings-line-requires
-settings-line-requires c κs = search needs
+settings-line-requires c κs = search (needs, most-awaiting)
 
 enum-told-2 : tie.Need-enum-told-2
 enum-told-2 c = search needs
 
 event-line-requires : tie.Need-event-line-requires
-event-line-requires c κs = search needs
+event-line-requires c κs = search (needs, most-trading)
 
 enum-told-3 : tie.Need-enum-told-3
 enum-told-3 c = search needs
