@@ -10,6 +10,9 @@ use records::ReadRecord;
 use terms::Refusal;
 use terms::sizes;
 ghost use mathlib.Core.Path.{_≡_};
+ghost use mathlib.Core.List.{[]};
+ghost use Rattle.lines_writing_law.specs.Writes.{lineVerdict};
+ghost use Rattle.desk_answers.specs.Answers.{answerOf};
 ghost use Rattle.desk_law.specs.Reads.{EventReadInto, SettingsReadInto};
 ghost use Rattle.desk_law.specs.Writes.{wroteNumber, Few, SettingsWrittenOn, EventWrittenOn, ReportWrittenOn};
 
@@ -62,7 +65,17 @@ pub extern "C" fn kakoludar_read_settings(line: &[u8], settings: &mut [u64]) -> 
     }
 }
 
-// Writes the line of a report, from its record: the bytes written, or a refusal.
+// Numbers that are no report's have no line: none is written, and the room is judged as for any line.
+fn no_line(line: &[u8]) -> u64
+    ensures { λ r. ⌜ r ≡ answerOf (lineVerdict (now (line .entry)) []) 0 ⌝ }
+{
+    if line.len() < sizes::LINE {
+        return desk_answers::refused(Refusal::SmallLineRoom);
+    }
+    desk_answers::done(0)
+}
+
+// Writes the line of a report, from its record: the bytes written, none for numbers that are no report's, or a refusal.
 #[no_mangle]
 pub extern "C" fn kakoludar_write_report(report: &[u64], line: &mut [u8]) -> u64
     ensures { λ r. ⌜ ReportWrittenOn (now (report .entry)) (now (line .entry)) (now (line .exit)) r ⌝ }
@@ -75,7 +88,7 @@ pub extern "C" fn kakoludar_write_report(report: &[u64], line: &mut [u8]) -> u64
             let w = lines_writing_reports::write_report(p, line);
             wrote(w)
         }
-        ReadRecord::Nothing => desk_answers::refused(Refusal::NumberRange),
+        ReadRecord::Nothing => no_line(line),
     }
 }
 

@@ -1,14 +1,15 @@
 // The calls on text: session lines in, report lines out, between them a run of numbers that an app keeps.
-use crate::lines::wrote;
 use feed::lines;
 use feed_law::Run;
 use feed_law::Stop;
+use feed_law::Taken;
 use terms::Refusal;
 ghost use mathlib.Core.Path.{_≡_};
 ghost use Prim.Native.Nat.{_≤_};
 ghost use lib.ListN.{length};
 ghost use Rattle.desk_runs.specs.Runs.{runLength};
-ghost use Rattle.desk_law.specs.Feeding.{StartedAs, countsLength, stopNumber, isRefusal, LaidAfter, FedAs, EndedOn};
+ghost use Rattle.feed_law.specs.Feeds.{fedOf, endedOf};
+ghost use Rattle.desk_law.specs.Feeding.{StartedAs, countsLength, stopNumber, isRefusal, LaidAfter, LaidTaken, FedAs};
 
 pub const COUNTS: usize = 2;
 
@@ -57,6 +58,23 @@ fn lay_after(run: &mut [u64], counts: &mut [u64], after: Run, used: usize, wrote
     counts[1] = wrote as u64;
 }
 
+// Lays where the run stands after some lines and both counts, unless they were refused; answers why no further line was taken.
+fn lay_taken(run: &mut [u64], counts: &mut [u64], t: Taken) -> u64
+    requires { ⌜ (runLength ≤ length (now run)) × (countsLength ≤ length (now counts)) ⌝ }
+    ensures { λ r. ⌜ LaidTaken (now (run .entry)) (now (counts .entry)) t (now (run .exit)) (now (counts .exit)) r ⌝ }
+{
+    let stop = t.stop;
+    let after = t.run;
+    let used = t.used;
+    let told = t.wrote;
+    let answer = answer_to(stop);
+    if is_refusal(stop) {
+        return answer;
+    }
+    lay_after(run, counts, after, used, told);
+    answer
+}
+
 // Takes the whole lines of some bytes and prints what they say. Answers why it took no more; the counts are the bytes taken and the
 // bytes printed. A refusal writes nothing.
 #[no_mangle]
@@ -69,7 +87,7 @@ pub extern "C" fn kakoludar_feed(
     out: &mut [u8],
     counts: &mut [u64],
 ) -> u64
-    ensures { λ r. ⌜ FedAs (now (run .entry)) (now (bytes .entry)) (now (buys .entry)) (now (sells .entry)) (now (room .entry)) (now (out .entry)) (now (counts .entry)) (now (run .exit)) (now (buys .exit)) (now (sells .exit)) (now (room .exit)) (now (out .exit)) (now (counts .exit)) r ⌝ }
+    ensures { λ r. ⌜ FedAs fedOf (now (run .entry)) (now (bytes .entry)) (now (buys .entry)) (now (sells .entry)) (now (room .entry)) (now (out .entry)) (now (counts .entry)) (now (run .exit)) (now (buys .exit)) (now (sells .exit)) (now (room .exit)) (now (out .exit)) (now (counts .exit)) r ⌝ }
 {
     if run.len() < desk_runs::RUN {
         return desk_answers::refused(Refusal::SmallRoom);
@@ -79,28 +97,29 @@ pub extern "C" fn kakoludar_feed(
     }
     let before = desk_runs::unpack(run);
     let taken = lines::take_lines(before, bytes, buys, sells, room, out);
-    let after = taken.run;
-    let used = taken.used;
-    let told = taken.wrote;
-    let stop = taken.stop;
-    let answer = answer_to(stop);
-    if is_refusal(stop) {
-        return answer;
-    }
-    lay_after(run, counts, after, used, told);
-    answer
+    lay_taken(run, counts, taken)
 }
 
-// The end of the input, with the bytes that are left of it: the bytes printed.
+// The same with the last bytes of the input: where no whole line is left, the end is told and the run is over.
 #[no_mangle]
-pub extern "C" fn kakoludar_end(run: &[u64], rest: &[u8], out: &mut [u8]) -> u64
-    ensures { λ r. ⌜ EndedOn (now (run .entry)) (now (rest .entry)) (now (out .entry)) (now (out .exit)) r ⌝ }
+pub extern "C" fn kakoludar_end(
+    run: &mut [u64],
+    bytes: &[u8],
+    buys: &mut [u64],
+    sells: &mut [u64],
+    room: &mut [u64],
+    out: &mut [u8],
+    counts: &mut [u64],
+) -> u64
+    ensures { λ r. ⌜ FedAs endedOf (now (run .entry)) (now (bytes .entry)) (now (buys .entry)) (now (sells .entry)) (now (room .entry)) (now (out .entry)) (now (counts .entry)) (now (run .exit)) (now (buys .exit)) (now (sells .exit)) (now (room .exit)) (now (out .exit)) (now (counts .exit)) r ⌝ }
 {
     if run.len() < desk_runs::RUN {
         return desk_answers::refused(Refusal::SmallRoom);
     }
+    if counts.len() < COUNTS {
+        return desk_answers::refused(Refusal::SmallRoom);
+    }
     let before = desk_runs::unpack(run);
-    let stage = before.stage;
-    let w = lines::take_end(stage, rest, out);
-    wrote(w)
+    let taken = lines::take_end(before, bytes, buys, sells, room, out);
+    lay_taken(run, counts, taken)
 }

@@ -25,14 +25,16 @@ pub start-determined : StartDetermined
 start-determined run run₁ run₂ r₁ r₂ a b = (a .answer ∙ sym (b .answer), a .laid ∙ sym (b .laid))
 
 pub feed-determined : FeedDetermined
-feed-determined run bytes buys sells room out counts run₁ buys₁ sells₁ room₁ out₁ counts₁ run₂ buys₂ sells₂ room₂ out₂ counts₂ r₁ r₂ a b = (
-  record {
-    answer = a .answer ∙ sym (b .answer);
-    kept = a .kept ∙ sym (b .kept);
-    bought = a .bought ∙ sym (b .bought);
-    sold = a .sold ∙ sym (b .sold);
-    told = a .told ∙ sym (b .told);
-  },
-  a .printed ∙ sym (b .printed),
-  a .counted ∙ sym (b .counted),
-)
+feed-determined of run bytes buys sells room out counts run₁ buys₁ sells₁ room₁ out₁ counts₁ run₂ buys₂ sells₂ room₂ out₂ counts₂ r₁ r₂ x y =
+    let a = x .left in
+    let b = y .left in (
+      record {
+        answer = a .answer ∙ sym (b .answer);
+        kept = a .kept ∙ sym (b .kept);
+        bought = a .bought ∙ sym (b .bought);
+        sold = a .sold ∙ sym (b .sold);
+        told = a .told ∙ sym (b .told);
+      },
+      a .printed ∙ sym (b .printed),
+      a .counted ∙ sym (b .counted),
+    )

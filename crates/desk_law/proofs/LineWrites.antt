@@ -3,24 +3,26 @@ use Prim.Native.Nat.{ℕ, _≤_, _<_}
 use native.Mathlib.Omega.{arith}
 use mathlib.Core.Path.{_≡_, refl, ap, _∙_}
 use mathlib.Core.Bool.{Bool, true, false, not}
-use mathlib.Core.List.{List}
-use borrow.Author.Tests.{lt-ltb, le-ltb, not-true, not-false}
+use mathlib.Core.List.{List, []}
+use borrow.Author.Tests.{lt-ltb, le-ltb, lt-leb, le-leb, not-true, not-false}
 use lib.ListN.{length, getD, take, drop}
 use Rattle.terms.specs.declared.Event.{Event}
 use Rattle.terms.specs.declared.Refusal.{Refusal}
-use Rattle.terms.specs.declared.Refusal.the-variants.{SmallRoom, NumberRange, SettingsRange}
+use Rattle.terms.specs.declared.Refusal.the-variants.{SmallRoom, NumberRange, SettingsRange, SmallLineRoom}
 use Rattle.terms.specs.declared.Report.{Report}
 use Rattle.terms.specs.declared.Settings.{Settings}
 use Rattle.terms.specs.declared.Verdict.{Verdict}
 use Rattle.terms.specs.declared.Verdict.the-variants.{Fine, Refused}
-use Rattle.terms.specs.Sizes.{recordLength}
+use Rattle.terms.specs.Sizes.{recordLength, lineRoom}
+use Rattle.terms.specs.Refusals.{firstFailed}
+use Rattle.lines_text_law.specs.Numerals.{allWritable}
 use Rattle.lines_reading_law.specs.Lines.{renderEvent, renderSettings, eventNumbers, settingsNumbers}
 use Rattle.records.specs.declared.ReadRecord.{ReadRecord}
 use Rattle.records.specs.Back.{RecordRead}
 use Rattle.records.proofs.Told.{told-right, told-only, six-at}
 use Rattle.lines_writing_law.specs.declared.Wrote.{Wrote}
 use Rattle.lines_writing_law.specs.Lines.{renderReport, reportNumbers}
-use Rattle.lines_writing_law.specs.Writes.{lineVerdict, wroteOf, Writes}
+use Rattle.lines_writing_law.specs.Writes.{lineVerdict, wroteOf, roomOf, Writes}
 use Rattle.desk_packing.specs.declared.events.FoundEvent.{FoundEvent}
 use Rattle.desk_packing.specs.Runs.{settingsLength, eventLength}
 use Rattle.desk_packing.specs.Settings.{isCategory, settingsFrom}
@@ -94,6 +96,20 @@ event-few e room room′ w p = writes-few room (renderEvent e) (eventNumbers e) 
 
 -- ---- reports
 
+-- no line leaves the room as it was, whatever the verdict
+none-written : (v : Verdict) (room : List ℕ) → room ≡ roomOf v [] room
+none-written Fine room = refl
+none-written (Refused r) room = refl
+
+module _ (room : List ℕ) (r : ℕ) where
+  pub no-line-short : length room < lineRoom → r ≡ answerOf (Refused SmallLineRoom) 0 → r ≡ answerOf (lineVerdict room []) 0
+  unfolding lineVerdict firstFailed
+  no-line-short h x = rw (lt-leb lineRoom (length room) h) x
+
+  pub no-line-done : lineRoom ≤ length room → r ≡ answerOf Fine 0 → r ≡ answerOf (lineVerdict room []) 0
+  unfolding lineVerdict firstFailed allWritable
+  no-line-done h x = rw (le-leb lineRoom (length room) h) x
+
 -- what the reader of records finds is what the definition computes
 report-is : (run : List ℕ) (o : ReadRecord) → recordLength ≤ length run → RecordRead (take recordLength (drop 0 run)) o → o ≡ reportIn run
 unfolding reportIn
@@ -107,9 +123,10 @@ module _ (run room : List ℕ) (r : ℕ) where
   report-no-run h x = refused-on _ SmallRoom _ room r (rw (lt-ltb (length run) recordLength h)) x
 
   module _ (h : recordLength ≤ length run) (o : ReadRecord) (k : RecordRead (take recordLength (drop 0 run)) o) where
-    pub report-none : o ≡ ReadRecord.Nothing → r ≡ answerOf (Refused NumberRange) 0 → ReportWrittenOn run room room r
+    pub report-none : o ≡ ReadRecord.Nothing → r ≡ answerOf (lineVerdict room []) 0 → ReportWrittenOn run room room r
     unfolding reportVerdictOn
-    report-none t x = refused-on _ NumberRange _ room r (rw (le-ltb (length run) recordLength h, ← report-is run o h k, t)) x
+    report-none t x =
+        rw (le-ltb (length run) recordLength h, ← report-is run o h k, t) (record { answer = x; laid = none-written (lineVerdict room []) room })
 
     pub report-written : (p : Report) (w : Wrote) (room′ : List ℕ) → o ≡ ReadRecord.Told p → Writes room (renderReport p) (reportNumbers p) w room′ →
         r ≡ wroteNumber w → ReportWrittenOn run room room′ r

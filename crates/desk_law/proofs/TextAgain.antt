@@ -1,17 +1,19 @@
--- TEXT IN PIECES: a run that a feed lays is the one that the next call finds; and a feed that is refused writes nothing. Assumes nothing.
-use Prim.Native.Nat.{ℕ, zero, suc, _-_, _≤_}
+-- TEXT IN PIECES: a run that a call lays is the one that the next call finds; and a call that is refused writes nothing.
+use Prim.Native.Nat.{ℕ, _-_, _≤_}
+use native.Mathlib.Omega.{arith}
 use mathlib.Core.Path.{_≡_, refl, sym, ap, _∙_}
 use mathlib.Core.Bool.{true, false, true≢false}
 use mathlib.Core.List.{List, [], _++_}
 use borrow.Author.Tests.{le-ltb}
-use lib.Dec.{ltb, eqb}
+use lib.Dec.{ltb}
 use lib.ListN.{length, drop}
 use Rattle.terms.specs.declared.Event.{Event}
 use Rattle.terms.specs.declared.Settings.{Settings}
 use Rattle.terms.specs.declared.Verdict.{Verdict}
 use Rattle.terms.specs.declared.Verdict.the-variants.{Fine, Refused}
+use Rattle.terms.specs.declared.Refusal.the-variants.{SmallRoom}
+use Rattle.terms.specs.Sizes.{lineRoom}
 use Rattle.terms.proofs.Logic.{by}
-use Rattle.tables.specs.Put.{put}
 use Rattle.lines_text_law.specs.Grammar.{Answer, whole, unfinished, wrong}
 use Rattle.lines_reading_law.specs.Answers.{readEvent, readSettings}
 use Rattle.state_law.specs.declared.Session.{Session}
@@ -22,14 +24,15 @@ use Rattle.engine_law.specs.Calls.{callVerdict, called}
 use Rattle.feed_law.specs.declared.Run.{Run}
 use Rattle.feed_law.specs.declared.Stage.{Stage}
 use Rattle.feed_law.specs.declared.Stop.{Stop}
-use Rattle.feed_law.specs.Texts.{textMost}
 use Rattle.feed_law.specs.Worlds.{Lent, lentOf, calls}
-use Rattle.feed_law.specs.Turns.{Turn, Fed, stopAt, turnOf, settingsTurn, eventTurn, printedFrom, fedIn}
-use Rattle.feed_law.specs.Feeds.{begun, feedVerdict, fedBy, fedOf}
-use Rattle.feed_law.proofs.Pieces.{pieces}
+use Rattle.feed_law.specs.Turns.{Fed, stopAt, halted, turnOf, settingsTurn, eventTurn, printedFrom, fedIn, endBy, endBehind}
+use Rattle.feed_law.specs.Pieces.{fedToEnd}
+use Rattle.feed_law.specs.Feeds.{begun, feedVerdict, linesOf, fedBy, fedOf, endedOf}
+use Rattle.feed_law.proofs.Going.{fed-by}
+use Rattle.feed_law.proofs.Pieces.{pieces, end-prints-rest}
 use Rattle.desk_packing.proofs.Inverse.{from-ten}
-use Rattle.desk_runs.specs.Runs.{runLength, runNumbers, isRun, runFrom}
-use Rattle.desk_law.specs.Feeding.{startVerdict, StartedAs, countsLength, isRefusal, laidBy, fedOn, runAfter, FedAs}
+use Rattle.desk_runs.specs.Runs.{runLength, isRun, runFrom}
+use Rattle.desk_law.specs.Feeding.{startVerdict, StartedAs, countsLength, isRefusal, fedOn, runAfter, FedAs}
 use Rattle.acts_law.proofs.Tens.{act-ten}
 use Rattle.state_law.specs.Tens.{Ten}
 use Rattle.state_law.proofs.Tens.{fixed-ten, opening-ten}
@@ -66,56 +69,37 @@ turn-ten Stage.Awaiting l bytes t = settings-ten l (readSettings bytes) t
 turn-ten Stage.Trading l bytes t = event-ten l (readEvent bytes) t
 turn-ten Stage.Over l bytes t = t
 
-fed-ten : (n left : ℕ) (stage : Stage) (l : Lent) (bytes : List ℕ) → Ten (l .session) → Ten (fedIn calls n left stage l bytes .world .session)
-unfolding fedIn
-fed-ten zero left stage l bytes t = t
-fed-ten (suc n) left stage l bytes t =
-    let P : Fed Lent → Type 0 = λ f. Ten (f .world .session) in
-    let u : Turn Lent = turnOf calls stage l bytes in
-    let v = turn-ten stage l bytes t in
-    by P (ltb 0 (length bytes)) _ _
-    (λ _. by P (ltb left textMost) _ _ (λ _. t)
-    (λ _. by P (eqb (u .used) 0) _ _ (λ _. v) (λ _. fed-ten n (left - length (u .text)) (u .stage) (u .world) (drop (u .used) bytes) v)))
-    (λ _. t)
+fed-ten : (left : ℕ) (stage : Stage) (l : Lent) (bytes : List ℕ) → Ten (l .session) → Ten (fedIn calls (length bytes) left stage l bytes .world .session)
+fed-ten left stage l bytes =
+    fed-by calls (λ left stage l xs f. Ten (l .session) → Ten (f .world .session)) (λ left stage l xs h t. t) (λ left stage l xs h t. t)
+    (λ left stage l xs h z t. turn-ten stage l xs t) (λ left stage l xs f u k t. k (turn-ten stage l xs t)) (length bytes) left stage l bytes (omega arith)
 
-of-ten : (run : Run) (buys sells room bytes out : List ℕ) → Ten (run .session) → Ten (fedOf run buys sells room bytes out .world .session)
-unfolding fedOf
-of-ten run buys sells room bytes out t = go (feedVerdict buys sells room out)
-  where
-    go : (v : Verdict) → Ten (fedBy v run (lentOf (run .session) buys sells room) bytes (length out) .world .session)
-    go Fine = fed-ten (length bytes) (length out) (run .stage) (lentOf (run .session) buys sells room) bytes t
-    go (Refused r) = t
+-- the end moves no session
+end-world : (s : Stop) (left rest : ℕ) (f : Fed Lent) → endBy calls s left rest f .world ≡ f .world
+end-world Stop.Waits left rest f = by (λ (x : Fed Lent). x .world ≡ f .world) (ltb left lineRoom) _ _ (λ _. refl) (λ _. refl)
+end-world Stop.Full left rest f = refl
+end-world Stop.Over left rest f = refl
+end-world (Stop.Refused r) left rest f = refl
 
--- ---- what is laid is found
+-- ---- a call never refuses what has its tables and its room
 
-laid-where : (s : Stop) (ns old : List ℕ) → isRefusal s ≡ false → laidBy s ns old ≡ put old 0 ns
-laid-where Stop.Waits ns old e = refl
-laid-where Stop.Full ns old e = refl
-laid-where Stop.Over ns old e = refl
-laid-where (Stop.Refused r) ns old e = absurd (true≢false e)
-
-pub started-again : (run run′ : List ℕ) (r : ℕ) → runLength ≤ length run → StartedAs run run′ r → runFrom run′ ≡ begun
-unfolding startVerdict
-started-again run run′ r h o = ap runFrom (o .laid) ∙ rw (le-ltb (length run) runLength h) (run-laid-back run begun fixed-ten)
-
--- ---- a refusal writes nothing
-
--- a feed that has its lines is never refused
 stop-fine : (stage : Stage) → isRefusal (stopAt stage) ≡ false
 stop-fine Stage.Awaiting = refl
 stop-fine Stage.Trading = refl
 stop-fine Stage.Over = refl
 
-never : (n left : ℕ) (stage : Stage) (l : Lent) (bytes : List ℕ) → isRefusal (fedIn calls n left stage l bytes .stop) ≡ false
-unfolding fedIn
-never zero left stage l bytes = stop-fine stage
-never (suc n) left stage l bytes =
-    let P : Fed Lent → Type 0 = λ f. isRefusal (f .stop) ≡ false in
-    let u : Turn Lent = turnOf calls stage l bytes in
-    by P (ltb 0 (length bytes)) _ _
-    (λ _. by P (ltb left textMost) _ _ (λ _. refl)
-    (λ _. by P (eqb (u .used) 0) _ _ (λ _. stop-fine (u .stage)) (λ _. never n (left - length (u .text)) (u .stage) (u .world) (drop (u .used) bytes))))
-    (λ _. stop-fine stage)
+fed-fine : (left : ℕ) (stage : Stage) (l : Lent) (bytes : List ℕ) → isRefusal (fedIn calls (length bytes) left stage l bytes .stop) ≡ false
+fed-fine left stage l bytes =
+    fed-by calls (λ left stage l xs f. isRefusal (f .stop) ≡ false) (λ left stage l xs h. stop-fine stage) (λ left stage l xs h. refl)
+    (λ left stage l xs h z. stop-fine (turnOf calls stage l xs .stage)) (λ left stage l xs f u k. k) (length bytes) left stage l bytes (omega arith)
+
+end-fine : (s : Stop) (left rest : ℕ) (f : Fed Lent) → isRefusal (f .stop) ≡ false → isRefusal (endBy calls s left rest f .stop) ≡ false
+end-fine Stop.Waits left rest f e = by (λ (x : Fed Lent). isRefusal (x .stop) ≡ false) (ltb left lineRoom) _ _ (λ _. refl) (λ _. refl)
+end-fine Stop.Full left rest f e = e
+end-fine Stop.Over left rest f e = e
+end-fine (Stop.Refused r) left rest f e = e
+
+-- ---- what both calls have in common: they move a session of ten to one of ten; and a refusal leaves all as it was
 
 -- what is lent is as it was, and nothing is printed
 pub record Idle (buys sells room : List ℕ) (f : Fed Lent) : Type 0 where
@@ -124,86 +108,169 @@ pub record Idle (buys sells room : List ℕ) (f : Fed Lent) : Type 0 where
   pub told : f .world .room ≡ room
   pub silent : f .text ≡ []
 
-of-idle : (run : Run) (buys sells room bytes out : List ℕ) → isRefusal (fedOf run buys sells room bytes out .stop) ≡ true →
-    Idle buys sells room (fedOf run buys sells room bytes out)
+pub record Calls (of : Run → List ℕ → List ℕ → List ℕ → List ℕ → List ℕ → Fed Lent) : Type 0 where
+  pub ten : (run : Run) (buys sells room bytes out : List ℕ) → Ten (run .session) → Ten (of run buys sells room bytes out .world .session)
+  pub idle : (run : Run) (buys sells room bytes out : List ℕ) → isRefusal (of run buys sells room bytes out .stop) ≡ true →
+      Idle buys sells room (of run buys sells room bytes out)
+
+pub feed-calls : Calls fedOf
 unfolding fedOf
-of-idle run buys sells room bytes out = go (feedVerdict buys sells room out)
+feed-calls =
+    record {
+      ten = λ run buys sells room bytes out. ten run buys sells room bytes out (feedVerdict buys sells room);
+      idle = λ run buys sells room bytes out. idle run buys sells room bytes out (feedVerdict buys sells room);
+    }
   where
-    go : (v : Verdict) → isRefusal (fedBy v run (lentOf (run .session) buys sells room) bytes (length out) .stop) ≡ true →
-        Idle buys sells room (fedBy v run (lentOf (run .session) buys sells room) bytes (length out))
-    go Fine e = absurd (true≢false (sym e ∙ never (length bytes) (length out) (run .stage) (lentOf (run .session) buys sells room) bytes))
-    go (Refused r) e = record { bought = refl; sold = refl; told = refl; silent = refl }
+    ten : (run : Run) (buys sells room bytes out : List ℕ) (v : Verdict) → Ten (run .session) → Ten (fedBy v run buys sells room bytes out .world .session)
+    ten run buys sells room bytes out Fine t = fed-ten (length out) (run .stage) (lentOf (run .session) buys sells room) bytes t
+    ten run buys sells room bytes out (Refused r) t = t
+    idle : (run : Run) (buys sells room bytes out : List ℕ) (v : Verdict) → isRefusal (fedBy v run buys sells room bytes out .stop) ≡ true →
+        Idle buys sells room (fedBy v run buys sells room bytes out)
+    idle run buys sells room bytes out Fine e =
+        absurd (true≢false (sym e ∙ fed-fine (length out) (run .stage) (lentOf (run .session) buys sells room) bytes))
+    idle run buys sells room bytes out (Refused r) e = record { bought = refl; sold = refl; told = refl; silent = refl }
 
-on-idle : (run bytes buys sells room out counts : List ℕ) → isRefusal (fedOn run bytes buys sells room out counts .stop) ≡ true →
-    Idle buys sells room (fedOn run bytes buys sells room out counts)
-unfolding fedOn
-on-idle run bytes buys sells room out counts =
-    let P : Fed Lent → Type 0 = λ f. isRefusal (f .stop) ≡ true → Idle buys sells room f in
-    by P (ltb (length run) runLength) _ _ (λ _ _. record { bought = refl; sold = refl; told = refl; silent = refl })
-    (λ _. by P (ltb (length counts) countsLength) _ _ (λ _ _. record { bought = refl; sold = refl; told = refl; silent = refl })
-    (λ _. of-idle (runFrom run) buys sells room bytes out))
-
-laid-unless : (s : Stop) (ns old : List ℕ) → isRefusal s ≡ true → laidBy s ns old ≡ old
-laid-unless Stop.Waits ns old e = absurd (true≢false (sym e))
-laid-unless Stop.Full ns old e = absurd (true≢false (sym e))
-laid-unless Stop.Over ns old e = absurd (true≢false (sym e))
-laid-unless (Stop.Refused r) ns old e = refl
-
--- what is not refused is the lines of the bytes
-of-lines : (run : Run) (buys sells room bytes out : List ℕ) → isRefusal (fedOf run buys sells room bytes out .stop) ≡ false →
-    fedOf run buys sells room bytes out ≡ fedIn calls (length bytes) (length out) (run .stage) (lentOf (run .session) buys sells room) bytes
-unfolding fedOf
-of-lines run buys sells room bytes out = go (feedVerdict buys sells room out)
+pub end-calls : Calls endedOf
+unfolding endedOf endBehind
+end-calls =
+    record {
+      ten = λ run buys sells room bytes out t.
+          let f : Fed Lent = fedOf run buys sells room bytes out in
+          rw (end-world (f .stop) (length out - length (f .text)) (length bytes - f .used) f) (feed-calls .ten run buys sells room bytes out t);
+      idle = λ run buys sells room bytes out e.
+          let f : Fed Lent = fedOf run buys sells room bytes out in
+          end-idle (f .stop) (length out - length (f .text)) (length bytes - f .used) f refl e (λ q. feed-calls .idle run buys sells room bytes out q);
+    }
   where
-    go : (v : Verdict) → isRefusal (fedBy v run (lentOf (run .session) buys sells room) bytes (length out) .stop) ≡ false →
-        fedBy v run (lentOf (run .session) buys sells room) bytes (length out)
-        ≡ fedIn calls (length bytes) (length out) (run .stage) (lentOf (run .session) buys sells room) bytes
-    go Fine e = refl
-    go (Refused r) e = absurd (true≢false e)
+    end-idle : {buys sells room : List ℕ} (s : Stop) (left rest : ℕ) (f : Fed Lent) → f .stop ≡ s → isRefusal (endBy calls s left rest f .stop) ≡ true →
+        (isRefusal (f .stop) ≡ true → Idle buys sells room f) → Idle buys sells room (endBy calls s left rest f)
+    end-idle Stop.Waits left rest f q e k = absurd (true≢false (sym e ∙ end-fine Stop.Waits left rest f (ap isRefusal q)))
+    end-idle Stop.Full left rest f q e k = k e
+    end-idle Stop.Over left rest f q e k = k e
+    end-idle (Stop.Refused r) left rest f q e k = k e
+
+-- ---- what is laid is found
+
+pub started-again : (run run′ : List ℕ) (r : ℕ) → runLength ≤ length run → StartedAs run run′ r → runFrom run′ ≡ begun
+unfolding startVerdict
+started-again run run′ r h o = ap runFrom (o .laid) ∙ rw (le-ltb (length run) runLength h) (run-laid-back run begun fixed-ten)
+
+module _ (of : Run → List ℕ → List ℕ → List ℕ → List ℕ → List ℕ → Fed Lent) (law : Calls of)
+    (run bytes buys sells room out counts run′ buys′ sells′ room′ out′ counts′ : List ℕ) (r : ℕ)
+    (p : FedAs of run bytes buys sells room out counts run′ buys′ sells′ room′ out′ counts′ r) where
+  abbrev fed : Fed Lent
+  fed = fedOn of run bytes buys sells room out counts
+
+  on-lines : runLength ≤ length run → countsLength ≤ length counts → fed ≡ of (runFrom run) buys sells room bytes out
+  unfolding fedOn
+  on-lines h k = rw (le-ltb (length run) runLength h, le-ltb (length counts) countsLength k)
+
+  -- the run that a call lays is the one that the next call finds
+  pub fed-again : runLength ≤ length run → countsLength ≤ length counts → isRefusal (fed .stop) ≡ false →
+      runFrom run′ ≡ runAfter (of (runFrom run) buys sells room bytes out)
+  fed-again h k e =
+      let i = on-lines h k in
+      let t : Ten (fed .world .session) = rw i (law .ten (runFrom run) buys sells room bytes out (run-ten run)) in
+      ap runFrom (p .left .kept ∙ rw e) ∙ (run-laid-back run (runAfter fed) t ∙ ap runAfter i)
+
+  on-idle : isRefusal (fed .stop) ≡ true → Idle buys sells room fed
+  unfolding fedOn
+  on-idle =
+      let P : Fed Lent → Type 0 = λ f. isRefusal (f .stop) ≡ true → Idle buys sells room f in
+      let none : Idle buys sells room (halted calls (Stop.Refused SmallRoom) (runFrom run .stage) (lentOf (runFrom run .session) buys sells room)) =
+      record { bought = refl; sold = refl; told = refl; silent = refl } in
+      by P (ltb (length run) runLength) _ _ (λ _ _. none)
+      (λ _. by P (ltb (length counts) countsLength) _ _ (λ _ _. none) (λ _. law .idle (runFrom run) buys sells room bytes out))
+
+  -- a refusal writes nothing
+  pub refusal-writes-nothing : isRefusal (fed .stop) ≡ true →
+      (run′ ≡ run) × (buys′ ≡ buys) × (sells′ ≡ sells) × (room′ ≡ room) × (out′ ≡ out) × (counts′ ≡ counts)
+  refusal-writes-nothing e =
+      let i = on-idle e in
+      let l = p .left in (
+        l .kept ∙ rw e,
+        l .bought ∙ i .bought,
+        l .sold ∙ i .sold,
+        l .told ∙ i .told,
+        l .printed ∙ rw (i .silent),
+        l .counted ∙ rw e,
+      )
+
+-- ---- text in pieces
 
 -- all that is printed for some bytes by a run that is kept as numbers
 abbrev pub printedBy : List ℕ → List ℕ → List ℕ → List ℕ → List ℕ → List ℕ
 printedBy run buys sells room bytes = printedFrom calls (runFrom run .stage) (lentOf (runFrom run .session) buys sells room) bytes
 
-fed-on : (run bytes buys sells room out counts : List ℕ) → runLength ≤ length run → countsLength ≤ length counts →
-    fedOn run bytes buys sells room out counts ≡ fedOf (runFrom run) buys sells room bytes out
-unfolding fedOn
-fed-on run bytes buys sells room out counts h k = rw (le-ltb (length run) runLength h, le-ltb (length counts) countsLength k)
+-- what is not refused is the lines of the bytes
+of-lines : (run : Run) (buys sells room bytes out : List ℕ) → isRefusal (fedOf run buys sells room bytes out .stop) ≡ false →
+    fedOf run buys sells room bytes out ≡ linesOf run buys sells room bytes out
+unfolding fedOf
+of-lines run buys sells room bytes out = go (feedVerdict buys sells room)
+  where
+    go : (v : Verdict) → isRefusal (fedBy v run buys sells room bytes out .stop) ≡ false → fedBy v run buys sells room bytes out ≡ linesOf run buys sells room bytes out
+    go Fine e = refl
+    go (Refused r) e = absurd (true≢false e)
 
-module _ (run bytes buys sells room out counts run′ buys′ sells′ room′ out′ counts′ : List ℕ) (r : ℕ)
-    (p : FedAs run bytes buys sells room out counts run′ buys′ sells′ room′ out′ counts′ r) where
-  abbrev fed : Fed Lent
-  fed = fedOn run bytes buys sells room out counts
+module _ (run bytes buys sells room out counts run′ buys′ sells′ room′ out′ counts′ : List ℕ) (r : ℕ) (h : runLength ≤ length run)
+    (k : countsLength ≤ length counts) where
+  abbrev start : Run
+  start = runFrom run
 
-  pub fed-again : runLength ≤ length run → countsLength ≤ length counts → isRefusal (fed .stop) ≡ false →
-      runFrom run′ ≡ runAfter (fedOf (runFrom run) buys sells room bytes out)
-  fed-again h k e =
-      let i : fed ≡ fedOf (runFrom run) buys sells room bytes out = fed-on run bytes buys sells room out counts h k in
-      let t : Ten (fed .world .session) = rw i (of-ten (runFrom run) buys sells room bytes out (run-ten run)) in
-      ap runFrom (p .kept ∙ laid-where (fed .stop) (runNumbers (runAfter fed)) run e) ∙ (run-laid-back run (runAfter fed) t ∙ ap runAfter i)
+  module _ (of : Run → List ℕ → List ℕ → List ℕ → List ℕ → List ℕ → Fed Lent) (law : Calls of)
+      (p : FedAs of run bytes buys sells room out counts run′ buys′ sells′ room′ out′ counts′ r)
+      (fine : isRefusal (fedOn of run bytes buys sells room out counts .stop) ≡ false) where
+    abbrev f : Fed Lent
+    f = of start buys sells room bytes out
+
+    is-f : fedOn of run bytes buys sells room out counts ≡ f
+    is-f = on-lines of law run bytes buys sells room out counts run′ buys′ sells′ room′ out′ counts′ r p h k
+
+    found : runFrom run′ ≡ runAfter f
+    found = fed-again of law run bytes buys sells room out counts run′ buys′ sells′ room′ out′ counts′ r p h k fine
+
+    -- where the next call finds the run, and what it is lent
+    next-stage : runFrom run′ .stage ≡ f .stage
+    next-stage = ap (λ (x : Run). x .stage) found
+
+    next-lent : lentOf (runFrom run′ .session) buys′ sells′ room′ ≡ f .world
+    next-lent =
+        let l = p .left in
+        rw (ap (λ (x : Run). x .session) found, l .bought, l .sold, l .told, is-f)
 
   -- what a feed prints, and what is then printed for the bytes that are left and those that follow, is what is printed for all of them
-  pub fed-pieces : runLength ≤ length run → countsLength ≤ length counts → isRefusal (fed .stop) ≡ false → (more : List ℕ) →
-      printedBy run buys sells room (bytes ++ more) ≡ fed .text ++ printedBy run′ buys′ sells′ room′ (drop (fed .used) bytes ++ more)
-  fed-pieces h k e more =
-      let start : Run = runFrom run in
-      let f : Fed Lent = fedIn calls (length bytes) (length out) (start .stage) (lentOf (start .session) buys sells room) bytes in
-      let i : fed ≡ fedOf start buys sells room bytes out = fed-on run bytes buys sells room out counts h k in
-      let j : fed ≡ f = i ∙ of-lines start buys sells room bytes out (rw i at e) in
-      let g : runFrom run′ ≡ runAfter fed = fed-again h k e ∙ ap runAfter (sym i) in
-      let s : runFrom run′ .stage ≡ f .stage = ap (λ (r : Run). r .stage) g ∙ ap (λ (x : Fed Lent). x .stage) j in
-      let w : lentOf (runFrom run′ .session) buys′ sells′ room′ ≡ f .world =
-      rw (ap (λ (r : Run). r .session) g, p .bought, p .sold, p .told) (ap (λ (x : Fed Lent). x .world) j) in
-      rw (s, w, j) (pieces calls (length bytes) (length out) (start .stage) (lentOf (start .session) buys sells room) bytes more)
+  pub fed-pieces : FedAs fedOf run bytes buys sells room out counts run′ buys′ sells′ room′ out′ counts′ r →
+      isRefusal (fedOn fedOf run bytes buys sells room out counts .stop) ≡ false → (more : List ℕ) →
+      let g : Fed Lent = fedOf start buys sells room bytes out in
+      printedBy run buys sells room (bytes ++ more) ≡ g .text ++ printedBy run′ buys′ sells′ room′ (drop (g .used) bytes ++ more)
+  fed-pieces p fine more =
+      let j = of-lines start buys sells room bytes out (rw (is-f fedOf feed-calls p fine) at fine) in
+      rw (next-stage fedOf feed-calls p fine, next-lent fedOf feed-calls p fine, j)
+      (pieces calls (length out) (start .stage) (lentOf (start .session) buys sells room) bytes more)
 
-  pub refusal-writes-nothing : isRefusal (fed .stop) ≡ true →
-      (run′ ≡ run) × (buys′ ≡ buys) × (sells′ ≡ sells) × (room′ ≡ room) × (out′ ≡ out) × (counts′ ≡ counts)
-  refusal-writes-nothing e =
-      let i = on-idle run bytes buys sells room out counts e in (
-        p .kept ∙ laid-unless (fed .stop) _ run e,
-        p .bought ∙ i .bought,
-        p .sold ∙ i .sold,
-        p .told ∙ i .told,
-        p .printed ∙ rw (i .silent),
-        p .counted ∙ laid-unless (fed .stop) _ counts e,
-      )
+  -- an end that is not refused is the end behind the lines of the bytes
+  end-lines : isRefusal (endedOf start buys sells room bytes out .stop) ≡ false →
+      endedOf start buys sells room bytes out ≡ fedToEnd calls (length out) (start .stage) (lentOf (start .session) buys sells room) bytes
+  unfolding endedOf endBehind
+  end-lines e =
+      let f : Fed Lent = fedOf start buys sells room bytes out in
+      ap (λ (x : Fed Lent). endBehind calls (length out) (length bytes) x)
+      (of-lines start buys sells room bytes out (before (f .stop) (length out - length (f .text)) (length bytes - f .used) f refl e))
+    where
+      before : (s : Stop) (left rest : ℕ) (f : Fed Lent) → f .stop ≡ s → isRefusal (endBy calls s left rest f .stop) ≡ false → isRefusal (f .stop) ≡ false
+      before Stop.Waits left rest f q e = ap isRefusal q
+      before Stop.Full left rest f q e = e
+      before Stop.Over left rest f q e = e
+      before (Stop.Refused r) left rest f q e = e
+
+  -- what the end prints, and what is then printed for the bytes that are left, is what is printed for all of them; and unless the room is
+  -- to be emptied first, nothing is left to be printed
+  pub ended-prints : FedAs endedOf run bytes buys sells room out counts run′ buys′ sells′ room′ out′ counts′ r →
+      isRefusal (fedOn endedOf run bytes buys sells room out counts .stop) ≡ false →
+      let g : Fed Lent = endedOf start buys sells room bytes out in
+      (printedBy run buys sells room bytes ≡ g .text ++ printedBy run′ buys′ sells′ room′ (drop (g .used) bytes))
+      × ((g .stop ≡ Stop.Full → ⊥) → (g .stop ≡ Stop.Over) × (printedBy run′ buys′ sells′ room′ (drop (g .used) bytes) ≡ []))
+  ended-prints p fine =
+      let j = end-lines (rw (is-f endedOf end-calls p fine) at fine) in
+      rw (next-stage endedOf end-calls p fine, next-lent endedOf end-calls p fine, j)
+      (end-prints-rest calls (length out) (start .stage) (lentOf (start .session) buys sells room) bytes)

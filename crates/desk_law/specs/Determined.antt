@@ -4,6 +4,9 @@ use mathlib.Core.Path.{_≡_}
 use mathlib.Core.List.{List}
 use Rattle.terms.specs.declared.Verdict.{Verdict}
 use Rattle.lines_text_law.specs.Grammar.{Answer}
+use Rattle.feed_law.specs.declared.Run.{Run}
+use Rattle.feed_law.specs.Worlds.{Lent}
+use Rattle.feed_law.specs.Turns.{Fed}
 use Rattle.desk_law.specs.Calls.{OpenedAs, AppliedOn}
 use Rattle.desk_law.specs.Reads.{ReadInto}
 use Rattle.desk_law.specs.Writes.{WrittenOn}
@@ -33,7 +36,7 @@ ReadDetermined =
     (E : Type 0) (numbers : E → List ℕ) (n : ℕ) (a : Answer E) (run run₁ run₂ : List ℕ) (r₁ r₂ : ℕ) →
     ReadInto numbers n a run run₁ r₁ → ReadInto numbers n a run run₂ r₂ → (r₁ ≡ r₂) × (run₁ ≡ run₂)
 
--- `kakoludar_write_settings`, `kakoludar_write_event`, `kakoludar_write_report` and `kakoludar_end`
+-- `kakoludar_write_settings`, `kakoludar_write_event` and `kakoludar_write_report`
 abbrev pub WriteDetermined : Type 0
 WriteDetermined =
     (v : Verdict) (line room room₁ room₂ : List ℕ) (r₁ r₂ : ℕ) → WrittenOn v line room room₁ r₁ → WrittenOn v line room room₂ r₂ → (r₁ ≡ r₂) × (room₁ ≡ room₂)
@@ -42,10 +45,11 @@ WriteDetermined =
 abbrev pub StartDetermined : Type 0
 StartDetermined = (run run₁ run₂ : List ℕ) (r₁ r₂ : ℕ) → StartedAs run run₁ r₁ → StartedAs run run₂ r₂ → (r₁ ≡ r₂) × (run₁ ≡ run₂)
 
--- `kakoludar_feed`: the answer, and all six slices that it may write
+-- `kakoludar_feed` and `kakoludar_end`: the answer, and all six slices that they may write
 abbrev pub FeedDetermined : Type 0
 FeedDetermined =
+    (of : Run → List ℕ → List ℕ → List ℕ → List ℕ → List ℕ → Fed Lent)
     (run bytes buys sells room out counts run₁ buys₁ sells₁ room₁ out₁ counts₁ run₂ buys₂ sells₂ room₂ out₂ counts₂ : List ℕ) (r₁ r₂ : ℕ) →
-    FedAs run bytes buys sells room out counts run₁ buys₁ sells₁ room₁ out₁ counts₁ r₁ →
-    FedAs run bytes buys sells room out counts run₂ buys₂ sells₂ room₂ out₂ counts₂ r₂ →
+    FedAs of run bytes buys sells room out counts run₁ buys₁ sells₁ room₁ out₁ counts₁ r₁ →
+    FedAs of run bytes buys sells room out counts run₂ buys₂ sells₂ room₂ out₂ counts₂ r₂ →
     Coincide run₁ buys₁ sells₁ room₁ run₂ buys₂ sells₂ room₂ r₁ r₂ × (out₁ ≡ out₂) × (counts₁ ≡ counts₂)

@@ -11,14 +11,13 @@ use Rattle.terms.specs.declared.Verdict.the-variants.{Fine, Refused}
 use Rattle.tables.specs.Put.{put}
 use Rattle.feed_law.specs.declared.Run.{Run}
 use Rattle.feed_law.specs.declared.Stop.{Stop}
-use Rattle.feed_law.specs.Texts.{endText}
+use Rattle.feed_law.specs.declared.Taken.{Taken}
 use Rattle.feed_law.specs.Worlds.{Lent, lentOf, calls}
 use Rattle.feed_law.specs.Turns.{Fed, halted}
-use Rattle.feed_law.specs.Feeds.{laid, begun, fedOf, endVerdict}
+use Rattle.feed_law.specs.Feeds.{laid, begun}
 use Rattle.desk_answers.specs.Answers.{answerNumber, answerOf}
 use Rattle.desk_law.specs.Calls.{whereLong}
 use Rattle.desk_runs.specs.Runs.{runLength, runNumbers, runFrom}
-use Rattle.desk_law.specs.Writes.{WrittenOn}
 
 -- ---- start
 
@@ -34,7 +33,7 @@ pub record StartedAs (run run′ : List ℕ) (r : ℕ) : Type 0 where
   pub answer : r ≡ answerOf (startVerdict run) 0
   pub laid : run′ ≡ startedBy (startVerdict run) run
 
--- ---- feed
+-- ---- feed and end
 
 -- two counts: the bytes taken, and the bytes printed
 abbrev pub countsLength : ℕ
@@ -55,21 +54,24 @@ isRefusal (Stop.Refused r) = true
 
 -- numbers that are laid anew, but by a refusal, which writes nothing
 abbrev pub laidBy : Stop → List ℕ → List ℕ → List ℕ
-laidBy Stop.Waits ns old = put old 0 ns
-laidBy Stop.Full ns old = put old 0 ns
-laidBy Stop.Over ns old = put old 0 ns
-laidBy (Stop.Refused r) ns old = old
+laidBy s ns old = cond (isRefusal s) old (put old 0 ns)
 
 -- where a run stands after some lines, and both counts
 pub record LaidAfter (run counts : List ℕ) (after : Run) (used wrote : ℕ) (run′ counts′ : List ℕ) : Type 0 where
   pub kept : run′ ≡ put run 0 (runNumbers after)
   pub counted : counts′ ≡ put counts 0 (used ∷ wrote ∷ [])
 
+-- the same for lines that were taken, unless they were refused; and the answer
+pub record LaidTaken (run counts : List ℕ) (t : Taken) (run′ counts′ : List ℕ) (r : ℕ) : Type 0 where
+  pub answer : r ≡ stopNumber (t .stop)
+  pub kept : run′ ≡ laidBy (t .stop) (runNumbers (t .run)) run
+  pub counted : counts′ ≡ laidBy (t .stop) (t .used ∷ t .wrote ∷ []) counts
+
 -- what the bytes come to, on the run that the numbers are of; a short run of numbers is a short table
-unfoldable pub fedOn : List ℕ → List ℕ → List ℕ → List ℕ → List ℕ → List ℕ → List ℕ → Fed Lent
-fedOn run bytes buys sells room out counts =
+unfoldable pub fedOn : (Run → List ℕ → List ℕ → List ℕ → List ℕ → List ℕ → Fed Lent) → List ℕ → List ℕ → List ℕ → List ℕ → List ℕ → List ℕ → List ℕ → Fed Lent
+fedOn of run bytes buys sells room out counts =
     whereLong run runLength counts countsLength
-    (fedOf (runFrom run) buys sells room bytes out)
+    (of (runFrom run) buys sells room bytes out)
     (halted calls (Stop.Refused SmallRoom) (runFrom run .stage) (lentOf (runFrom run .session) buys sells room))
 
 -- where the run stands afterwards
@@ -86,16 +88,7 @@ pub record FedLeft (f : Fed Lent) (run out counts run′ buys′ sells′ room�
   pub printed : out′ ≡ laid out (f .text)
   pub counted : counts′ ≡ laidBy (f .stop) (f .used ∷ length (f .text) ∷ []) counts
 
-abbrev pub FedAs : List ℕ → List ℕ → List ℕ → List ℕ → List ℕ → List ℕ → List ℕ → List ℕ → List ℕ → List ℕ → List ℕ → List ℕ → List ℕ → ℕ → Type 0
-FedAs run bytes buys sells room out counts run′ buys′ sells′ room′ out′ counts′ r =
-    FedLeft (fedOn run bytes buys sells room out counts) run out counts run′ buys′ sells′ room′ out′ counts′ r
-
--- ---- end
-
--- 1 for a short run, then 16
-unfoldable pub endVerdictOn : List ℕ → List ℕ → Verdict
-endVerdictOn run out = cond (ltb (length run) runLength) (Refused SmallRoom) (endVerdict out)
-
--- what the end of the input prints, with the bytes that were left
-abbrev pub EndedOn : List ℕ → List ℕ → List ℕ → List ℕ → ℕ → Type 0
-EndedOn run rest out out′ r = WrittenOn (endVerdictOn run out) (endText (runFrom run .stage) (length rest)) out out′ r
+-- THE CONTRACT of `kakoludar_feed`, where it is `fedOf`, and of `kakoludar_end`, where it is `endedOf`
+pub record FedAs (of : Run → List ℕ → List ℕ → List ℕ → List ℕ → List ℕ → Fed Lent)
+    (run bytes buys sells room out counts run′ buys′ sells′ room′ out′ counts′ : List ℕ) (r : ℕ) : Type 0 where
+  pub left : FedLeft (fedOn of run bytes buys sells room out counts) run out counts run′ buys′ sells′ room′ out′ counts′ r

@@ -59,14 +59,14 @@ eventVerdictOn run room = cond (ltb (length run) eventLength) (Refused SmallRoom
 abbrev pub EventWrittenOn : List ℕ → List ℕ → List ℕ → ℕ → Type 0
 EventWrittenOn run room room′ r = WrittenOn (eventVerdictOn run room) (renderEvent (eventFrom run)) room room′ r
 
--- ---- a report, from its record: 1 for a short run, 4 where the numbers are no report's, then 16 and 17
+-- ---- a report, from its record: 1 for a short run, then 16 and 17. Numbers that are no report's have no line: none is written
 
 unfoldable pub reportIn : List ℕ → ReadRecord
 reportIn ns = reportFrom (getD ns 0 0) (getD ns 1 0) (getD ns 2 0) (getD ns 3 0) (getD ns 4 0) (getD ns 5 0)
 
 abbrev pub toldVerdict : ReadRecord → List ℕ → Verdict
 toldVerdict (ReadRecord.Told p) room = lineVerdict room (reportNumbers p)
-toldVerdict ReadRecord.Nothing room = Refused NumberRange
+toldVerdict ReadRecord.Nothing room = lineVerdict room []
 
 abbrev pub toldLine : ReadRecord → List ℕ
 toldLine (ReadRecord.Told p) = renderReport p

@@ -12,7 +12,6 @@ use Rattle.tables.specs.Put.{put}
 use Rattle.feed_law.specs.declared.Run.{Run}
 use Rattle.feed_law.specs.declared.Stage.{Stage}
 use Rattle.feed_law.specs.declared.Stop.{Stop}
-use Rattle.feed_law.specs.Texts.{textMost}
 use Rattle.feed_law.specs.Worlds.{Lent, calls}
 use Rattle.feed_law.specs.Turns.{Fed, halted, fedIn}
 use Rattle.state_law.specs.Tens.{Ten}
@@ -65,9 +64,9 @@ pub no-run-over : (ns : List ℕ) → isRun ns ≡ false → runFrom ns ≡ over
 unfolding runFrom
 no-run-over ns h = rw h
 
--- a run that is over takes no byte and prints none
-pub over-silent : (l : Lent) (bytes : List ℕ) (n left : ℕ) → textMost ≤ left → fedIn calls n left Stage.Over l bytes ≡ halted calls Stop.Over Stage.Over l
+-- a run that is over takes no byte and prints none, however short the output room
+pub over-silent : (l : Lent) (bytes : List ℕ) (n left : ℕ) → fedIn calls n left Stage.Over l bytes ≡ halted calls Stop.Over Stage.Over l
 unfolding fedIn
-over-silent l bytes zero left h = refl
-over-silent l bytes (suc n) left h =
-    rw (le-ltb left textMost h) (by (λ (f : Fed Lent). f ≡ halted calls Stop.Over Stage.Over l) (ltb 0 (length bytes)) _ _ (λ e. refl) (λ e. refl))
+over-silent l bytes zero left = refl
+over-silent l bytes (suc n) left =
+    rw (le-ltb left 0 (omega arith)) (by (λ (f : Fed Lent). f ≡ halted calls Stop.Over Stage.Over l) (ltb 0 (length bytes)) _ _ (λ e. refl) (λ e. refl))

@@ -25,14 +25,17 @@ wrote-requires c κs = search report-few
 enum-told : tie.Need-enum-told
 enum-told c = search needs
 
-refused-requires-2 : tie.Need-refused-requires-2
-refused-requires-2 c κs = search needs
+no-line-requires : tie.Need-no-line-requires
+no-line-requires c κs = search needs
 
 same-length : tie.Need-same-length
 same-length c = search needs
 
 returns-2 : tie.Need-returns-2
 returns-2 c = search report-written
+
+same-length-2 : tie.Need-same-length-2
+same-length-2 c = search needs
 
 returns-3 : tie.Need-returns-3
 returns-3 c = search report-none
@@ -48,7 +51,8 @@ kakoludar-write-report-spec =
     write-report-requires
     wrote-requires
     enum-told
-    refused-requires-2
+    no-line-requires
     same-length
     returns-2
+    same-length-2
     returns-3)

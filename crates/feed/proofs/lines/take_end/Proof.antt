@@ -2,38 +2,27 @@ use borrow.Author.Needs.{needs}
 use Rattle.feed_law.proofs.Calls.{took-end}
 use Rattle.feed.proofs.lines.take_end.Statement.{statement}
 use Rattle.feed.proofs.lines.take_end.Tie as tie
-use Rattle.feed.proofs.lines.take_end.Reads as reads
-use Rattle.feed.proofs.lines.take_end.Lts as lts
-use Rattle.feed.proofs.lines.end_behind.Reads as end-behind-reads
-use Rattle.feed.proofs.lines.take_lines.Reads as take-lines-reads
 
 ruleset answers = (needs, took-end)
 
--- src/lines.rt:181:9
 take-lines-requires : tie.Need-take-lines-requires
 take-lines-requires c κs = search answers
 
--- src/lines.rt:182:5
 end-behind-requires : tie.Need-end-behind-requires
 end-behind-requires c κs = search answers
 
--- src/lines.rt:171:1
 same-length : tie.Need-same-length
 same-length c = search answers
 
--- src/lines.rt:171:1
 same-length-2 : tie.Need-same-length-2
 same-length-2 c = search answers
 
--- src/lines.rt:171:1
 same-length-3 : tie.Need-same-length-3
 same-length-3 c = search answers
 
--- src/lines.rt:171:1
 same-length-4 : tie.Need-same-length-4
 same-length-4 c = search answers
 
--- src/lines.rt:171:1
 returns : tie.Need-returns
 returns c = took-end (c .before .before .before .before .before .before .before .before .before .before .before .before .take-lines .ensures) (search (needs, c .before .before .before .before .before .before .before .before .before .before .before .before .take-lines .kept)) (c .before .before .end-behind .ensures) (search (needs, c .before .before .before .before .before .before .before .before .before .before .before .before .take-lines .kept, c .before .before .end-behind .kept))
 
