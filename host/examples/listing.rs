@@ -35,7 +35,7 @@ fn main() {
     assert_eq!(out, EXPECTED, "these are not the lines of the paper");
     eprintln!("the paper's 13 lines");
 
-    // the same day by values: its third event meets the order that the first left
+    // the same day by values: its second event meets the order that its first left
     let (settings, _) = read_settings(INPUT).expect("a settings line");
     let mut day = Session::open(&settings).expect("good settings");
     let sell = Act::Order { side: Side::Sell, kind: Kind::Limit(10_150), life: Life::Day, lots: 4 };
