@@ -27,9 +27,10 @@ use Rattle.feed_law.specs.declared.Stop.{Stop}
 use Rattle.feed_law.specs.Worlds.{Lent, lentOf, calls}
 use Rattle.feed_law.specs.Turns.{Fed, stopAt, halted, turnOf, settingsTurn, eventTurn, printedFrom, fedIn, endBy, endBehind}
 use Rattle.feed_law.specs.Pieces.{fedToEnd}
-use Rattle.feed_law.specs.Feeds.{begun, feedVerdict, linesOf, fedBy, fedOf, endedOf}
+use Rattle.feed_law.specs.Feeds.{Feed, begun, feedVerdict, linesOf, fedBy, fedOf, endedOf}
 use Rattle.feed_law.proofs.Going.{fed-by}
 use Rattle.feed_law.proofs.Pieces.{pieces, end-prints-rest}
+use Rattle.feed_law.proofs.Starts.{end-world}
 use Rattle.desk_packing.proofs.Inverse.{from-ten}
 use Rattle.desk_runs.specs.Runs.{runLength, isRun, runFrom}
 use Rattle.desk_law.specs.Feeding.{startVerdict, StartedAs, countsLength, isRefusal, fedOn, runAfter, FedAs}
@@ -74,13 +75,6 @@ fed-ten left stage l bytes =
     fed-by calls (λ left stage l xs f. Ten (l .session) → Ten (f .world .session)) (λ left stage l xs h t. t) (λ left stage l xs h t. t)
     (λ left stage l xs h z t. turn-ten stage l xs t) (λ left stage l xs f u k t. k (turn-ten stage l xs t)) (length bytes) left stage l bytes (omega arith)
 
--- the end moves no session
-end-world : (s : Stop) (left rest : ℕ) (f : Fed Lent) → endBy calls s left rest f .world ≡ f .world
-end-world Stop.Waits left rest f = by (λ (x : Fed Lent). x .world ≡ f .world) (ltb left lineRoom) _ _ (λ _. refl) (λ _. refl)
-end-world Stop.Full left rest f = refl
-end-world Stop.Over left rest f = refl
-end-world (Stop.Refused r) left rest f = refl
-
 -- ---- a call never refuses what has its tables and its room
 
 stop-fine : (stage : Stage) → isRefusal (stopAt stage) ≡ false
@@ -108,7 +102,7 @@ pub record Idle (buys sells room : List ℕ) (f : Fed Lent) : Type 0 where
   pub told : f .world .room ≡ room
   pub silent : f .text ≡ []
 
-pub record Calls (of : Run → List ℕ → List ℕ → List ℕ → List ℕ → List ℕ → Fed Lent) : Type 0 where
+pub record Calls (of : Feed) : Type 0 where
   pub ten : (run : Run) (buys sells room bytes out : List ℕ) → Ten (run .session) → Ten (of run buys sells room bytes out .world .session)
   pub idle : (run : Run) (buys sells room bytes out : List ℕ) → isRefusal (of run buys sells room bytes out .stop) ≡ true →
       Idle buys sells room (of run buys sells room bytes out)
@@ -136,7 +130,7 @@ end-calls =
     record {
       ten = λ run buys sells room bytes out t.
           let f : Fed Lent = fedOf run buys sells room bytes out in
-          rw (end-world (f .stop) (length out - length (f .text)) (length bytes - f .used) f) (feed-calls .ten run buys sells room bytes out t);
+          rw (end-world calls (f .stop) (length out - length (f .text)) (length bytes - f .used) f) (feed-calls .ten run buys sells room bytes out t);
       idle = λ run buys sells room bytes out e.
           let f : Fed Lent = fedOf run buys sells room bytes out in
           end-idle (f .stop) (length out - length (f .text)) (length bytes - f .used) f refl e (λ q. feed-calls .idle run buys sells room bytes out q);
@@ -155,7 +149,7 @@ pub started-again : (run run′ : List ℕ) (r : ℕ) → runLength ≤ length r
 unfolding startVerdict
 started-again run run′ r h o = ap runFrom (o .laid) ∙ rw (le-ltb (length run) runLength h) (run-laid-back run begun fixed-ten)
 
-module _ (of : Run → List ℕ → List ℕ → List ℕ → List ℕ → List ℕ → Fed Lent) (law : Calls of)
+module _ (of : Feed) (law : Calls of)
     (run bytes buys sells room out counts run′ buys′ sells′ room′ out′ counts′ : List ℕ) (r : ℕ)
     (p : FedAs of run bytes buys sells room out counts run′ buys′ sells′ room′ out′ counts′ r) where
   abbrev fed : Fed Lent
@@ -217,7 +211,7 @@ module _ (run bytes buys sells room out counts run′ buys′ sells′ room′ o
   abbrev start : Run
   start = runFrom run
 
-  module _ (of : Run → List ℕ → List ℕ → List ℕ → List ℕ → List ℕ → Fed Lent) (law : Calls of)
+  module _ (of : Feed) (law : Calls of)
       (p : FedAs of run bytes buys sells room out counts run′ buys′ sells′ room′ out′ counts′ r)
       (fine : isRefusal (fedOn of run bytes buys sells room out counts .stop) ≡ false) where
     abbrev f : Fed Lent

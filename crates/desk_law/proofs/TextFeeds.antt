@@ -13,7 +13,7 @@ use Rattle.feed_law.specs.declared.Run.{Run}
 use Rattle.feed_law.specs.declared.Taken.{Taken}
 use Rattle.feed_law.specs.Worlds.{Lent}
 use Rattle.feed_law.specs.Turns.{Fed}
-use Rattle.feed_law.specs.Feeds.{begun, TakenAs, TakenBy}
+use Rattle.feed_law.specs.Feeds.{Feed, begun, TakenAs, TakenBy}
 use Rattle.desk_answers.specs.Answers.{answerOf}
 use Rattle.desk_runs.specs.Runs.{runLength, runNumbers, runFrom}
 use Rattle.desk_law.specs.Feeding.{startVerdict, StartedAs, countsLength, stopNumber, isRefusal, laidBy, LaidAfter, LaidTaken, fedOn, runAfter, FedAs}
@@ -54,7 +54,7 @@ module _ {run counts : List ℕ} {t : Taken} {r : ℕ} {refused : Bool} (q : ref
 
 -- ---- feed and end
 
-module _ {of : Run → List ℕ → List ℕ → List ℕ → List ℕ → List ℕ → Fed Lent} {run bytes buys sells room out counts : List ℕ} {r : ℕ} where
+module _ {of : Feed} {run bytes buys sells room out counts : List ℕ} {r : ℕ} where
   -- a short run of numbers
   pub feed-no-run : length run < runLength → r ≡ answerOf (Refused SmallRoom) 0 →
       FedAs of run bytes buys sells room out counts run buys sells room out counts r

@@ -6,7 +6,7 @@ use Rattle.terms.specs.declared.Verdict.{Verdict}
 use Rattle.lines_text_law.specs.Grammar.{Answer}
 use Rattle.feed_law.specs.declared.Run.{Run}
 use Rattle.feed_law.specs.Worlds.{Lent}
-use Rattle.feed_law.specs.Turns.{Fed}
+use Rattle.feed_law.specs.Feeds.{Feed}
 use Rattle.desk_law.specs.Calls.{OpenedAs, AppliedOn}
 use Rattle.desk_law.specs.Reads.{ReadInto}
 use Rattle.desk_law.specs.Writes.{WrittenOn}
@@ -48,7 +48,7 @@ StartDetermined = (run run₁ run₂ : List ℕ) (r₁ r₂ : ℕ) → StartedAs
 -- `kakoludar_feed` and `kakoludar_end`: the answer, and all six slices that they may write
 abbrev pub FeedDetermined : Type 0
 FeedDetermined =
-    (of : Run → List ℕ → List ℕ → List ℕ → List ℕ → List ℕ → Fed Lent)
+    (of : Feed)
     (run bytes buys sells room out counts run₁ buys₁ sells₁ room₁ out₁ counts₁ run₂ buys₂ sells₂ room₂ out₂ counts₂ : List ℕ) (r₁ r₂ : ℕ) →
     FedAs of run bytes buys sells room out counts run₁ buys₁ sells₁ room₁ out₁ counts₁ r₁ →
     FedAs of run bytes buys sells room out counts run₂ buys₂ sells₂ room₂ out₂ counts₂ r₂ →

@@ -14,7 +14,7 @@ use Rattle.feed_law.specs.declared.Stop.{Stop}
 use Rattle.feed_law.specs.declared.Taken.{Taken}
 use Rattle.feed_law.specs.Worlds.{Lent, lentOf, calls}
 use Rattle.feed_law.specs.Turns.{Fed, halted}
-use Rattle.feed_law.specs.Feeds.{laid, begun}
+use Rattle.feed_law.specs.Feeds.{Feed, laid, begun}
 use Rattle.desk_answers.specs.Answers.{answerNumber, answerOf}
 use Rattle.desk_law.specs.Calls.{whereLong}
 use Rattle.desk_runs.specs.Runs.{runLength, runNumbers, runFrom}
@@ -68,7 +68,7 @@ pub record LaidTaken (run counts : List ℕ) (t : Taken) (run′ counts′ : Lis
   pub counted : counts′ ≡ laidBy (t .stop) (t .used ∷ t .wrote ∷ []) counts
 
 -- what the bytes come to, on the run that the numbers are of; a short run of numbers is a short table
-unfoldable pub fedOn : (Run → List ℕ → List ℕ → List ℕ → List ℕ → List ℕ → Fed Lent) → List ℕ → List ℕ → List ℕ → List ℕ → List ℕ → List ℕ → List ℕ → Fed Lent
+unfoldable pub fedOn : Feed → List ℕ → List ℕ → List ℕ → List ℕ → List ℕ → List ℕ → List ℕ → Fed Lent
 fedOn of run bytes buys sells room out counts =
     whereLong run runLength counts countsLength
     (of (runFrom run) buys sells room bytes out)
@@ -89,6 +89,6 @@ pub record FedLeft (f : Fed Lent) (run out counts run′ buys′ sells′ room�
   pub counted : counts′ ≡ laidBy (f .stop) (f .used ∷ length (f .text) ∷ []) counts
 
 -- THE CONTRACT of `kakoludar_feed`, where it is `fedOf`, and of `kakoludar_end`, where it is `endedOf`
-pub record FedAs (of : Run → List ℕ → List ℕ → List ℕ → List ℕ → List ℕ → Fed Lent)
+pub record FedAs (of : Feed)
     (run bytes buys sells room out counts run′ buys′ sells′ room′ out′ counts′ : List ℕ) (r : ℕ) : Type 0 where
   pub left : FedLeft (fedOn of run bytes buys sells room out counts) run out counts run′ buys′ sells′ room′ out′ counts′ r

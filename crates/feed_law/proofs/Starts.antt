@@ -96,3 +96,10 @@ module _ {W : Type 0} (on : World W) where
   end-used Stop.Full left rest f = refl
   end-used Stop.Over left rest f = refl
   end-used (Stop.Refused r) left rest f = refl
+
+  -- nor does it act on anything
+  pub end-world : (s : Stop) (left rest : ℕ) (f : Fed W) → endBy on s left rest f .world ≡ f .world
+  end-world Stop.Waits left rest f = by (λ (x : Fed W). x .world ≡ f .world) (ltb left lineRoom) _ _ (λ _. refl) (λ _. refl)
+  end-world Stop.Full left rest f = refl
+  end-world Stop.Over left rest f = refl
+  end-world (Stop.Refused r) left rest f = refl

@@ -58,23 +58,27 @@ TablesAside s t out out′ r = (buys sells room : List ℕ) → TurnedAs (t (len
 
 -- ---- all lines
 
+-- what a run comes to with both tables, the report room, some bytes and the output room
+abbrev pub Feed : Type 0
+Feed = Run → List ℕ → List ℕ → List ℕ → List ℕ → List ℕ → Fed Lent
+
 -- 1: the tables and the room are long enough for any event
 unfoldable pub feedVerdict : List ℕ → List ℕ → List ℕ → Verdict
 feedVerdict buys sells room = firstFailed (unless SmallRoom (roomy buys sells room) ∷ [])
 
 -- the lines that there is room for
-abbrev pub linesOf : Run → List ℕ → List ℕ → List ℕ → List ℕ → List ℕ → Fed Lent
+abbrev pub linesOf : Feed
 linesOf run buys sells room bytes out = fedIn calls (length bytes) (length out) (run .stage) (lentOf (run .session) buys sells room) bytes
 
 abbrev pub fedBy : Verdict → Run → List ℕ → List ℕ → List ℕ → List ℕ → List ℕ → Fed Lent
 fedBy Fine run buys sells room bytes out = linesOf run buys sells room bytes out
 fedBy (Refused r) run buys sells room bytes out = halted calls (Stop.Refused r) (run .stage) (lentOf (run .session) buys sells room)
 
-unfoldable pub fedOf : Run → List ℕ → List ℕ → List ℕ → List ℕ → List ℕ → Fed Lent
+unfoldable pub fedOf : Feed
 fedOf run buys sells room bytes out = fedBy (feedVerdict buys sells room) run buys sells room bytes out
 
 -- and then the end of the input
-unfoldable pub endedOf : Run → List ℕ → List ℕ → List ℕ → List ℕ → List ℕ → Fed Lent
+unfoldable pub endedOf : Feed
 endedOf run buys sells room bytes out = endBehind calls (length out) (length bytes) (fedOf run buys sells room bytes out)
 
 -- what was answered and what every lent slice holds, each by an equation
@@ -86,7 +90,7 @@ pub record TakenAs (f : Fed Lent) (out buys′ sells′ room′ out′ : List �
   pub stop : r .stop ≡ f .stop
 
 -- THE CONTRACT of `take_lines`, where it is `fedOf`, and of `take_end`, where it is `endedOf`
-pub record TakenBy (of : Run → List ℕ → List ℕ → List ℕ → List ℕ → List ℕ → Fed Lent) (run : Run)
+pub record TakenBy (of : Feed) (run : Run)
     (buys sells room bytes out buys′ sells′ room′ out′ : List ℕ) (r : Taken) : Type 0 where
   pub taken : TakenAs (of run buys sells room bytes out) out buys′ sells′ room′ out′ r
   pub used-there : r .used ≤ length bytes

@@ -11,7 +11,7 @@ use Rattle.lines_reading_law.proofs.SettingsLines.{settings-only}
 use Rattle.records.proofs.Told.{told-only}
 use Rattle.lines_writing_law.proofs.Back.{writes-one}
 use Rattle.feed_law.specs.Worlds.{Lent, lentOf}
-use Rattle.promises.specs.Determined.{OpeningDetermined, ViewDetermined, ApplyDetermined, EventReadDetermined, SettingsReadDetermined, WriteDetermined, RecordReadDetermined, WalkDetermined, FeedDetermined, EndDetermined}
+use Rattle.promises.specs.Determined.{OpeningDetermined, ViewDetermined, ApplyDetermined, EventReadDetermined, SettingsReadDetermined, WriteDetermined, RecordReadDetermined, WalkDetermined, FeedDetermined}
 
 pub opening-determined : OpeningDetermined
 opening-determined g r r′ e f = e ∙ sym f
@@ -68,7 +68,9 @@ pub record-read-determined : RecordReadDetermined
 record-read-determined = told-only
 
 pub feed-determined : FeedDetermined
-feed-determined run buys sells room bytes out buys₁ sells₁ room₁ out₁ buys₂ sells₂ room₂ out₂ r₁ r₂ a b =
+feed-determined of run buys sells room bytes out buys₁ sells₁ room₁ out₁ buys₂ sells₂ room₂ out₂ r₁ r₂ x y =
+    let a = x .taken in
+    let b = y .taken in
     let w : lentOf (r₁ .run .session) buys₁ sells₁ room₁ ≡ lentOf (r₂ .run .session) buys₂ sells₂ room₂ = a .world ∙ sym (b .world) in
     record {
       stage = a .stage ∙ sym (b .stage);
@@ -81,6 +83,3 @@ feed-determined run buys sells room bytes out buys₁ sells₁ room₁ out₁ bu
       told = ap (λ (l : Lent). l .room) w;
       printed = a .printed .laid ∙ sym (b .printed .laid);
     }
-
-pub end-determined : EndDetermined
-end-determined stage rest out out₁ out₂ r₁ r₂ a b = (a .answer ∙ sym (b .answer), a .laid ∙ sym (b .laid))

@@ -3,11 +3,11 @@ use Prim.Native.Nat.{ℕ, zero, suc, _+_, _-_, _≤_}
 use native.Mathlib.Omega.{arith}
 use mathlib.Core.Path.{_≡_, refl, sym, ap, _∙_, subst}
 use mathlib.Core.Bool.{true, cond}
-use mathlib.Core.List.{List, _++_, append-assoc, append-nil}
+use mathlib.Core.List.{List, [], _++_, append-assoc, append-nil}
 use lib.ListN.{length, take, drop}
-use lib.Dec.{ltb, eqb}
+use lib.Dec.{eqb}
 use lib.Seq.{take-append-seam}
-use borrow.Author.Tests.{leb-true, ltb-true, ltb-false, eqb-true, eqb-false}
+use borrow.Author.Tests.{leb-true}
 use Rattle.terms.specs.declared.Event.{Event}
 use Rattle.terms.specs.declared.Settings.{Settings}
 use Rattle.terms.specs.declared.Order.{Order}
@@ -17,7 +17,7 @@ use Rattle.terms.specs.declared.Verdict.the-variants.{Fine, Refused}
 use Rattle.terms.specs.Sizes.{slots, tableLength, roomLength}
 use Rattle.terms.specs.Settings.{settingsVerdict}
 use Rattle.terms.specs.Records.{recordsOf}
-use Rattle.terms.proofs.Logic.{both, cases}
+use Rattle.terms.proofs.Logic.{both}
 use Rattle.terms.proofs.Cascade.{fine-first}
 use Rattle.tables.specs.Tables.{decode}
 use Rattle.tables.proofs.Puts.{length-put}
@@ -36,15 +36,16 @@ use Rattle.engine_law.proofs.Kept.{accepted-sound, outcome-few}
 use Rattle.engine_law.proofs.Applies.{called-outcome}
 use Rattle.feed_law.specs.declared.Run.{Run}
 use Rattle.feed_law.specs.declared.Stage.{Stage}
-use Rattle.feed_law.specs.declared.Stop.{Stop}
-use Rattle.feed_law.specs.Texts.{textMost, eventText, endText}
+use Rattle.feed_law.specs.Texts.{eventText, endText}
 use Rattle.feed_law.specs.Worlds.{Lent, lentOf, days, calls}
-use Rattle.feed_law.specs.Turns.{Turn, Fed, fedIn, settingsTurn, eventTurn, turnOf, printedIn, printedFrom, printed}
-use Rattle.feed_law.specs.Feeds.{TakenAs, feedVerdict, fedBy, fedOf}
-use Rattle.feed_law.proofs.Going.{fed-none, fed-full, fed-last, fed-ahead}
+use Rattle.feed_law.specs.Turns.{Turn, Fed, fedIn, endBehind, settingsTurn, eventTurn, turnOf, printedIn, printedFrom, printed}
+use Rattle.feed_law.specs.Pieces.{fedToEnd}
+use Rattle.feed_law.specs.Feeds.{Feed, TakenAs, feedVerdict, fedBy, fedOf, endedOf}
+use Rattle.feed_law.proofs.Going.{fed-by}
 use Rattle.feed_law.proofs.Pieces.{pieces, end-prints-rest}
+use Rattle.feed_law.proofs.Starts.{end-world}
 use Rattle.promises.specs.Runs.{Held}
-use Rattle.promises.specs.Printed.{Holding, atStart, dayOn, Piece, Handed, Feeding, FeedingPrints, EndPrints}
+use Rattle.promises.specs.Printed.{Holding, atStart, dayOn, Piece, Handed, Feeding, toPrint, FeedingPrints, EndPrints, ProgramPrints}
 use Rattle.promises.specs.Printed.Feeding.{ends, feeds}
 use Rattle.promises.proofs.Tables.{Left, outcome-day}
 
@@ -180,106 +181,114 @@ same-printed (suc n) stage l bytes h =
     s .text i
     ++ cond (eqb (s .used i) 0) (endText (s .stage i) (length bytes)) (printedIn days n (s .stage i) (s .day i) (drop (s .used i) bytes)))
 
-fed-long : (n left : ℕ) (stage : Stage) (l : Lent) (bytes : List ℕ) → Long l → Long (fedIn calls n left stage l bytes .world)
-unfolding fedIn
-fed-long zero left stage l bytes h = h
-fed-long (suc n) left stage l bytes h =
-    let t : Turn Lent = turnOf calls stage l bytes in
-    let P : Fed Lent → Type 0 = λ f. Long (f .world) in
-    cases (ltb 0 (length bytes))
-    (λ e.
-    let some = ltb-true 0 (length bytes) e in
-    cases (ltb left textMost)
-    (λ f. subst P (sym (fed-full calls n left stage l bytes some (ltb-true left textMost f))) h)
-    (λ f.
-    let wide = ltb-false left textMost f in
-    let k = turn-same stage l h bytes .long in
-    cases (eqb (t .used) 0)
-    (λ u. subst P (sym (fed-last calls n left stage l bytes some wide (eqb-true (t .used) 0 u))) k)
-    (λ u.
-    subst P (sym (fed-ahead calls n left stage l bytes some wide (eqb-false (t .used) 0 u)))
-    (fed-long n (left - length (t .text)) (t .stage) (t .world) (drop (t .used) bytes) k))))
-    (λ e. subst P (sym (fed-none calls (suc n) left stage l bytes (ltb-false 0 (length bytes) e))) h)
+fed-long : (left : ℕ) (stage : Stage) (l : Lent) (bytes : List ℕ) → Long l → Long (fedIn calls (length bytes) left stage l bytes .world)
+fed-long left stage l bytes =
+    fed-by calls (λ left stage l xs f. Long l → Long (f .world)) (λ left stage l xs e h. h) (λ left stage l xs e h. h)
+    (λ left stage l xs e z h. turn-same stage l h xs .long) (λ left stage l xs f u k h. k (turn-same stage l h xs .long)) (length bytes) left stage l bytes
+    (omega arith)
+
+end-long : (left : ℕ) (stage : Stage) (l : Lent) (bytes : List ℕ) → Long l → Long (fedToEnd calls left stage l bytes .world)
+unfolding endBehind
+end-long left stage l bytes h =
+    let f : Fed Lent = fedIn calls (length bytes) left stage l bytes in
+    rw (end-world calls (f .stop) (left - length (f .text)) (length bytes - f .used) f) (fed-long left stage l bytes h)
 
 -- ---- a call
 
-fine-fed : (run : Run) (buys sells room bytes out : List ℕ) → feedVerdict buys sells room out ≡ Fine →
-    fedOf run buys sells room bytes out ≡ fedIn calls (length bytes) (length out) (run .stage) (lentOf (run .session) buys sells room) bytes
-unfolding fedOf
-fine-fed run buys sells room bytes out v = ap (λ (x : Verdict). fedBy x run (lentOf (run .session) buys sells room) bytes (length out)) v
+module _ (run : Run) (buys sells room bytes out : List ℕ) (v : feedVerdict buys sells room ≡ Fine) where
+  fine-long : roomy buys sells room ≡ true
+  unfolding feedVerdict
+  fine-long = fine-first SmallRoom (roomy buys sells room) _ v .0
 
-fine-long : (buys sells room out : List ℕ) → feedVerdict buys sells room out ≡ Fine → roomy buys sells room ≡ true
-unfolding feedVerdict
-fine-long buys sells room out v = fine-first SmallRoom (roomy buys sells room) _ v .0
+  abbrev on-lent : Lent
+  on-lent = lentOf (run .session) buys sells room
 
-module _ (h h′ : Holding) (p : Piece) (text : List ℕ) (k : Handed h p text h′) where
-  abbrev all-bytes : List ℕ
-  all-bytes = h .kept ++ p .bytes
+  fine-fed : fedOf run buys sells room bytes out ≡ fedIn calls (length bytes) (length out) (run .stage) on-lent bytes
+  unfolding fedOf
+  fine-fed = ap (λ (x : Verdict). fedBy x run buys sells room bytes out) v
 
-  abbrev lent : Lent
-  lent = lentOf (h .run .session) (h .buys) (h .sells) (p .room)
+  fine-ended : endedOf run buys sells room bytes out ≡ fedToEnd calls (length out) (run .stage) on-lent bytes
+  unfolding endedOf
+  fine-ended = ap (endBehind calls (length out) (length bytes)) fine-fed
 
-  abbrev f : Fed Lent
-  f = fedIn calls (length all-bytes) (length (p .out)) (h .run .stage) lent all-bytes
-
-  kept-long : Long lent
-  kept-long = fine-long (h .buys) (h .sells) (p .room) (p .out) (k .enough)
-
+-- what was handed out and is held, by what the bytes came to
+module _ (of : Feed) (h h′ : Holding) (p : Piece) (text : List ℕ) (k : Handed of h p text h′) (f : Fed Lent)
+    (is : of (h .run) (h .buys) (h .sells) (p .room) (h .kept ++ p .bytes) (p .out) ≡ f) (long : Long (f .world)) where
   as-fed : TakenAs f (p .out) (h′ .buys) (h′ .sells) (k .room) (k .out) (k .answered)
-  as-fed =
-      subst (λ (x : Fed Lent). TakenAs x (p .out) (h′ .buys) (h′ .sells) (k .room) (k .out) (k .answered))
-      (fine-fed (h .run) (h .buys) (h .sells) (p .room) all-bytes (p .out) (k .enough)) (k .contract)
+  as-fed = subst (λ (x : Fed Lent). TakenAs x (p .out) (h′ .buys) (h′ .sells) (k .room) (k .out) (k .answered)) is (k .contract .taken)
 
   text-is : f .text ≡ text
   text-is =
       let c = as-fed .printed in
       sym (k .told ∙ (λ i. take (c .count i) (c .laid i)) ∙ take-append-seam (f .text) (drop (length (f .text)) (p .out)))
 
-  stage-is : f .stage ≡ h′ .run .stage
-  stage-is = sym (ap (λ (x : Run). x .stage) (k .run) ∙ as-fed .stage)
+  -- what is still to be printed, by days
+  still : (more : List ℕ) → printedFrom calls (f .stage) (f .world) (drop (f .used) (h .kept ++ p .bytes) ++ more) ≡ toPrint h′ more
+  still more =
+      let stage : f .stage ≡ h′ .run .stage = sym (ap (λ (x : Run). x .stage) (k .run) ∙ as-fed .stage) in
+      let world : dayLent (f .world) ≡ dayOn h′ = ap dayLent (sym (as-fed .world)) ∙ ap (λ (x : Run). dayIn (x .session) (h′ .buys) (h′ .sells)) (sym (k .run)) in
+      let kept : drop (f .used) (h .kept ++ p .bytes) ≡ h′ .kept = sym (k .kept ∙ ap (λ (n : ℕ). drop n (h .kept ++ p .bytes)) (as-fed .used)) in
+      let bytes : List ℕ = drop (f .used) (h .kept ++ p .bytes) ++ more in
+      same-printed (length bytes) (f .stage) (f .world) bytes long ∙ (λ i. printedFrom days (stage i) (world i) (kept i ++ more))
 
-  world-is : dayLent (f .world) ≡ dayOn h′
-  world-is =
-      ap dayLent (sym (as-fed .world)) ∙ ap (λ (x : Run). dayIn (x .session) (h′ .buys) (h′ .sells)) (sym (k .run))
+-- what was to be printed of the same bytes before
+beforehand : (h : Holding) (p : Piece) → feedVerdict (h .buys) (h .sells) (p .room) ≡ Fine → (more : List ℕ) →
+    printedFrom calls (h .run .stage) (lentOf (h .run .session) (h .buys) (h .sells) (p .room)) ((h .kept ++ p .bytes) ++ more) ≡ toPrint h (p .bytes ++ more)
+beforehand h p v more =
+    let l : Lent = lentOf (h .run .session) (h .buys) (h .sells) (p .room) in
+    let long : Long l = fine-long (h .run) (h .buys) (h .sells) (p .room) [] [] v in
+    same-printed (length ((h .kept ++ p .bytes) ++ more)) (h .run .stage) l ((h .kept ++ p .bytes) ++ more) long
+    ∙ ap (printedFrom days (h .run .stage) (dayOn h)) (append-assoc (h .kept) (p .bytes) more)
 
-  kept-is : drop (f .used) all-bytes ≡ h′ .kept
-  kept-is = sym (k .kept ∙ ap (λ (n : ℕ). drop n all-bytes) (as-fed .used))
-
-  by-days : (bytes : List ℕ) → printedFrom calls (f .stage) (f .world) bytes ≡ printedFrom days (h′ .run .stage) (dayOn h′) bytes
-  by-days bytes =
-      same-printed (length bytes) (f .stage) (f .world) bytes (fed-long (length all-bytes) (length (p .out)) (h .run .stage) lent all-bytes kept-long)
-      ∙ (λ i. printedFrom days (stage-is i) (world-is i) bytes)
-
-  handed-prints : (more : List ℕ) →
-      printedFrom days (h .run .stage) (dayOn h) (all-bytes ++ more) ≡ text ++ printedFrom days (h′ .run .stage) (dayOn h′) (h′ .kept ++ more)
-  handed-prints more =
-      sym (same-printed (length (all-bytes ++ more)) (h .run .stage) lent (all-bytes ++ more) kept-long)
-      ∙ pieces calls (length all-bytes) (length (p .out)) (h .run .stage) lent all-bytes more
-      ∙ ap (λ (x : List ℕ). f .text ++ x) (by-days (drop (f .used) all-bytes ++ more))
-      ∙ (λ i. text-is i ++ printedFrom days (h′ .run .stage) (dayOn h′) (kept-is i ++ more))
-
-  handed-ends : (k .answered .stop ≡ Stop.Full → ⊥) →
-      printedFrom days (h′ .run .stage) (dayOn h′) (h′ .kept) ≡ endText (h′ .run .stage) (length (h′ .kept))
-  handed-ends went =
-      ap (printedFrom days (h′ .run .stage) (dayOn h′)) (sym kept-is)
-      ∙ sym (by-days (drop (f .used) all-bytes))
-      ∙ end-prints-rest calls (length (p .out)) (h .run .stage) lent all-bytes (λ e. went (as-fed .stop ∙ e))
-      ∙ (λ i. endText (stage-is i) (length (kept-is i)))
+handed-prints : (h h′ : Holding) (p : Piece) (text : List ℕ) → Handed fedOf h p text h′ → (more : List ℕ) → toPrint h (p .bytes ++ more) ≡ text ++ toPrint h′ more
+handed-prints h h′ p text k more =
+    let bytes : List ℕ = h .kept ++ p .bytes in
+    let l : Lent = lentOf (h .run .session) (h .buys) (h .sells) (p .room) in
+    let f : Fed Lent = fedIn calls (length bytes) (length (p .out)) (h .run .stage) l bytes in
+    let is = fine-fed (h .run) (h .buys) (h .sells) (p .room) bytes (p .out) (k .enough) in
+    let long : Long l = fine-long (h .run) (h .buys) (h .sells) (p .room) [] [] (k .enough) in
+    let after : Long (f .world) = fed-long (length (p .out)) (h .run .stage) l bytes long in
+    sym (beforehand h p (k .enough) more)
+    ∙ pieces calls (length (p .out)) (h .run .stage) l bytes more
+    ∙ (λ i. text-is fedOf h h′ p text k f is after i ++ still fedOf h h′ p text k f is after more i)
 
 -- ---- so
 
-feeding : (h h′ : Holding) (input text : List ℕ) → Feeding h input text h′ →
-    printedFrom days (h .run .stage) (dayOn h) (h .kept ++ input) ≡ text ++ printedFrom days (h′ .run .stage) (dayOn h′) (h′ .kept)
-feeding h h′ input text (ends _) = ap (printedFrom days (h .run .stage) (dayOn h)) (append-nil (h .kept))
-feeding h h″ input text (feeds _ h′ _ p rest told more k r) =
-    ap (printedFrom days (h .run .stage) (dayOn h)) (sym (append-assoc (h .kept) (p .bytes) rest))
-    ∙ handed-prints h h′ p told k rest
-    ∙ ap (λ (x : List ℕ). told ++ x) (feeding h′ h″ rest more r)
-    ∙ sym (append-assoc told more (printedFrom days (h″ .run .stage) (dayOn h″) (h″ .kept)))
+feeding : (h h′ : Holding) (input text : List ℕ) → Feeding h input text h′ → (more : List ℕ) → toPrint h (input ++ more) ≡ text ++ toPrint h′ more
+feeding h h′ input text (ends _) more = refl
+feeding h h″ input text (feeds _ h′ _ p rest told later k r) more =
+    ap (toPrint h) (append-assoc (p .bytes) rest more)
+    ∙ handed-prints h h′ p told k (rest ++ more)
+    ∙ ap (λ (x : List ℕ). told ++ x) (feeding h′ h″ rest later r more)
+    ∙ sym (append-assoc told later (toPrint h″ more))
+
+from-start : (buys sells input : List ℕ) → printed input ≡ toPrint (atStart buys sells) input
+unfolding printed fixedSession decode
+from-start buys sells input = refl
 
 pub feeding-prints : FeedingPrints
-unfolding printed fixedSession decode
-feeding-prints buys sells input text h r = feeding (atStart buys sells) h input text r
+feeding-prints buys sells input text h r =
+    from-start buys sells input ∙ ap (toPrint (atStart buys sells)) (sym (append-nil input)) ∙ feeding (atStart buys sells) h input text r []
 
 pub end-prints : EndPrints
-end-prints h h′ p text k went = handed-ends h h′ p text k went
+end-prints h h′ p text k =
+    let bytes : List ℕ = h .kept ++ p .bytes in
+    let l : Lent = lentOf (h .run .session) (h .buys) (h .sells) (p .room) in
+    let f : Fed Lent = fedToEnd calls (length (p .out)) (h .run .stage) l bytes in
+    let is = fine-ended (h .run) (h .buys) (h .sells) (p .room) bytes (p .out) (k .enough) in
+    let long : Long l = fine-long (h .run) (h .buys) (h .sells) (p .room) [] [] (k .enough) in
+    let after : Long (f .world) = end-long (length (p .out)) (h .run .stage) l bytes long in
+    let end = end-prints-rest calls (length (p .out)) (h .run .stage) l bytes in
+    let t = text-is endedOf h h′ p text k f is after in
+    let s = rw (append-nil (drop (f .used) bytes)) at (still endedOf h h′ p text k f is after []) in
+    let a = as-fed endedOf h h′ p text k f is after in (
+      sym (rw (append-nil (bytes), append-nil (p .bytes)) at (beforehand h p (k .enough) [])) ∙ end .0 ∙ (λ i. t i ++ s i),
+      (λ went. let e = end .1 (λ x. went (a .stop ∙ x)) in (a .stop ∙ e .0, sym s ∙ e .1)),
+    )
+
+pub program-prints : ProgramPrints
+program-prints buys sells input text last h h′ p r k went =
+    let e = end-prints h h′ p last k in
+    from-start buys sells (input ++ p .bytes)
+    ∙ feeding (atStart buys sells) h input text r (p .bytes)
+    ∙ ap (λ (x : List ℕ). text ++ x) (e .0 ∙ ap (λ (x : List ℕ). last ++ x) (e .1 went .1) ∙ append-nil last)

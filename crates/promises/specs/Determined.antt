@@ -18,9 +18,8 @@ use Rattle.records.specs.Back.{RecordRead}
 use Rattle.lines_writing_law.specs.declared.Wrote.{Wrote}
 use Rattle.lines_writing_law.specs.Writes.{Writes}
 use Rattle.feed_law.specs.declared.Run.{Run}
-use Rattle.feed_law.specs.declared.Stage.{Stage}
 use Rattle.feed_law.specs.declared.Taken.{Taken}
-use Rattle.feed_law.specs.Feeds.{TakenAs, fedOf, EndedAs}
+use Rattle.feed_law.specs.Feeds.{Feed, TakenBy}
 use Rattle.journal.specs.Walk.{eventFrom}
 
 -- `state::opening::begin`
@@ -79,13 +78,9 @@ pub record SameTaken (r₁ r₂ : Taken) (buys₁ sells₁ room₁ out₁ buys�
   pub told : room₁ ≡ room₂
   pub printed : out₁ ≡ out₂
 
+-- `feed::lines::take_lines`, where it is by `fedOf`, and `feed::lines::take_end`, where it is by `endedOf`
 abbrev pub FeedDetermined : Type 0
 FeedDetermined =
-    (run : Run) (buys sells room bytes out buys₁ sells₁ room₁ out₁ buys₂ sells₂ room₂ out₂ : List ℕ) (r₁ r₂ : Taken) →
-    TakenAs (fedOf run buys sells room bytes out) out buys₁ sells₁ room₁ out₁ r₁ → TakenAs (fedOf run buys sells room bytes out) out buys₂ sells₂ room₂ out₂ r₂ →
+    (of : Feed) (run : Run) (buys sells room bytes out buys₁ sells₁ room₁ out₁ buys₂ sells₂ room₂ out₂ : List ℕ) (r₁ r₂ : Taken) →
+    TakenBy of run buys sells room bytes out buys₁ sells₁ room₁ out₁ r₁ → TakenBy of run buys sells room bytes out buys₂ sells₂ room₂ out₂ r₂ →
     SameTaken r₁ r₂ buys₁ sells₁ room₁ out₁ buys₂ sells₂ room₂ out₂
-
-abbrev pub EndDetermined : Type 0
-EndDetermined =
-    (stage : Stage) (rest out out₁ out₂ : List ℕ) (r₁ r₂ : Wrote) → EndedAs stage rest out r₁ out₁ → EndedAs stage rest out r₂ out₂ →
-    (r₁ ≡ r₂) × (out₁ ≡ out₂)

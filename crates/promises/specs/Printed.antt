@@ -1,19 +1,19 @@
 -- WHAT THE PROGRAM PRINTS: a run of calls of `feed::lines::take_lines`, each handed what the last one left and a further piece of the
--- input, prints what `printed` says of the whole input, which speaks of days and knows of no call, table or piece.
+-- input, and then `feed::lines::take_end` print what `printed` says of the whole input, which speaks of days and knows of no call, table
+-- or piece.
 use Prim.Native.Nat.{ℕ}
 use mathlib.Core.Path.{_≡_}
 use mathlib.Core.List.{List, [], _++_}
-use lib.ListN.{length, take, drop}
+use lib.ListN.{take, drop}
 use Rattle.terms.specs.declared.Verdict.the-variants.{Fine}
 use Rattle.state_law.specs.Day.{Day}
 use Rattle.soundness_law.specs.Sound.{dayIn}
 use Rattle.feed_law.specs.declared.Run.{Run}
 use Rattle.feed_law.specs.declared.Stop.{Stop}
 use Rattle.feed_law.specs.declared.Taken.{Taken}
-use Rattle.feed_law.specs.Texts.{endText}
-use Rattle.feed_law.specs.Worlds.{days}
-use Rattle.feed_law.specs.Turns.{printedFrom, printed}
-use Rattle.feed_law.specs.Feeds.{begun, feedVerdict, fedOf, TakenAs}
+use Rattle.feed_law.specs.Worlds.{Lent, days}
+use Rattle.feed_law.specs.Turns.{Fed, printedFrom, printed}
+use Rattle.feed_law.specs.Feeds.{Feed, begun, feedVerdict, fedOf, endedOf, TakenBy}
 
 -- ---- what a caller holds between calls: the run, both tables, and the bytes that were not taken
 
@@ -30,20 +30,21 @@ atStart buys sells = record { run = begun; buys = buys; sells = sells; kept = []
 abbrev pub dayOn : Holding → Day
 dayOn h = dayIn (h .run .session) (h .buys) (h .sells)
 
--- ---- a call: the next piece of the input, a report room and an output room that hold anything and are long enough
+-- ---- a call: the next piece of the input, a report room that is long enough and holds anything, and any output room
 
 pub record Piece : Type 0 where
   pub bytes : List ℕ
   pub room : List ℕ
   pub out : List ℕ
 
--- the call is handed h and a piece, prints text and leaves h′; nothing is known of it but the contract
-pub record Handed (h : Holding) (p : Piece) (text : List ℕ) (h′ : Holding) : Type 0 where
+-- the call is handed h and a piece, prints text and leaves h′; nothing is known of it but the contract. It is `feed::lines::take_lines` where
+-- it is by `fedOf`, and `feed::lines::take_end` where it is by `endedOf`
+pub record Handed (of : Feed) (h : Holding) (p : Piece) (text : List ℕ) (h′ : Holding) : Type 0 where
   pub answered : Taken
   pub room : List ℕ
   pub out : List ℕ
-  pub enough : feedVerdict (h .buys) (h .sells) (p .room) (p .out) ≡ Fine
-  pub contract : TakenAs (fedOf (h .run) (h .buys) (h .sells) (p .room) (h .kept ++ p .bytes) (p .out)) (p .out) (h′ .buys) (h′ .sells) room out answered
+  pub enough : feedVerdict (h .buys) (h .sells) (p .room) ≡ Fine
+  pub contract : TakenBy of (h .run) (h .buys) (h .sells) (p .room) (h .kept ++ p .bytes) (p .out) (h′ .buys) (h′ .sells) room out answered
   pub run : h′ .run ≡ answered .run
   pub kept : h′ .kept ≡ drop (answered .used) (h .kept ++ p .bytes)
   pub told : text ≡ take (answered .wrote) out
@@ -52,17 +53,28 @@ pub record Handed (h : Holding) (p : Piece) (text : List ℕ) (h′ : Holding) :
 
 pub data Feeding : Holding → List ℕ → List ℕ → Holding → Type 0 where
   ends : (h : Holding) → Feeding h [] [] h
-  feeds : (h h′ h″ : Holding) (p : Piece) (input text more : List ℕ) → Handed h p text h′ → Feeding h′ input more h″ →
+  feeds : (h h′ h″ : Holding) (p : Piece) (input text more : List ℕ) → Handed fedOf h p text h′ → Feeding h′ input more h″ →
       Feeding h (p .bytes ++ input) (text ++ more) h″
+
+-- what is still to be printed of the bytes that are held, with others behind them
+abbrev pub toPrint : Holding → List ℕ → List ℕ
+toPrint h more = printedFrom days (h .run .stage) (dayOn h) (h .kept ++ more)
 
 -- HOWEVER THE INPUT IS CUT: what was printed, and what is still to be printed of the bytes that are held, is `printed` of the whole
 abbrev pub FeedingPrints : Type 0
 FeedingPrints =
-    (buys sells input text : List ℕ) (h : Holding) → Feeding (atStart buys sells) input text h →
-    printed input ≡ text ++ printedFrom days (h .run .stage) (dayOn h) (h .kept)
+    (buys sells input text : List ℕ) (h : Holding) → Feeding (atStart buys sells) input text h → printed input ≡ text ++ toPrint h []
 
--- and after a call that did not stop for want of room, what is still to be printed is what `feed::lines::take_end` prints
+-- and the end prints it, whatever bytes are held and come last: what it prints and what is then still to be printed is what was; and unless the
+-- output room is to be emptied first, nothing is
 abbrev pub EndPrints : Type 0
 EndPrints =
-    (h h′ : Holding) (p : Piece) (text : List ℕ) (k : Handed h p text h′) → (k .answered .stop ≡ Stop.Full → ⊥) →
-    printedFrom days (h′ .run .stage) (dayOn h′) (h′ .kept) ≡ endText (h′ .run .stage) (length (h′ .kept))
+    (h h′ : Holding) (p : Piece) (text : List ℕ) (k : Handed endedOf h p text h′) →
+    (toPrint h (p .bytes) ≡ text ++ toPrint h′ [])
+    × ((k .answered .stop ≡ Stop.Full → ⊥) → (k .answered .stop ≡ Stop.Over) × (toPrint h′ [] ≡ []))
+
+-- so a run that is fed and then ended prints what the program prints for the whole input
+abbrev pub ProgramPrints : Type 0
+ProgramPrints =
+    (buys sells input text last : List ℕ) (h h′ : Holding) (p : Piece) → Feeding (atStart buys sells) input text h →
+    (k : Handed endedOf h p last h′) → (k .answered .stop ≡ Stop.Full → ⊥) → printed (input ++ p .bytes) ≡ text ++ last
