@@ -5,7 +5,10 @@
  *    number and never harms. Only the pointers must be good: each names as many readable (or writable) elements as its length
  *    says, and is not NULL, not even where the length is 0.
  *  - Slices that it writes must overlap no other slice of the same call.
- *  - The caller keeps all state: the session's numbers and both tables. They may be copied, stored and taken up again.
+ *  - The caller keeps all state: the session's numbers and both tables. They may be copied and taken up again, all three of one
+ *    moment. Numbers of two moments (a session stored after a call, tables stored before it) can pass for sound: orders that
+ *    have traded then stand in the book again, and no call can tell. So do not come back from stored numbers after the system
+ *    has killed the app: save the day's lines and hand them in again (kakoludar_feed).
  *  - It allocates nothing, reads no clock, has no globals and needs nothing but memcpy and memset. Calls on memory that does
  *    not overlap may run in any threads at once.
  *  - It does not recurse; some 12 KiB of stack are enough.
@@ -43,7 +46,7 @@ enum kakoludar_refusal {
     KAKOLUDAR_SETTINGS_TICK = 13,  /* base, close or settlement not a multiple of the tick */
     KAKOLUDAR_UNFINISHED = 14,     /* the bytes begin a line and hold no whole one */
     KAKOLUDAR_WRONG_LINE = 15,     /* the bytes begin no line; the count is the place */
-    KAKOLUDAR_SHORT_LINE = 16,     /* line room under 128 bytes, or a feed's output room under 66,560 */
+    KAKOLUDAR_SHORT_LINE = 16,     /* line room under 128 bytes */
     KAKOLUDAR_LARGE_NUMBER = 17    /* a number above 999,999,999 to be written */
 };
 
@@ -57,7 +60,7 @@ enum kakoludar_refusal {
 #define KAKOLUDAR_LINE 128  /* bytes that a writer asks for */
 #define KAKOLUDAR_RUN 44    /* where text in and text out stands: its stage, then the session's 43 */
 #define KAKOLUDAR_COUNTS 2  /* of a feed: the bytes taken, the bytes printed */
-#define KAKOLUDAR_TEXT 66560 /* bytes of output room that a feed asks for: the most that one line prints, 520 lines of 128 */
+#define KAKOLUDAR_TEXT 66560 /* bytes of output room with which a feed always makes progress: what an event prints at most, 520 lines of 128 */
 
 /* Settings. Base, close and settlement are multiples of the tick. */
 enum kakoludar_settings {
@@ -175,7 +178,8 @@ uint64_t kakoludar_read_settings(const uint8_t *line, size_t line_len, uint64_t 
 uint64_t kakoludar_read_event(const uint8_t *line, size_t line_len, uint64_t *event, size_t event_len);
 
 /* Writes one line and answers its length; bytes past it are untouched. Refused by 1 (a short run), by 12 or 4 (the numbers are
- * no settings; no event or no report), 16 or 17; then nothing is written. No range is judged. */
+ * no settings; no event), 16 or 17; then nothing is written. Numbers that are no report's have no line: the length is 0. No
+ * range is judged. */
 uint64_t kakoludar_write_settings(const uint64_t *settings, size_t settings_len, uint8_t *line, size_t line_len);
 uint64_t kakoludar_write_event(const uint64_t *event, size_t event_len, uint8_t *line, size_t line_len);
 uint64_t kakoludar_write_report(const uint64_t *record, size_t record_len, uint8_t *line, size_t line_len);
@@ -186,17 +190,17 @@ uint64_t kakoludar_write_report(const uint64_t *record, size_t record_len, uint8
  *   kakoludar_start, once;
  *   kakoludar_feed on a piece of the input, however it is cut; send out the bytes printed; hand the bytes that were not taken in
  *     again, with more of the input behind them (they are at most 128, but after KAKOLUDAR_FULL);
- *   kakoludar_end once, on the bytes that are left when the input has ended.
+ *   kakoludar_end on the bytes that are left when the input has ended, until it answers KAKOLUDAR_ENDED.
  *
  * What is printed in all is the same however the input is cut and however large the output room is. */
 
 /* A run's first number; numbers 1 to 43 are the session, once the settings are taken. */
 enum kakoludar_stage { KAKOLUDAR_AWAITING = 0, KAKOLUDAR_TRADING = 1, KAKOLUDAR_OVER = 2 };
 
-/* Why a feed took no further line: the count of its answer. */
+/* Why no further line was taken: the count of an answer. */
 enum kakoludar_stop {
     KAKOLUDAR_WAITS = 0, /* the bytes left hold no whole line */
-    KAKOLUDAR_FULL = 1,  /* the output room is to be emptied; then feed the bytes that are left */
+    KAKOLUDAR_FULL = 1,  /* the output room is to be emptied; then hand in the bytes that are left */
     KAKOLUDAR_ENDED = 2  /* the run is over: no further byte is taken, and nothing is printed any more */
 };
 
@@ -205,16 +209,22 @@ uint64_t kakoludar_start(uint64_t *run, size_t run_len);
 
 /* Takes the whole lines of the bytes, while there is room for whatever the next can print, and prints from the start of the
  * output room. Answers why it took no more (enum kakoludar_stop); counts[0] is how many bytes it took, counts[1] how many it
- * printed; the output room past those is untouched. A room of 66,560 bytes is emptied after each line that prints, a larger one
- * when less than 66,560 are left. Refused by 1 (a short run, table or report room, or under two counts), then 16: then nothing
- * at all is written. Numbers that are no run's (stage above 2, or no session) are taken for a run that is over. */
+ * printed; the output room past those is untouched. No output room is too short to be handed in, and none is refused: where
+ * the next line may not fit, the answer is KAKOLUDAR_FULL. A settings line asks for KAKOLUDAR_LINE bytes of room, an event line for
+ * KAKOLUDAR_TEXT; so a room of KAKOLUDAR_TEXT bytes, 66,560, always makes progress, and a shorter one takes no event. Refused by 1 (a
+ * short run, table or report room, or under two counts): then nothing at all is written. Numbers that are no run's (stage above
+ * 2, or no session) are taken for a run that is over. */
 uint64_t kakoludar_feed(uint64_t *run, size_t run_len, const uint8_t *bytes, size_t bytes_len, uint64_t *buys, size_t buys_len,
                         uint64_t *sells, size_t sells_len, uint64_t *room, size_t room_len, uint8_t *out, size_t out_len,
                         uint64_t *counts, size_t counts_len);
 
-/* The end of the input, with the bytes that are left: prints a bad line (14) where they begin a line, or where there were no
- * settings, and answers how many bytes it printed. Refused by 1 (a short run), then 16 (under 128 bytes): nothing is written. */
-uint64_t kakoludar_end(const uint64_t *run, size_t run_len, const uint8_t *rest, size_t rest_len, uint8_t *out, size_t out_len);
+/* The same on the last bytes of the input: whole lines among them are taken as by kakoludar_feed, and where none is left the end is
+ * told: a bad line (14) where the bytes left begin a line, or where there were no settings. Then the run is over: the answer is
+ * KAKOLUDAR_ENDED. Where the room is to be emptied first it is KAKOLUDAR_FULL: call it again with the bytes that are left. No earlier
+ * feed is presumed: bytes that begin no line are answered as a feed would (15 with the place). */
+uint64_t kakoludar_end(uint64_t *run, size_t run_len, const uint8_t *bytes, size_t bytes_len, uint64_t *buys, size_t buys_len,
+                       uint64_t *sells, size_t sells_len, uint64_t *room, size_t room_len, uint8_t *out, size_t out_len,
+                       uint64_t *counts, size_t counts_len);
 
 #ifdef __cplusplus
 }

@@ -169,7 +169,7 @@ pub fn write_event(event: &Event) -> Result<Line, Refusal> {
     Line::by(|room| raw::write_event(&run, room))
 }
 
-/// Writes a report's line; 4 where the numbers are no report's, 17 where one is above 999,999,999.
+/// Writes a report's line: an empty one where the numbers are no report's; 17 where one is above 999,999,999.
 pub fn write_report(record: &[u64; RECORD]) -> Result<Line, Refusal> {
     Line::by(|room| raw::write_report(record, room))
 }
@@ -181,7 +181,7 @@ pub struct Desk {
     buys: [u64; TABLE],
     sells: [u64; TABLE],
     room: [u64; ROOM],
-    /// What a feed prints, before it goes on to `out`; longer than a feed asks for, so that few calls are made.
+    /// What a feed prints, before it goes on to `out`; longer than a line of input needs, so that few calls are made.
     printed: [u8; TEXT + 16_384],
     /// The start of an unfinished line.
     kept: Vec<u8>,
@@ -212,12 +212,12 @@ impl Desk {
     pub fn feed(&mut self, piece: &[u8], out: &mut Vec<u8>) -> bool {
         let mut kept = std::mem::take(&mut self.kept);
         let (used, on) = if kept.is_empty() {
-            let (used, on) = self.take(piece, out);
+            let (used, on) = self.take(raw::feed, piece, out);
             kept.extend_from_slice(&piece[used..]);
             (0, on)
         } else {
             kept.extend_from_slice(piece);
-            self.take(&kept, out)
+            self.take(raw::feed, &kept, out)
         };
         kept.drain(..used);
         if !on {
@@ -227,19 +227,19 @@ impl Desk {
         on
     }
 
-    /// The end of the input.
+    /// The end of the input: the run is over.
     pub fn end(&mut self, out: &mut Vec<u8>) {
-        let length = answered(raw::end(&self.run, &self.kept, &mut self.printed)).expect("there is room");
-        out.extend_from_slice(&self.printed[..length]);
+        let kept = std::mem::take(&mut self.kept);
+        self.take(raw::end, &kept, out);
     }
 
-    /// Takes the whole lines of some bytes: how many bytes these are, and whether the run goes on.
-    fn take(&mut self, bytes: &[u8], out: &mut Vec<u8>) -> (usize, bool) {
+    /// Takes the whole lines of some bytes, and at the end tells it: how many bytes these are, and whether the run goes on.
+    fn take(&mut self, by: raw::Feed, bytes: &[u8], out: &mut Vec<u8>) -> (usize, bool) {
         let Desk { run, buys, sells, room, printed, .. } = self;
         let mut counts = [0; COUNTS];
         let mut at = 0;
         loop {
-            let answer = raw::feed(run, &bytes[at..], buys, sells, room, printed, &mut counts);
+            let answer = by(run, &bytes[at..], buys, sells, room, printed, &mut counts);
             let stop = answered(answer).expect("there is room");
             at += counts[0] as usize;
             out.extend_from_slice(&printed[..counts[1] as usize]);

@@ -54,8 +54,22 @@ extern "C" {
         counts: *mut u64,
         counts_len: usize,
     ) -> u64;
-    fn kakoludar_end(run: *const u64, run_len: usize, rest: *const u8, rest_len: usize, out: *mut u8, out_len: usize)
-        -> u64;
+    fn kakoludar_end(
+        run: *mut u64,
+        run_len: usize,
+        bytes: *const u8,
+        bytes_len: usize,
+        buys: *mut u64,
+        buys_len: usize,
+        sells: *mut u64,
+        sells_len: usize,
+        room: *mut u64,
+        room_len: usize,
+        out: *mut u8,
+        out_len: usize,
+        counts: *mut u64,
+        counts_len: usize,
+    ) -> u64;
 }
 
 /// An answer's code: 0 for done, or a refusal's number.
@@ -124,35 +138,41 @@ pub fn start(run: &mut [u64]) -> u64 {
     unsafe { kakoludar_start(run.as_mut_ptr(), run.len()) }
 }
 
-pub fn feed(
-    run: &mut [u64],
-    bytes: &[u8],
-    buys: &mut [u64],
-    sells: &mut [u64],
-    room: &mut [u64],
-    out: &mut [u8],
-    counts: &mut [u64],
-) -> u64 {
-    unsafe {
-        kakoludar_feed(
-            run.as_mut_ptr(),
-            run.len(),
-            bytes.as_ptr(),
-            bytes.len(),
-            buys.as_mut_ptr(),
-            buys.len(),
-            sells.as_mut_ptr(),
-            sells.len(),
-            room.as_mut_ptr(),
-            room.len(),
-            out.as_mut_ptr(),
-            out.len(),
-            counts.as_mut_ptr(),
-            counts.len(),
-        )
-    }
+/// `feed` or `end`: they take the same slices.
+pub type Feed = fn(&mut [u64], &[u8], &mut [u64], &mut [u64], &mut [u64], &mut [u8], &mut [u64]) -> u64;
+
+macro_rules! feed {
+    ($name:ident, $call:ident) => {
+        pub fn $name(
+            run: &mut [u64],
+            bytes: &[u8],
+            buys: &mut [u64],
+            sells: &mut [u64],
+            room: &mut [u64],
+            out: &mut [u8],
+            counts: &mut [u64],
+        ) -> u64 {
+            unsafe {
+                $call(
+                    run.as_mut_ptr(),
+                    run.len(),
+                    bytes.as_ptr(),
+                    bytes.len(),
+                    buys.as_mut_ptr(),
+                    buys.len(),
+                    sells.as_mut_ptr(),
+                    sells.len(),
+                    room.as_mut_ptr(),
+                    room.len(),
+                    out.as_mut_ptr(),
+                    out.len(),
+                    counts.as_mut_ptr(),
+                    counts.len(),
+                )
+            }
+        }
+    };
 }
 
-pub fn end(run: &[u64], rest: &[u8], out: &mut [u8]) -> u64 {
-    unsafe { kakoludar_end(run.as_ptr(), run.len(), rest.as_ptr(), rest.len(), out.as_mut_ptr(), out.len()) }
-}
+feed!(feed, kakoludar_feed);
+feed!(end, kakoludar_end);

@@ -152,6 +152,7 @@ fn the_two_engines_agree_on_lines() {
     let mut tally = Tally::default();
     let mut rng = Rng(4_242);
     let mut lines: Vec<Vec<u8>> = Vec::new();
+    let mut untold = 0;
     for _ in 0..60_000 {
         let (run, writers): (Vec<u64>, (Writer, Writer)) = match rng.below(3) {
             0 => (any_settings(&mut rng), (desk::write_settings, plain::write_settings)),
@@ -164,11 +165,16 @@ fn the_two_engines_agree_on_lines() {
             let mut line = room;
             writers.0(&run, &mut line);
             line.truncate(desk::count(answer) as usize);
+            // six numbers that are no report's have no line
+            if line.is_empty() {
+                untold += 1;
+                continue;
+            }
             assert!(line.ends_with(b"\n") && line.len() <= 122);
             lines.push(line);
         }
     }
-    assert!(lines.len() > 20_000);
+    assert!(lines.len() > 20_000 && untold > 100);
     for at in 0..lines.len() {
         let other = lines[rng.below(lines.len() as u64) as usize].clone();
         let line = lines[at].clone();

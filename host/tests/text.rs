@@ -22,6 +22,8 @@ fn vectors() -> Vec<(PathBuf, Vec<u8>, Vec<u8>)> {
         .unwrap()
         .map(|entry| entry.unwrap().path())
         .filter(|path| path.extension().is_some_and(|e| e == "in"))
+        // some days are there to be told as wrong
+        .filter(|path| !path.file_name().is_some_and(|name| name.to_string_lossy().starts_with("wrong-")))
         .collect();
     inputs.sort();
     println!("{} vectors of {}", inputs.len(), folder.display());
@@ -96,10 +98,21 @@ fn fed_in_pieces(pieces: &mut dyn Iterator<Item = &[u8]>, room_length: usize, rn
             break;
         }
     }
-    let answer = raw::end(&run, &kept, &mut out);
-    assert_eq!(raw::code(answer), 0);
-    printed.extend_from_slice(&out[..raw::count(answer) as usize]);
-    printed
+    loop {
+        let answer = raw::end(&mut run, &kept, &mut buys, &mut sells, &mut room, &mut out, &mut counts);
+        let [used, wrote] = counts.map(|count| count as usize);
+        assert!(raw::code(answer) == 0 && out[wrote..].iter().take(200).all(|&byte| byte == BLANK));
+        printed.extend_from_slice(&out[..wrote]);
+        out[..wrote].fill(BLANK);
+        kept.drain(..used);
+        match raw::count(answer) {
+            1 => assert!(used > 0),
+            stop => {
+                assert_eq!((stop, run[0]), (2, 2));
+                return printed;
+            }
+        }
+    }
 }
 
 /// Pieces of random lengths, short and long.
@@ -154,32 +167,111 @@ fn a_desk_is_fed_in_pieces() {
 #[test]
 fn a_refused_feed_writes_nothing() {
     let mut rng = Rng(79);
-    let least = [RUN, TABLE, TABLE, ROOM, TEXT, COUNTS];
+    let least = [RUN, TABLE, TABLE, ROOM, COUNTS];
     let input = day(3, Style::Busy);
-    for which in 0..=least.len() {
-        for short in [1, 2] {
-            let lengths: Vec<usize> = (0..least.len()).map(|i| least[i] - if i == which { short } else { 0 }).collect();
-            let mut numbers: Vec<Vec<u64>> = [0, 1, 2, 3, 5].iter().map(|&i| rng.garbage(lengths[i])).collect();
-            if lengths[0] == RUN {
-                raw::start(&mut numbers[0]);
-            }
-            let mut out = vec![7; lengths[4]];
-            let before = numbers.clone();
-            let [run, buys, sells, room, counts] = &mut numbers[..] else { unreachable!() };
-            let answer = raw::feed(run, &input, buys, sells, room, &mut out, counts);
-            if which == least.len() {
-                assert!(raw::code(answer) == 0 && before != numbers);
-            } else {
-                assert_eq!(answer, if which == 4 { 16 } else { 1 });
-                assert!(before == numbers && out.iter().all(|&byte| byte == 7));
-            }
+    for (which, short, call) in (0..=least.len()).flat_map(|i| [(i, 1, raw::feed as raw::Feed), (i, 2, raw::feed), (i, 1, raw::end)]) {
+        let lengths = std::array::from_fn::<_, 5, _>(|i| least[i] - if i == which { short } else { 0 });
+        let mut numbers = lengths.map(|length| rng.garbage(length));
+        if lengths[0] == RUN {
+            raw::start(&mut numbers[0]);
+        }
+        let mut out = vec![7; TEXT];
+        let before = numbers.clone();
+        let [run, buys, sells, room, counts] = &mut numbers;
+        let answer = call(run, &input, buys, sells, room, &mut out, counts);
+        if which == least.len() {
+            assert!(raw::code(answer) == 0 && before != numbers);
+        } else {
+            assert_eq!(answer, 1);
+            assert!(before == numbers && out.iter().all(|&byte| byte == 7));
         }
     }
-    let mut out = [7; LINE];
     assert_eq!(raw::start(&mut [5; RUN - 1]), 1);
-    assert_eq!(raw::end(&[0; RUN - 1], b"t=", &mut out), 1);
-    assert_eq!(raw::end(&[0; RUN], b"t=", &mut out[..LINE - 1]), 16);
-    assert_eq!(out, [7; LINE]);
+}
+
+/// One call on a run that has taken a day's settings, or not: the answer's code and count, both counts, and what was printed.
+fn called(call: raw::Feed, started: &[u8], bytes: &[u8], room_length: usize) -> (u64, [usize; COUNTS], Vec<u8>) {
+    let mut rng = Rng(81);
+    let mut run = vec![0; RUN];
+    let [mut buys, mut sells, mut room] = [TABLE, TABLE, ROOM].map(|length| rng.garbage(length));
+    let (mut counts, mut large) = ([0; COUNTS], vec![0; 2 * TEXT]);
+    raw::start(&mut run);
+    raw::feed(&mut run, started, &mut buys, &mut sells, &mut room, &mut large, &mut counts);
+    let mut out = vec![7; room_length];
+    let answer = call(&mut run, bytes, &mut buys, &mut sells, &mut room, &mut out, &mut counts);
+    let counts = counts.map(|count| count as usize);
+    assert!(out[counts[1]..].iter().all(|&byte| byte == 7));
+    out.truncate(counts[1]);
+    assert_eq!(raw::code(answer), 0);
+    (raw::count(answer), counts, out)
+}
+
+const SETTINGS_LINE: &[u8] = b"cat=gems base=10000 close=10000 settle=10000 tick=5 len=3600000 days=0 under=0\n";
+
+/// However short the output room, a call is never refused: it is full and takes nothing, or has room enough.
+#[test]
+fn a_short_room_is_full() {
+    let clock = b"t=5 do=clock\n";
+    for length in [0, 1, 80, 81, LINE - 1] {
+        assert_eq!(called(raw::feed, b"", SETTINGS_LINE, length), (1, [0, 0], vec![]));
+        assert_eq!(called(raw::end, b"", b"", length), (1, [0, 0], vec![]));
+    }
+    for length in [0, LINE, TEXT - 1] {
+        assert_eq!(called(raw::feed, SETTINGS_LINE, clock, length), (1, [0, 0], vec![]));
+        assert_eq!(called(raw::end, SETTINGS_LINE, clock, length), (1, [0, 0], vec![]));
+        assert_eq!(called(raw::feed, SETTINGS_LINE, b"", length), (0, [0, 0], vec![]));
+    }
+    // settings print a line at most, and a run that is over nothing
+    assert_eq!(called(raw::feed, b"", SETTINGS_LINE, LINE), (0, [SETTINGS_LINE.len(), 0], vec![]));
+    assert_eq!(called(raw::feed, b"x", clock, 0), (2, [0, 0], vec![]));
+    // refused settings end the run, and that is what is answered, whatever follows and however much room is left
+    let refused = [b"cat=gems base=0 close=10000 settle=10000 tick=5 len=3600000 days=0 under=0\n", &clock[..]].concat();
+    for length in [LINE, TEXT, TEXT + 10, TEXT + 20, TEXT + 30] {
+        let (stop, [used, _], printed) = called(raw::feed, b"", &refused, length);
+        assert_eq!((stop, used, &printed[..]), (2, refused.len() - clock.len(), &b"say=bad code=12 at=0\n"[..]));
+    }
+}
+
+/// What the end alone prints for a whole input.
+fn ended(input: &[u8]) -> Vec<u8> {
+    let mut rng = Rng(82);
+    let mut run = vec![0; RUN];
+    let [mut buys, mut sells, mut room] = [TABLE, TABLE, ROOM].map(|length| rng.garbage(length));
+    let (mut counts, mut out, mut at, mut printed) = ([0; COUNTS], vec![0; TEXT], 0, Vec::new());
+    raw::start(&mut run);
+    loop {
+        let answer = raw::end(&mut run, &input[at..], &mut buys, &mut sells, &mut room, &mut out, &mut counts);
+        at += counts[0] as usize;
+        printed.extend_from_slice(&out[..counts[1] as usize]);
+        if raw::count(answer) == 2 {
+            return printed;
+        }
+    }
+}
+
+/// The end takes whatever bytes it is handed, with no call before it: whole lines, the start of one, or none.
+#[test]
+fn the_end_answers_any_bytes() {
+    let ends = |started: &[u8], bytes: &[u8], text: &[u8]| {
+        let (stop, _, printed) = called(raw::end, started, bytes, 2 * TEXT);
+        assert_eq!((stop, String::from_utf8_lossy(&printed)), (2, String::from_utf8_lossy(text)));
+    };
+    ends(b"", b"", b"say=bad code=14 at=0\n");
+    ends(b"", b"cat=ge", b"say=bad code=14 at=6\n");
+    ends(b"", b"t=5 do=clock\n", b"say=bad code=15 at=0\n");
+    ends(SETTINGS_LINE, b"", b"");
+    ends(SETTINGS_LINE, b"t=5 do=clock", b"say=bad code=14 at=12\n");
+    ends(SETTINGS_LINE, b"t=5 do=clocks", b"say=bad code=15 at=12\n");
+    ends(SETTINGS_LINE, b"nothing", b"say=bad code=15 at=0\n");
+    ends(SETTINGS_LINE, b"t=9 do=clock\nt=5 do=clock\nt=", b"t=5 say=refuse code=5\nsay=bad code=14 at=2\n");
+    ends(b"x", b"t=5 do=clock\n", b"");
+    for seed in 0..60 {
+        let input = day(20_000 + seed, STYLES[seed as usize % STYLES.len()]);
+        let at = Rng(seed).below(input.len() as u64) as usize;
+        for cut in [&input[..], &input[..at]] {
+            assert!(ended(cut) == printed_by_plain(cut), "seed {seed}");
+        }
+    }
 }
 
 /// Numbers that are no run's take no byte and print none.
@@ -194,9 +286,11 @@ fn no_run_is_over() {
         let [mut buys, mut sells, mut room] = [TABLE, TABLE, ROOM].map(|length| rng.garbage(length));
         let mut counts = [9; COUNTS];
         let mut out = vec![7; TEXT];
-        let end = raw::end(&run, &input, &mut out);
-        let answer = raw::feed(&mut run, &input, &mut buys, &mut sells, &mut room, &mut out, &mut counts);
-        assert_eq!((end, answer, counts), (0, 512, [0, 0]));
+        let answer = raw::feed(&mut run.clone(), &input, &mut buys, &mut sells, &mut room, &mut out, &mut counts);
+        assert_eq!((answer, counts), (512, [0, 0]));
+        counts = [9; COUNTS];
+        let end = raw::end(&mut run, &input, &mut buys, &mut sells, &mut room, &mut out, &mut counts);
+        assert_eq!((end, counts), (512, [0, 0]));
         assert!(run[0] == 2 && run[1..].iter().all(|&number| number == 0) && out.iter().all(|&byte| byte == 7));
     }
 }

@@ -118,6 +118,7 @@ feed-calls =
     ten : (run : Run) (buys sells room bytes out : List ℕ) (v : Verdict) → Ten (run .session) → Ten (fedBy v run buys sells room bytes out .world .session)
     ten run buys sells room bytes out Fine t = fed-ten (length out) (run .stage) (lentOf (run .session) buys sells room) bytes t
     ten run buys sells room bytes out (Refused r) t = t
+
     idle : (run : Run) (buys sells room bytes out : List ℕ) (v : Verdict) → isRefusal (fedBy v run buys sells room bytes out .stop) ≡ true →
         Idle buys sells room (fedBy v run buys sells room bytes out)
     idle run buys sells room bytes out Fine e =

@@ -4,16 +4,13 @@ use native.Mathlib.Omega.{arith}
 use mathlib.Core.Path.{_≡_, refl}
 use mathlib.Core.Bool.{true, false}
 use mathlib.Core.List.{List, [], _∷_, _++_}
-use borrow.Author.Tests.{leb-true, le-ltb}
-use lib.Dec.{leb, ltb}
+use borrow.Author.Tests.{leb-true}
+use lib.Dec.{leb}
 use lib.ListN.{length, take, drop}
-use Rattle.terms.proofs.Logic.{by, both, make}
+use Rattle.terms.proofs.Logic.{both, make}
 use Rattle.tables.specs.Put.{put}
 use Rattle.feed_law.specs.declared.Run.{Run}
 use Rattle.feed_law.specs.declared.Stage.{Stage}
-use Rattle.feed_law.specs.declared.Stop.{Stop}
-use Rattle.feed_law.specs.Worlds.{Lent, calls}
-use Rattle.feed_law.specs.Turns.{Fed, halted, fedIn}
 use Rattle.state_law.specs.Tens.{Ten}
 use Rattle.desk_packing.proofs.Inverse.{is-session, session-back, session-numbers}
 use Rattle.desk_runs.specs.Runs.{runLength, stageNumber, runNumbers, isRun, stageFrom, runFrom, overRun}
@@ -63,10 +60,3 @@ run-laid-back ns r ten = run-back r (drop (length (runNumbers r)) ns) ten
 pub no-run-over : (ns : List ℕ) → isRun ns ≡ false → runFrom ns ≡ overRun
 unfolding runFrom
 no-run-over ns h = rw h
-
--- a run that is over takes no byte and prints none, however short the output room
-pub over-silent : (l : Lent) (bytes : List ℕ) (n left : ℕ) → fedIn calls n left Stage.Over l bytes ≡ halted calls Stop.Over Stage.Over l
-unfolding fedIn
-over-silent l bytes zero left = refl
-over-silent l bytes (suc n) left =
-    rw (le-ltb left 0 (omega arith)) (by (λ (f : Fed Lent). f ≡ halted calls Stop.Over Stage.Over l) (ltb 0 (length bytes)) _ _ (λ e. refl) (λ e. refl))

@@ -12,7 +12,7 @@ use borrow.Rule.Slice.PartMut.{putMid, same-len-mid}
 use native.Mathlib.Nat.{le-of-eq}
 use Rattle.terms.specs.declared.Event.{Event}
 use Rattle.terms.specs.declared.Settings.{Settings}
-use Rattle.terms.proofs.Logic.{cases}
+use Rattle.terms.proofs.Logic.{by, cases}
 use Rattle.lines_text_law.specs.Grammar.{Answer, whole, unfinished, wrong}
 use Rattle.lines_text_law.specs.Reading.{Right}
 use Rattle.lines_reading_law.specs.Lines.{EventLine, SettingsLine}
@@ -73,6 +73,15 @@ module _ {W : Type 0} (on : World W) where
         fedIn on (suc n) left stage w bytes ≡ ahead on t (fedIn on n (left - length (t .text)) (t .stage) (t .world) (drop (t .used) bytes))
     unfolding fedIn
     fed-ahead h e = rw (lt-ltb 0 (length bytes) some, le-ltb left (mostAt stage) h, ne-eqb (t .used) 0 e)
+
+  -- a run that is over takes no byte and prints none, however short the output room
+  pub over-halts : (n left : ℕ) (w : W) (bytes : List ℕ) → fedIn on n left Stage.Over w bytes ≡ halted on Stop.Over Stage.Over w
+  unfolding fedIn
+  over-halts zero left w bytes = refl
+  over-halts (suc n) left w bytes =
+      let P : Fed W → Type 0 = λ f. f ≡ halted on Stop.Over Stage.Over w in
+      by P (ltb 0 (length bytes)) _ _
+      (λ e. by P (ltb left (mostAt Stage.Over)) _ _ (λ b. absurd (let h = ltb-true left (mostAt Stage.Over) b in omega arith)) (λ b. refl)) (λ e. refl)
 
   -- ---- one induction serves every law of many lines: none are left; the room is to be emptied first; no whole one is left; a line, and then the rest
 

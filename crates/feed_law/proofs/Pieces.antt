@@ -251,9 +251,9 @@ module _ {W : Type 0} (on : World W) where
     told-finished went =
         let silent = over-silent (f .world) (drop (f .used) xs) in (
           lines
-          ∙ ap (λ (x : List ℕ). f .text ++ x) (end went)
-          ∙ sym (append-nil (f .text ++ endText (f .stage) (length xs - f .used)))
-          ∙ ap (λ (x : List ℕ). (f .text ++ endText (f .stage) (length xs - f .used)) ++ x) (sym silent),
+              ∙ ap (λ (x : List ℕ). f .text ++ x) (end went)
+              ∙ sym (append-nil (f .text ++ endText (f .stage) (length xs - f .used)))
+              ∙ ap (λ (x : List ℕ). (f .text ++ endText (f .stage) (length xs - f .used)) ++ x) (sym silent),
           (λ _. (refl, silent)),
         )
 

@@ -218,7 +218,7 @@ pub fn write_event(event: &Event, room: &mut [u8]) -> Result<usize, Refusal> {
     Ok(line.end())
 }
 
-/// Writes the line of a report and answers its length; 4 where the six numbers are no report's.
+/// Writes the line of a report and answers its length: 0 where the six numbers are no report's, which has no line.
 pub fn write_report(record: &[u64; RECORD], room: &mut [u8]) -> Result<usize, Refusal> {
     let names: &[&[u8]] = match record {
         [1, _, _, 0, 0, 0] => &[b" say=accept id="],
@@ -228,7 +228,7 @@ pub fn write_report(record: &[u64; RECORD], room: &mut [u8]) -> Result<usize, Re
         [5, _, _, _, 0, 0] => &[b" say=slab low=", b" high="],
         [6, _, _, 0, 0, 0] => &[b" say=ref price="],
         [7, _, _, _, 0, 0] => &[b" say=close price=", b" base="],
-        _ => return Err(Refusal::EventRange),
+        _ => return pen(room, &[]).map(|_| 0),
     };
     let mut line = pen(room, &record[1..])?;
     line.field(b"t=", record[1]);
