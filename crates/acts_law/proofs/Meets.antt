@@ -18,9 +18,9 @@ use Rattle.tables.specs.Tables.{decode, tableOf, Holds}
 use Rattle.tables.proofs.Slots.{length-decode}
 use Rattle.tables.proofs.Puts.{length-put}
 use Rattle.terms.proofs.Records.{length-records}
-use Rattle.matching.specs.declared.Incoming.{Incoming}
-use Rattle.matching.specs.declared.Matched.{Matched}
-use Rattle.matching.specs.Sweeps.{sweptOf, SweptInto}
+use Rattle.matching_law.specs.declared.Incoming.{Incoming}
+use Rattle.matching_law.specs.declared.Matched.{Matched}
+use Rattle.matching_law.specs.Sweeps.{sweptOf, SweptInto}
 use Rattle.book_law.specs.Over.{Each}
 use Rattle.book_law.specs.Matching.{Swept, part, reportAt, tradeReports, ownLastOr}
 use Rattle.book_law.proofs.Conserve.{Fewer, sweep-fewer}

@@ -11,7 +11,7 @@ use Rattle.terms.specs.declared.Said.the-variants.{Accept}
 use Rattle.terms.specs.Sizes.{recordLength, slots, numbersMost}
 use Rattle.rules_law.specs.Reference.{RangeFits}
 use Rattle.tables.specs.Tables.{decode, tableOf, Holds}
-use Rattle.matching.specs.declared.Incoming.{Incoming}
+use Rattle.matching_law.specs.declared.Incoming.{Incoming}
 use Rattle.book_law.specs.Over.{Each}
 use Rattle.book_law.specs.Matching.{reportAt, tradeReports, ownLastOr, settled}
 use Rattle.state_law.specs.declared.Session.{Session}

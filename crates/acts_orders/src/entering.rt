@@ -4,7 +4,7 @@ use acts_law::Entered;
 use acts_law::Met;
 use acts_reports::remembering;
 use acts_reports::telling;
-use matching::Incoming;
+use matching_law::Incoming;
 use matching::crossing;
 use rules::close;
 use state::force;

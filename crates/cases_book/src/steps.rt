@@ -4,7 +4,7 @@ use book::side;
 use book::view;
 use cases::lines;
 use cases::print;
-use matching::Incoming;
+use matching_law::Incoming;
 use matching::crossing;
 use rules_law::Range;
 use tables::orders;

@@ -5,7 +5,7 @@ use libc::STDOUT_FILENO;
 use lines_reading_law::ReadEvent;
 use lines_reading_law::ReadSettings;
 use lines_writing_law::Wrote;
-use records::ReadRecord;
+use records_law::ReadRecord;
 use terms::Act;
 use terms::Event;
 use terms::Refusal;

@@ -6,7 +6,7 @@ use desk_packing::settings;
 use lines_reading_law::ReadEvent;
 use lines_reading_law::ReadSettings;
 use lines_writing_law::Wrote;
-use records::ReadRecord;
+use records_law::ReadRecord;
 use terms::Refusal;
 use terms::sizes;
 ghost use mathlib.Core.Path.{_≡_};

@@ -17,9 +17,9 @@ use Rattle.terms.specs.Sizes.{recordLength, lineRoom}
 use Rattle.terms.specs.Refusals.{firstFailed}
 use Rattle.lines_text_law.specs.Numerals.{allWritable}
 use Rattle.lines_reading_law.specs.Lines.{renderEvent, renderSettings, eventNumbers, settingsNumbers}
-use Rattle.records.specs.declared.ReadRecord.{ReadRecord}
-use Rattle.records.specs.Back.{RecordRead}
-use Rattle.records.proofs.Told.{told-right, told-only, six-at}
+use Rattle.records_law.specs.declared.ReadRecord.{ReadRecord}
+use Rattle.records_law.specs.Back.{RecordRead}
+use Rattle.records_law.proofs.Told.{told-right, told-only, six-at}
 use Rattle.lines_writing_law.specs.declared.Wrote.{Wrote}
 use Rattle.lines_writing_law.specs.Lines.{renderReport, reportNumbers}
 use Rattle.lines_writing_law.specs.Writes.{lineVerdict, wroteOf, roomOf, Writes}

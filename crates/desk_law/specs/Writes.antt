@@ -13,8 +13,8 @@ use Rattle.lines_reading_law.specs.Lines.{renderEvent, renderSettings, eventNum
 use Rattle.lines_writing_law.specs.declared.Wrote.{Wrote}
 use Rattle.lines_writing_law.specs.Lines.{renderReport, reportNumbers}
 use Rattle.lines_writing_law.specs.Writes.{lineVerdict, roomOf}
-use Rattle.records.specs.declared.ReadRecord.{ReadRecord}
-use Rattle.records.specs.Back.{reportFrom}
+use Rattle.records_law.specs.declared.ReadRecord.{ReadRecord}
+use Rattle.records_law.specs.Back.{reportFrom}
 use Rattle.desk_packing.specs.declared.events.FoundEvent.{FoundEvent}
 use Rattle.desk_packing.specs.Runs.{settingsLength, eventLength}
 use Rattle.desk_packing.specs.Settings.{isCategory, settingsFrom}

@@ -26,10 +26,10 @@ use Rattle.lines_writing_law.specs.declared.Wrote.{Wrote}
 use Rattle.lines_writing_law.specs.Lines.{reportNumbers, renderReport}
 use Rattle.lines_writing_law.proofs.Short.{report-short}
 use Rattle.lines_writing_law.specs.Writes.{lineVerdict, wroteOf, roomOf, Writes}
-use Rattle.records.specs.declared.ReadRecord.{ReadRecord}
-use Rattle.records.specs.Back.{RecordRead}
+use Rattle.records_law.specs.declared.ReadRecord.{ReadRecord}
+use Rattle.records_law.specs.Back.{RecordRead}
 use Rattle.terms.proofs.Records.{length-record}
-use Rattle.records.proofs.Told.{told-right, told-only, told-back, six-at}
+use Rattle.records_law.proofs.Told.{told-right, told-only, told-back, six-at}
 use Rattle.feed_law.specs.Texts.{written, reportText, reportsText, toldText, firstRecord, recordText, recordsText}
 use Rattle.feed_law.specs.Feeds.{laid, wroteLength, Prints}
 

@@ -13,8 +13,8 @@ use Rattle.terms.specs.declared.Verdict.the-variants.{Fine, Refused}
 use Rattle.terms.specs.Sizes.{lineRoom, reportsMost, recordLength}
 use Rattle.lines_text_law.specs.Numerals.{allWritable}
 use Rattle.lines_writing_law.specs.Lines.{reportNumbers, renderReport, refusedNumbers, renderRefused, badNumbers, renderBad}
-use Rattle.records.specs.declared.ReadRecord.{ReadRecord}
-use Rattle.records.specs.Back.{reportFrom}
+use Rattle.records_law.specs.declared.ReadRecord.{ReadRecord}
+use Rattle.records_law.specs.Back.{reportFrom}
 use Rattle.feed_law.specs.declared.Stage.{Stage}
 
 -- the most that an event can print: a line for each of its reports

@@ -1,6 +1,6 @@
 // What is said, printed into an output room.
 use lines_writing_law::Wrote;
-use records::ReadRecord;
+use records_law::ReadRecord;
 use terms::Refusal;
 use terms::sizes;
 ghost use mathlib.Core.Path.{_≡_};

@@ -1,7 +1,7 @@
 // The sweep over the counter side's table: a loop that reads the table and writes the reports, then the table is settled once.
-use crate::Incoming;
-use crate::Matched;
-use crate::Passed;
+use matching_law::Incoming;
+use matching_law::Matched;
+use matching_law::Passed;
 use crate::deals;
 use crate::prices;
 use tables::orders;
@@ -13,7 +13,7 @@ ghost use lib.ListN.{length, drop};
 ghost use Rattle.terms.specs.Sizes.{slots, tableLength, recordLength};
 ghost use Rattle.rules_law.specs.Reference.{RangeFits};
 ghost use Rattle.tables.specs.Tables.{decode, tableOf, Holds};
-ghost use Rattle.matching.specs.Sweeps.{trim, headLots, passedWhole, finish, Passes, SweptInto};
+ghost use Rattle.matching_law.specs.Sweeps.{trim, headLots, passedWhole, finish, Passes, SweptInto};
 
 // A sweep that stopped before the counter order in slot i.
 fn stop(i: usize, left: u64, last: u64, out: bool) -> Passed

@@ -1,5 +1,5 @@
 // A fill, and its trade report in the room.
-use crate::Incoming;
+use matching_law::Incoming;
 use terms::Deal;
 use terms::Order;
 use terms::Report;
@@ -12,7 +12,7 @@ ghost use Rattle.terms.specs.Sizes.{recordLength};
 ghost use Rattle.terms.specs.Records.{recordOf};
 ghost use Rattle.tables.specs.Put.{put};
 ghost use Rattle.book_law.specs.Matching.{part, dealOf};
-ghost use Rattle.matching.specs.Sweeps.{fillReport};
+ghost use Rattle.matching_law.specs.Sweeps.{fillReport};
 
 // So many lots of an order.
 pub fn part_of(o: Order, lots: u64) -> Order

@@ -8,7 +8,7 @@ use Rattle.lines_reading_law.specs.declared.ReadSettings.{ReadSettings}
 use Rattle.lines_reading_law.specs.Answers.{eventAnswer, settingsAnswer}
 use Rattle.lines_reading_law.proofs.EventLines.{event-only}
 use Rattle.lines_reading_law.proofs.SettingsLines.{settings-only}
-use Rattle.records.proofs.Told.{told-only}
+use Rattle.records_law.proofs.Told.{told-only}
 use Rattle.lines_writing_law.proofs.Back.{writes-one}
 use Rattle.feed_law.specs.Worlds.{Lent, lentOf}
 use Rattle.promises.specs.Determined.{OpeningDetermined, ViewDetermined, ApplyDetermined, EventReadDetermined, SettingsReadDetermined, WriteDetermined, RecordReadDetermined, WalkDetermined, FeedDetermined}

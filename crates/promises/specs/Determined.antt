@@ -13,8 +13,8 @@ use Rattle.engine_law.specs.Calls.{AppliedAs, viewCall}
 use Rattle.lines_reading_law.specs.declared.ReadEvent.{ReadEvent}
 use Rattle.lines_reading_law.specs.declared.ReadSettings.{ReadSettings}
 use Rattle.lines_reading_law.specs.Answers.{eventAnswer, EventRead, SettingsRead}
-use Rattle.records.specs.declared.ReadRecord.{ReadRecord}
-use Rattle.records.specs.Back.{RecordRead}
+use Rattle.records_law.specs.declared.ReadRecord.{ReadRecord}
+use Rattle.records_law.specs.Back.{RecordRead}
 use Rattle.lines_writing_law.specs.declared.Wrote.{Wrote}
 use Rattle.lines_writing_law.specs.Writes.{Writes}
 use Rattle.feed_law.specs.declared.Run.{Run}

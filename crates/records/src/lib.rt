@@ -1,6 +1,8 @@
 // records: reports told back from the numbers of a report room.
 // It may use terms. It promises, for any room and place: the report whose record stands there, or that no report's does.
 
+use records_law::ReadRecord;
+use records_law::ReadWhy;
 use terms::Band;
 use terms::Closing;
 use terms::Deal;
@@ -13,19 +15,7 @@ use terms::sizes;
 ghost use mathlib.Core.Path.{_≡_};
 ghost use lib.ListN.{take, drop};
 ghost use Rattle.terms.specs.Sizes.{recordLength};
-ghost use Rattle.records.specs.Back.{RecordRead, whyFrom, toldIf, endedFrom, dealFrom, reportFrom};
-
-// A report, or numbers that are no report's.
-pub enum ReadRecord {
-    Told(Report),
-    Nothing,
-}
-
-// A reason, or a number that is none.
-pub enum ReadWhy {
-    Reason(Why),
-    Nothing,
-}
+ghost use Rattle.records_law.specs.Back.{RecordRead, whyFrom, toldIf, endedFrom, dealFrom, reportFrom};
 
 fn why_from(n: u64) -> ReadWhy
     ensures { λ r. ⌜ r ≡ whyFrom n ⌝ }

@@ -1,5 +1,5 @@
 -- A number at a time.
-use Rattle.records.proofs.Told.{numbered}
+use Rattle.records_law.proofs.Told.{numbered}
 use Rattle.desk_runs.proofs.stage_from.Statement.{statement}
 use Rattle.desk_runs.proofs.stage_from.Tie as tie
 

@@ -1,6 +1,6 @@
 -- Six numbers stand there, or too few.
 use native.Mathlib.Omega.{arith}
-use Rattle.records.proofs.Told.{told-right, too-few, six-at}
+use Rattle.records_law.proofs.Told.{told-right, too-few, six-at}
 use borrow.Author.Needs.{needs}
 use Rattle.records.proofs.read_record.Statement.{statement}
 use Rattle.records.proofs.read_record.Tie as tie

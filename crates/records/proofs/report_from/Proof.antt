@@ -1,6 +1,6 @@
 -- By the kind.
-use Rattle.records.proofs.Told.{numbered}
-use Rattle.records.specs.Back.{reportFrom}
+use Rattle.records_law.proofs.Told.{numbered}
+use Rattle.records_law.specs.Back.{reportFrom}
 use borrow.Author.Needs.{needs}
 use Rattle.records.proofs.report_from.Statement.{statement}
 use Rattle.records.proofs.report_from.Tie as tie

@@ -1,5 +1,5 @@
 -- By the tests, in their order.
-use Rattle.records.proofs.Told.{numbered}
+use Rattle.records_law.proofs.Told.{numbered}
 use Rattle.records.proofs.why_from.Statement.{statement}
 use Rattle.records.proofs.why_from.Tie as tie
 

@@ -1,5 +1,5 @@
 -- By the number of what it does.
-use Rattle.records.proofs.Told.{numbered}
+use Rattle.records_law.proofs.Told.{numbered}
 use Rattle.desk_packing.specs.Events.{foundFrom}
 use borrow.Author.Needs.{needs}
 use Rattle.desk_packing.proofs.events.found_from.Statement.{statement}

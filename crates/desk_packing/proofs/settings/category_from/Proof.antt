@@ -1,5 +1,5 @@
 -- A row at a time.
-use Rattle.records.proofs.Told.{numbered}
+use Rattle.records_law.proofs.Told.{numbered}
 use Rattle.desk_packing.proofs.settings.category_from.Statement.{statement}
 use Rattle.desk_packing.proofs.settings.category_from.Tie as tie
 

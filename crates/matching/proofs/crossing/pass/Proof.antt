@@ -6,8 +6,8 @@ use lib.ListN.{length, drop}
 use Rattle.terms.specs.Sizes.{recordLength}
 use Rattle.rules_law.specs.Mark.{markMost}
 use Rattle.tables.specs.Tables.{decode}
-use Rattle.matching.specs.Sweeps.{finish}
-use Rattle.matching.proofs.Turns.{answer-zero, answer-end, answer-stop, answer-part, turn, turn-first}
+use Rattle.matching_law.specs.Sweeps.{finish}
+use Rattle.matching_law.proofs.Turns.{answer-zero, answer-end, answer-stop, answer-part, turn, turn-first}
 use Rattle.matching.proofs.crossing.pass.Statement.{statement}
 use Rattle.matching.proofs.crossing.pass.Tie as tie
 

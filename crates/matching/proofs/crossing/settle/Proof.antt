@@ -1,5 +1,5 @@
 -- The order that was cut short is changed in its slot, then the orders before it are taken out.
-use Rattle.matching.proofs.Settles.{settle-none, settle-low, settle-fits, settle-less, settle-holds, settle-done, head-there}
+use Rattle.matching_law.proofs.Settles.{settle-none, settle-low, settle-fits, settle-less, settle-holds, settle-done, head-there}
 use borrow.Author.Needs.{needs}
 use Rattle.matching.proofs.crossing.settle.Statement.{statement}
 use Rattle.matching.proofs.crossing.settle.Tie as tie

@@ -1,5 +1,5 @@
 -- The loop's answer says how the sweep ends; the settled table is its rest.
-use Rattle.matching.proofs.Settles.{swept-into}
+use Rattle.matching_law.proofs.Settles.{swept-into}
 use borrow.Author.Needs.{needs}
 use Rattle.matching.proofs.crossing.sweep.Statement.{statement}
 use Rattle.matching.proofs.crossing.sweep.Tie as tie

@@ -15,12 +15,12 @@ use Rattle.tables.specs.Put.{put}
 use Rattle.tables.specs.Tables.{orderAt, decode}
 use Rattle.tables.proofs.Slots.{decode-read, decode-end}
 use Rattle.book_law.specs.Matching.{part, stopped, firstAfter, sweep}
-use Rattle.matching.specs.declared.Incoming.{Incoming}
-use Rattle.matching.specs.declared.Meeting.{Meeting}
-use Rattle.matching.specs.declared.Passed.{Passed}
-use Rattle.matching.specs.Sweeps.{takerOf, meetingOf, fillReport, headLots, End, finish, passedWhole, Passes}
-use Rattle.matching.proofs.Tests.{sweep-zero, sweep-stops, sweep-cuts, sweep-takes, first-small}
-use Rattle.matching.proofs.Ends.{finish-stops, finish-cuts, finish-takes}
+use Rattle.matching_law.specs.declared.Incoming.{Incoming}
+use Rattle.matching_law.specs.declared.Meeting.{Meeting}
+use Rattle.matching_law.specs.declared.Passed.{Passed}
+use Rattle.matching_law.specs.Sweeps.{takerOf, meetingOf, fillReport, headLots, End, finish, passedWhole, Passes}
+use Rattle.matching_law.proofs.Tests.{sweep-zero, sweep-stops, sweep-cuts, sweep-takes, first-small}
+use Rattle.matching_law.proofs.Ends.{finish-stops, finish-cuts, finish-takes}
 
 pub head-lots : (o : Order) (os xs : List Order) → os ≡ o ∷ xs → headLots os ≡ o .lots
 unfolding headLots

@@ -14,12 +14,12 @@ use Rattle.tables.proofs.Slots.{length-decode, decode-read, decode-end}
 use Rattle.tables.proofs.Whole.{After, after}
 use Rattle.book_law.specs.Matching.{part}
 use Rattle.book_law.proofs.Conserve.{sweep-fewer}
-use Rattle.matching.specs.declared.Incoming.{Incoming}
-use Rattle.matching.specs.declared.Passed.{Passed}
-use Rattle.matching.specs.declared.Matched.{Matched}
-use Rattle.matching.specs.Sweeps.{takerOf, sweptOf, trim, headLots, End, finish, Passes, SweptInto}
-use Rattle.matching.proofs.Ends.{trim-none}
-use Rattle.matching.proofs.Turns.{head-lots}
+use Rattle.matching_law.specs.declared.Incoming.{Incoming}
+use Rattle.matching_law.specs.declared.Passed.{Passed}
+use Rattle.matching_law.specs.declared.Matched.{Matched}
+use Rattle.matching_law.specs.Sweeps.{takerOf, sweptOf, trim, headLots, End, finish, Passes, SweptInto}
+use Rattle.matching_law.proofs.Ends.{trim-none}
+use Rattle.matching_law.proofs.Turns.{head-lots}
 
 -- ---- settle
 

@@ -13,8 +13,8 @@ use Rattle.tables.specs.Put.{put}
 use Rattle.tables.proofs.Puts.{put-none, put-put}
 use Rattle.terms.proofs.Records.{length-record}
 use Rattle.book_law.specs.Matching.{Swept, part, stopped, cutShort, takenWhole, firstAfter, sweep, tradeReports, ownLastOr}
-use Rattle.matching.specs.declared.Incoming.{Incoming}
-use Rattle.matching.specs.Sweeps.{takerOf, recordsFor, fillReport, trim, finish}
+use Rattle.matching_law.specs.declared.Incoming.{Incoming}
+use Rattle.matching_law.specs.Sweeps.{takerOf, recordsFor, fillReport, trim, finish}
 
 pub trim-none : (os : List Order) → trim 0 os ≡ os
 unfolding trim

@@ -10,8 +10,8 @@ use Rattle.terms.specs.declared.Said.{Said}
 use Rattle.terms.specs.declared.Said.the-variants.{Accept, Trade, Convert, Cancel, Slab, Ref, Close}
 use Rattle.terms.specs.declared.Why.the-variants.{Asked, Immediate, OutOfRange, OutsideBand, DayEnd}
 use Rattle.terms.specs.Records.{recordOf}
-use Rattle.records.specs.declared.ReadRecord.{ReadRecord}
-use Rattle.records.specs.declared.ReadWhy.{ReadWhy}
+use Rattle.records_law.specs.declared.ReadRecord.{ReadRecord}
+use Rattle.records_law.specs.declared.ReadWhy.{ReadWhy}
 
 -- the contract: the report whose record the numbers are, or that they are no report's
 abbrev pub RecordRead : List ℕ → ReadRecord → Type 0

@@ -13,10 +13,10 @@ use Rattle.rules_law.specs.Reference.{inRange}
 use Rattle.tables.specs.Put.{put}
 use Rattle.tables.specs.Tables.{tableOf}
 use Rattle.book_law.specs.Matching.{Taker, Swept, taker, fits, beyond, part, sweep, reportAt, dealOf, tradeReports, ownLastOr}
-use Rattle.matching.specs.declared.Incoming.{Incoming}
-use Rattle.matching.specs.declared.Meeting.{Meeting}
-use Rattle.matching.specs.declared.Passed.{Passed}
-use Rattle.matching.specs.declared.Matched.{Matched}
+use Rattle.matching_law.specs.declared.Incoming.{Incoming}
+use Rattle.matching_law.specs.declared.Meeting.{Meeting}
+use Rattle.matching_law.specs.declared.Passed.{Passed}
+use Rattle.matching_law.specs.declared.Matched.{Matched}
 
 -- ---- the whole of a sweep
 

@@ -19,9 +19,9 @@ use Rattle.terms.specs.Reports.{whyOf}
 use Rattle.terms.specs.Records.{recordOf}
 use Rattle.terms.proofs.Logic.{by, split}
 use Rattle.terms.proofs.Records.{length-record}
-use Rattle.records.specs.declared.ReadRecord.{ReadRecord}
-use Rattle.records.specs.declared.ReadWhy.{ReadWhy}
-use Rattle.records.specs.Back.{RecordRead, whyFrom, zeroTwo, zeroThree, toldIf, endedFrom, reportFrom}
+use Rattle.records_law.specs.declared.ReadRecord.{ReadRecord}
+use Rattle.records_law.specs.declared.ReadWhy.{ReadWhy}
+use Rattle.records_law.specs.Back.{RecordRead, whyFrom, zeroTwo, zeroThree, toldIf, endedFrom, reportFrom}
 
 -- ---- a cascade of tests for a number, a `return` at a time: `search numbered`
 
