@@ -12,12 +12,10 @@ use terms::sizes;
 ghost use Prim.Native.Nat.{_≤_};
 ghost use mathlib.Core.Path.{_≡_};
 ghost use lib.ListN.{length};
-ghost use Rattle.terms.specs.Sizes.{lineRoom};
-ghost use Rattle.feed_law.specs.declared.Stage.{Stage};
 ghost use Rattle.feed_law.specs.declared.Stop.{Stop};
-ghost use Rattle.feed_law.specs.Texts.{mostAt, endText};
+ghost use Rattle.feed_law.specs.Texts.{mostAt};
 ghost use Rattle.feed_law.specs.Turns.{stopAt};
-ghost use Rattle.feed_law.specs.Feeds.{Prints, TakenAs, TakenBy, takenTo, linesOf, fedOf, endedOf, EndsBehind};
+ghost use Rattle.feed_law.specs.Feeds.{TakenAs, TakenBy, takenTo, linesOf, fedOf, endedOf, EndsBehind};
 
 // The output room that the reports of any event fit in.
 pub const TEXT: usize = sizes::REPORTS * sizes::LINE;
@@ -107,29 +105,6 @@ pub fn take_lines(
     while_room(run, bytes, buys, sells, room, out)
 }
 
-// What the end prints behind the last line of a day, with so many bytes left.
-fn tell_tail(rest: usize, out: &mut [u8]) -> usize
-    requires { ⌜ lineRoom ≤ length (now out) ⌝ }
-    ensures { λ r. ⌜ Prints (now (out .entry)) (endText Stage.Trading rest) r (now (out .exit)) ⌝ }
-{
-    if rest == 0 {
-        return 0;
-    }
-    telling::tell_bad(Refusal::LineUnfinished, rest, out)
-}
-
-// What the end of the input prints, by where the run stands.
-fn tell_end(stage: Stage, rest: usize, out: &mut [u8]) -> usize
-    requires { ⌜ lineRoom ≤ length (now out) ⌝ }
-    ensures { λ r. ⌜ Prints (now (out .entry)) (endText stage rest) r (now (out .exit)) × (r ≤ lineRoom) ⌝ }
-{
-    match stage {
-        Stage::Awaiting => telling::tell_bad(Refusal::LineUnfinished, rest, out),
-        Stage::Trading => tell_tail(rest, out),
-        Stage::Over => 0,
-    }
-}
-
 // The end behind lines that left no whole one: it is told where a line fits, and the run is over.
 fn finish(t: Taken, bytes: usize, out: &mut [u8]) -> Taken
     requires { ⌜ (t .used ≤ bytes) × (t .wrote ≤ length (now out)) ⌝ }
@@ -143,7 +118,7 @@ fn finish(t: Taken, bytes: usize, out: &mut [u8]) -> Taken
     if out.len() - wrote < sizes::LINE {
         return taken(run, used, wrote, Stop::Full);
     }
-    let told = tell_end(stage, bytes - used, &mut out[wrote..]);
+    let told = telling::tell_end(stage, bytes - used, &mut out[wrote..]);
     let over = Run {
         stage: Stage::Over,
         session: session,

@@ -1,4 +1,5 @@
 // What is said, printed into an output room.
+use feed_law::Stage;
 use lines_writing_law::Wrote;
 use records_law::ReadRecord;
 use terms::Refusal;
@@ -7,7 +8,8 @@ ghost use mathlib.Core.Path.{_≡_};
 ghost use Prim.Native.Nat.{_+_, _*_, _≤_};
 ghost use lib.ListN.{length, drop};
 ghost use Rattle.terms.specs.Sizes.{lineRoom, recordLength};
-ghost use Rattle.feed_law.specs.Texts.{recordText, recordsText, refusedText, badText};
+ghost use Rattle.feed_law.specs.Texts.{recordText, recordsText, refusedText, badText, endText};
+ghost use Rattle.feed_law.specs.declared.Stage.{Stage};
 ghost use Rattle.feed_law.specs.Feeds.{Prints, wroteLength};
 
 // How many bytes a writer wrote.
@@ -34,6 +36,29 @@ pub fn tell_bad(refusal: Refusal, place: usize, out: &mut [u8]) -> usize
     ensures { λ r. ⌜ Prints (now (out .entry)) (badText refusal place) r (now (out .exit)) ⌝ }
 {
     length_of(lines_writing_reports::write_bad(refusal, place, out))
+}
+
+// What the end prints behind the last line of a day, with so many bytes left.
+fn tell_tail(rest: usize, out: &mut [u8]) -> usize
+    requires { ⌜ lineRoom ≤ length (now out) ⌝ }
+    ensures { λ r. ⌜ Prints (now (out .entry)) (endText Stage.Trading rest) r (now (out .exit)) ⌝ }
+{
+    if rest == 0 {
+        return 0;
+    }
+    tell_bad(Refusal::LineUnfinished, rest, out)
+}
+
+// What the end of the input prints, by where the run stands.
+pub fn tell_end(stage: Stage, rest: usize, out: &mut [u8]) -> usize
+    requires { ⌜ lineRoom ≤ length (now out) ⌝ }
+    ensures { λ r. ⌜ Prints (now (out .entry)) (endText stage rest) r (now (out .exit)) × (r ≤ lineRoom) ⌝ }
+{
+    match stage {
+        Stage::Awaiting => tell_bad(Refusal::LineUnfinished, rest, out),
+        Stage::Trading => tell_tail(rest, out),
+        Stage::Over => 0,
+    }
 }
 
 // The line of the record that stands in the room from `at` on.

@@ -1,9 +1,9 @@
 // The sweep over the counter side's table: a loop that reads the table and writes the reports, then the table is settled once.
+use crate::deals;
+use crate::prices;
 use matching_law::Incoming;
 use matching_law::Matched;
 use matching_law::Passed;
-use crate::deals;
-use crate::prices;
 use tables::orders;
 use terms::sizes;
 ghost use mathlib.Core.Path.{_≡_};
