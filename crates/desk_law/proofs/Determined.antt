@@ -1,6 +1,6 @@
 -- Each result at the boundary is an equation against the definitions, so two are equal.
 use mathlib.Core.Path.{sym, _∙_}
-use Rattle.desk_law.specs.Determined.{OpenDetermined, ApplyDetermined, ReadDetermined, WriteDetermined, StartDetermined, FeedDetermined}
+use Rattle.desk_law.specs.Determined.{OpenDetermined, ApplyDetermined, ReadDetermined, WriteDetermined, StartDetermined, FeedDetermined, SoundDetermined, ViewDetermined}
 
 pub open-determined : OpenDetermined
 open-determined gs run run₁ run₂ r₁ r₂ a b = (a .answer ∙ sym (b .answer), a .laid ∙ sym (b .laid))
@@ -38,3 +38,9 @@ feed-determined of run bytes buys sells room out counts run₁ buys₁ sells₁ 
       a .printed ∙ sym (b .printed),
       a .counted ∙ sym (b .counted),
     )
+
+pub sound-determined : SoundDetermined
+sound-determined run buys sells r₁ r₂ a b = a ∙ sym b
+
+pub view-determined : ViewDetermined
+view-determined side run buys sells r₁ r₂ a b = a ∙ sym b

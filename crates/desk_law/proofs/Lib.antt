@@ -1,6 +1,7 @@
 pub mod TextFeeds
 pub mod Opens
 pub mod Applying
+pub mod Answers
 pub mod LineReads
 pub mod LineWrites
 pub mod Again

@@ -1,23 +1,17 @@
 -- Numbers that are no session's or no event's are turned away in their turn: by 2, "session not sound", and by 4, "a number of the event out of
 -- its range". Assumes nothing.
 use Prim.Native.Nat.{ℕ}
-use mathlib.Core.Path.{_≡_, refl}
+use mathlib.Core.Path.{_≡_}
 use mathlib.Core.Bool.{false}
 use mathlib.Core.List.{List}
 use Rattle.terms.specs.Truth.{_⊓_}
 use Rattle.terms.specs.Numbers.{isTime}
-use Rattle.terms.specs.Settings.{settingsRanged, settingsValid}
-use Rattle.state_law.specs.Opening.{fixedSession}
-use Rattle.soundness_law.specs.Sound.{clockSound, sessionSound, sound, dayIn}
+use Rattle.soundness_law.specs.Sound.{sound, dayIn}
+use Rattle.soundness_law.proofs.Days.{fixed-unsound}
 use Rattle.refusal_law.specs.Refusals.{numbersRight}
 use Rattle.desk_packing.specs.declared.events.FoundEvent.{FoundEvent}
 use Rattle.desk_packing.specs.Sessions.{isSession, sessionFrom}
 use Rattle.desk_packing.specs.Events.{foundIn, eventFrom}
-
--- "one fixed session, .. which is not sound"
-fixed-unsound : (buys sells : List ℕ) → sound (dayIn fixedSession buys sells) ≡ false
-unfolding sound sessionSound clockSound settingsValid settingsRanged fixedSession _⊓_
-fixed-unsound buys sells = refl
 
 pub no-session-unsound : (ns buys sells : List ℕ) → isSession ns ≡ false → sound (dayIn (sessionFrom ns) buys sells) ≡ false
 unfolding sessionFrom

@@ -4,10 +4,8 @@ use mathlib.Core.Path.{_≡_}
 use mathlib.Core.List.{List}
 use Rattle.terms.specs.declared.Verdict.{Verdict}
 use Rattle.lines_text_law.specs.Grammar.{Answer}
-use Rattle.feed_law.specs.declared.Run.{Run}
-use Rattle.feed_law.specs.Worlds.{Lent}
 use Rattle.feed_law.specs.Feeds.{Feed}
-use Rattle.desk_law.specs.Calls.{OpenedAs, AppliedOn}
+use Rattle.desk_law.specs.Calls.{OpenedAs, AppliedOn, soundOn, viewOn}
 use Rattle.desk_law.specs.Reads.{ReadInto}
 use Rattle.desk_law.specs.Writes.{WrittenOn}
 use Rattle.desk_law.specs.Feeding.{StartedAs, FedAs}
@@ -53,3 +51,10 @@ FeedDetermined =
     FedAs of run bytes buys sells room out counts run₁ buys₁ sells₁ room₁ out₁ counts₁ r₁ →
     FedAs of run bytes buys sells room out counts run₂ buys₂ sells₂ room₂ out₂ counts₂ r₂ →
     Coincide run₁ buys₁ sells₁ room₁ run₂ buys₂ sells₂ room₂ r₁ r₂ × (out₁ ≡ out₂) × (counts₁ ≡ counts₂)
+
+-- `kakoludar_sound` and `kakoludar_view`
+abbrev pub SoundDetermined : Type 0
+SoundDetermined = (run buys sells : List ℕ) (r₁ r₂ : ℕ) → r₁ ≡ soundOn run buys sells → r₂ ≡ soundOn run buys sells → r₁ ≡ r₂
+
+abbrev pub ViewDetermined : Type 0
+ViewDetermined = (side : ℕ) (run buys sells : List ℕ) (r₁ r₂ : ℕ) → r₁ ≡ viewOn side run buys sells → r₂ ≡ viewOn side run buys sells → r₁ ≡ r₂

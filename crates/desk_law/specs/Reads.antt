@@ -5,22 +5,19 @@ use mathlib.Core.Bool.{cond}
 use mathlib.Core.List.{List}
 use lib.Dec.{ltb}
 use lib.ListN.{length}
-use Rattle.terms.specs.declared.Refusal.the-variants.{SmallRoom, LineUnfinished, LineWrong}
+use Rattle.terms.specs.declared.Refusal.the-variants.{SmallRoom}
 use Rattle.terms.specs.declared.Verdict.the-variants.{Refused}
-use Rattle.terms.specs.Refusals.{numberOf}
 use Rattle.tables.specs.Put.{put}
 use Rattle.lines_text_law.specs.Grammar.{Answer, whole, unfinished, wrong}
-use Rattle.lines_reading_law.specs.Answers.{readEvent, readSettings}
+use Rattle.lines_reading_law.specs.Answers.{codeOf, countOf, readEvent, readSettings}
 use Rattle.desk_packing.specs.Runs.{settingsLength, eventLength}
 use Rattle.desk_packing.specs.Settings.{settingsNumbers}
 use Rattle.desk_packing.specs.Events.{eventNumbers}
 use Rattle.desk_answers.specs.Answers.{answerNumber, answerOf}
 
--- the bytes that a line took; 14; "15, line wrong; returns the place"
+-- the paper's number of what was read, 0, 14 or 15, and its value: the bytes that the line took, or the place
 abbrev pub readNumber : {E : Type 0} → Answer E → ℕ
-readNumber (whole e n) = answerNumber 0 n
-readNumber unfinished = answerNumber (numberOf LineUnfinished) 0
-readNumber (wrong n) = answerNumber (numberOf LineWrong) n
+readNumber a = answerNumber (codeOf a) (countOf a)
 
 -- the run of what was read; a refusal writes nothing
 abbrev pub runRead : {E : Type 0} → (E → List ℕ) → Answer E → List ℕ → List ℕ

@@ -63,11 +63,11 @@ roomy-long buys sells room found h t =
 
 module _ (s : Session) (e : Event) (buys sells room : List ℕ) where
   -- row 1 applies, or the other rows decide
-  small-verdict : roomy buys sells room ≡ false → callVerdict s e buys sells room ≡ Refused SmallRoom
+  pub small-verdict : roomy buys sells room ≡ false → callVerdict s e buys sells room ≡ Refused SmallRoom
   unfolding callVerdict firstFailed
   small-verdict h = rw h
 
-  roomy-verdict : roomy buys sells room ≡ true → callVerdict s e buys sells room ≡ refusalOf (dayIn s buys sells) e
+  pub roomy-verdict : roomy buys sells room ≡ true → callVerdict s e buys sells room ≡ refusalOf (dayIn s buys sells) e
   unfolding callVerdict firstFailed refusalOf
   roomy-verdict h = rw h
 

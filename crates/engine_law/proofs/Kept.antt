@@ -4,16 +4,18 @@
 use Prim.Native.Nat.{ℕ, _+_, _≤_, _<_}
 use native.Mathlib.Omega.{arith}
 use native.Mathlib.Nat.{le-refl}
+use native.Mathlib.Numerals.{add-one}
 use borrow.Author.Tests.{leb-true, eq-eqb, ne-eqb}
-use mathlib.Core.Path.{_≡_, refl, _∙_}
-use mathlib.Core.Bool.{true}
-use mathlib.Core.List.{[], _++_, append-nil}
+use mathlib.Core.Path.{_≡_, refl, ap, _∙_}
+use mathlib.Core.Bool.{true, false}
+use mathlib.Core.List.{[], _∷_, _++_, append-nil, append-cancel-left}
 use mathlib.Core.Option.{Option, some, none}
 use lib.ListN.{length}
 use Rattle.terms.specs.declared.Entry.{Entry}
 use Rattle.terms.specs.declared.Event.{Event}
 use Rattle.terms.specs.declared.Act.the-variants.{Enter}
 use Rattle.terms.specs.declared.Refusal.{Refusal}
+use Rattle.terms.specs.declared.Refusal.the-variants.{Unsound}
 use Rattle.terms.specs.declared.Verdict.{Verdict}
 use Rattle.terms.specs.declared.Verdict.the-variants.{Fine, Refused}
 use Rattle.terms.specs.Sizes.{reportsMost}
@@ -26,7 +28,7 @@ use Rattle.soundness_law.specs.Sound.{sound}
 use Rattle.book_law.specs.Tells.{maybe}
 use Rattle.refusal_law.specs.Carried.{carries}
 use Rattle.refusal_law.specs.Refusals.{refusalOf}
-use Rattle.refusal_law.proofs.Accepted.{Accepted, accepted}
+use Rattle.refusal_law.proofs.Accepted.{Accepted, accepted, unsound-refused}
 use Rattle.acts_law.specs.Acts.{act}
 use Rattle.acts_law.specs.Small.{SmallReports}
 use Rattle.acts_law.specs.Asked.{wanted, askedBy, resting, accepts, numbersTo}
@@ -67,6 +69,10 @@ outcome-verdict d e = go (refusalOf d e)
     go : (v : Verdict) → decided v d (act d e) .verdict ≡ v
     go Fine = refl
     go (Refused r) = refl
+
+-- so on a day that is not sound, on which 2 refuses every event, all stays as it is
+pub unsound-nothing : (d : Day) (e : Event) → sound d ≡ false → (outcome d e .day ≡ d) × (outcome d e .reports ≡ [])
+unsound-nothing d e h = refused-nothing d e Unsound (outcome-verdict d e ∙ unsound-refused d e h)
 
 -- ---- soundness
 
@@ -142,6 +148,16 @@ accepted-asks d t n =
     by-verdict (λ (o : Outcome). o .verdict ≡ Fine → (askedBy id (Enter n) (o .reports) ≡ n .lots) × (o .day .session .given ≡ id)) d e
     (λ k h. (act-asks id d e ∙ rw (eq-eqb id id refl), act-given d e))
     (λ r h. absurd (let z : _≡_ {A = ℕ} 0 1 = cc in omega arith))
+
+-- which its one report of acceptance tells
+pub accepted-number : (d : Day) (t : ℕ) (n : Entry) → outcome d (record { time = t; act = Enter n }) .verdict ≡ Fine →
+    accepts (outcome d (record { time = t; act = Enter n }) .reports) ≡ (d .session .given + 1) ∷ []
+unfolding numbersTo
+accepted-number d t n h =
+    let e : Event = record { time = t; act = Enter n } in
+    let given : ℕ = d .session .given in
+    append-cancel-left (numbersTo given) (accepts (outcome d e .reports)) ((given + 1) ∷ [])
+    (outcome-counts d e ∙ ap numbersTo (accepted-asks d t n h .1) ∙ rw (add-one given))
 
 -- numbers are never taken back
 given-grows : (given : ℕ) (n : Option Entry) → given ≤ maybe given (λ n. given + 1) n

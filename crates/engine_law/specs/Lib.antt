@@ -1,3 +1,4 @@
 pub mod Outcome
+pub mod Answers
 pub mod Calls
 pub mod Steps

@@ -30,6 +30,12 @@ codeOf (whole e n) = 0
 codeOf unfinished = numberOf LineUnfinished
 codeOf (wrong n) = numberOf LineWrong
 
+-- and its value: the bytes that a line takes; "15, line wrong; returns the place"
+abbrev pub countOf : {E : Type 0} → Answer E → ℕ
+countOf (whole e n) = n
+countOf unfinished = 0
+countOf (wrong n) = n
+
 -- the contract of a reader: its answer is the right one for the bytes
 pub record EventRead (bytes : List ℕ) (r : ReadEvent) : Type 0 where
   pub right : Right EventLine bytes (eventAnswer r)

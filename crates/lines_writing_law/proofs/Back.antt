@@ -11,6 +11,7 @@ use Rattle.terms.specs.declared.Refusal.{Refusal}
 use Rattle.terms.specs.declared.Verdict.{Verdict}
 use Rattle.terms.specs.declared.Verdict.the-variants.{Fine, Refused}
 use Rattle.terms.specs.Sizes.{lineRoom}
+use Rattle.terms.specs.Refusals.{codeOf}
 use Rattle.terms.proofs.Cascade.{fine-first}
 use Rattle.lines_text_law.specs.Numerals.{Writable, allWritable}
 use Rattle.lines_text_law.specs.Grammar.{whole}
@@ -20,11 +21,19 @@ use Rattle.lines_reading_law.specs.Answers.{readEvent, readSettings}
 use Rattle.lines_reading_law.proofs.EventLines.{event-back}
 use Rattle.lines_reading_law.proofs.SettingsLines.{settings-back}
 use Rattle.lines_writing_law.specs.declared.Wrote.{Wrote}
-use Rattle.lines_writing_law.specs.Writes.{lineVerdict, wroteOf, roomOf, Writes}
+use Rattle.lines_writing_law.specs.Writes.{lineVerdict, wroteOf, wroteCode, roomOf, Writes}
 
 -- a writer's answer and room are determined by what it was handed
 pub writes-one : {d line ns d′ d″ : List ℕ} {r q : Wrote} → Writes d line ns r d′ → Writes d line ns q d″ → (r ≡ q) × (d′ ≡ d″)
 writes-one a b = (a .answer ∙ sym (b .answer), a .laid ∙ sym (b .laid))
+
+-- its number is that of the first row that applies
+code-by : (v : Verdict) (n : ℕ) → wroteCode (wroteOf v n) ≡ codeOf v
+code-by Fine n = refl
+code-by (Refused r) n = refl
+
+pub written-code : {d line ns d′ : List ℕ} {r : Wrote} → Writes d line ns r d′ → wroteCode r ≡ codeOf (lineVerdict d ns)
+written-code {d} {line} {ns} a = ap wroteCode (a .answer) ∙ code-by (lineVerdict d ns) (length line)
 
 fine-writable : (d ns : List ℕ) → lineVerdict d ns ≡ Fine → Writable ns
 unfolding lineVerdict

@@ -8,7 +8,7 @@ use Rattle.terms.specs.declared.Refusal.the-variants.{SmallLineRoom, NumberLong
 use Rattle.terms.specs.declared.Verdict.{Verdict}
 use Rattle.terms.specs.declared.Verdict.the-variants.{Fine, Refused}
 use Rattle.terms.specs.Sizes.{lineRoom}
-use Rattle.terms.specs.Refusals.{unless, firstFailed}
+use Rattle.terms.specs.Refusals.{numberOf, unless, firstFailed}
 use Rattle.lines_text_law.specs.Numerals.{allWritable}
 use Rattle.lines_text_law.specs.Forms.{fill, holes, longest}
 use Rattle.lines_writing_law.specs.declared.Wrote.{Wrote}
@@ -21,6 +21,11 @@ lineVerdict room numbers = firstFailed (unless SmallLineRoom (leb lineRoom (leng
 abbrev pub wroteOf : Verdict → ℕ → Wrote
 wroteOf Fine n = Wrote.Written n
 wroteOf (Refused r) n = Wrote.Refused r
+
+-- the paper's number of an answer: that of the refusal, 0 for a line
+abbrev pub wroteCode : Wrote → ℕ
+wroteCode (Wrote.Written n) = 0
+wroteCode (Wrote.Refused r) = numberOf r
 
 -- the room: the line, and "Line room past the newline is untouched"; refusals "write nothing"
 abbrev pub roomOf : Verdict → List ℕ → List ℕ → List ℕ

@@ -14,26 +14,36 @@ use Rattle.rules_law.specs.Slabs.{percentOf}
 use Rattle.rules_law.specs.Reference.{openingReference}
 use Rattle.book_law.specs.Matching.{reportAt}
 use Rattle.book_law.specs.Over.{tally}
+use Rattle.book_law.specs.Told.{traded, cancelled}
+use Rattle.state_law.specs.declared.Session.{Session}
 use Rattle.state_law.specs.Opening.{openedSession}
 use Rattle.state_law.specs.Day.{Day, opened}
 use Rattle.state_law.proofs.Begins.{opened-begun}
 use Rattle.soundness_law.proofs.Days.{opened-sound}
 use Rattle.refusal_law.proofs.Accepted.{sound-not-two}
-use Rattle.acts_law.specs.Asked.{accepts, numbersTo}
+use Rattle.acts_law.specs.Asked.{resting, accepts, numbersTo}
 use Rattle.acts_law.specs.Heard.{lastSaid, initialBand, bandAfter, referenceAfter, touchedIn, touchedBy}
 use Rattle.acts_law.proofs.Hears.{Listener, listen, listenAll, EachFine, Cooled, fine-at}
 use Rattle.engine_law.specs.Outcome.{after, told}
 use Rattle.engine_law.proofs.Kept.{outcome-verdict, outcome-few}
-use Rattle.promises.specs.Lots.{LotsKept, OrderKept}
+use Rattle.promises.specs.Lots.{asked, LotsKept, OrderKept}
 use Rattle.promises.specs.Given.{GivenInOrder}
 use Rattle.promises.specs.Within.{TradesWithin}
 use Rattle.promises.specs.Slabs.{NeverNarrows, WidensAfterTouch, WidensToEnhanced}
 use Rattle.promises.specs.Always.{AlwaysSound, NeverTwo, TimeForward, ReportsForward, ReportsFit}
 use Rattle.promises.proofs.Runs.{after-append, run-sound, run-forward, run-kept, run-counts, run-fine, run-asked}
 
-pub lots-kept : LotsKept
+-- a day without orders
+abbrev pub emptyDay : Session → Day
+emptyDay s = record { session = s; buys = []; sells = [] }
+
+pub empty-kept : (id : ℕ) (s : Session) (es : List Event) →
+    asked id (emptyDay s) es ≡ traded id (told (emptyDay s) es) + cancelled id (told (emptyDay s) es) + resting id (after (emptyDay s) es)
 unfolding tally
-lots-kept g es id = omega (arith, run-kept id (opened g) es)
+empty-kept id s es = omega (arith, run-kept id (emptyDay s) es)
+
+pub lots-kept : LotsKept
+lots-kept g es id = empty-kept id (openedSession g) es
 
 -- of one order: its lots are all that its number ever asks for
 pub order-kept : OrderKept
@@ -41,11 +51,13 @@ order-kept g before later t n h =
     sym (run-asked (opened g) before later t n h)
     ∙ lots-kept g (before ++ (record { time = t; act = Enter n } ∷ later)) (after (opened g) before .session .given + 1)
 
-pub given-in-order : GivenInOrder
+-- where no number is given yet
+pub counts-from : (d : Day) (es : List Event) → d .session .given ≡ 0 → accepts (told d es) ≡ numbersTo (after d es .session .given)
 unfolding numbersTo
-given-in-order g es =
-    subst (λ (n : ℕ). numbersTo n ++ accepts (told (opened g) es) ≡ numbersTo (after (opened g) es .session .given)) (opened-begun g .none-given)
-    (run-counts (opened g) es)
+counts-from d es e = subst (λ (n : ℕ). numbersTo n ++ accepts (told d es) ≡ numbersTo (after d es .session .given)) e (run-counts d es)
+
+pub given-in-order : GivenInOrder
+given-in-order g es = counts-from (opened g) es (opened-begun g .none-given)
 
 pub always-sound : AlwaysSound
 always-sound g es h = run-sound (opened g) es (opened-sound g h)

@@ -5,6 +5,8 @@ pub mod ClockLine
 pub mod Cases
 pub mod Records
 pub mod Tables
-pub mod Determined
+pub mod Openings
+pub mod Calls
 pub mod Seen
+pub mod Determined
 pub mod Printing

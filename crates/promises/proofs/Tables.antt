@@ -1,5 +1,5 @@
 -- From calls to the definitions: what a call hands out and leaves is the outcome of its event on the day that was held, so a run of calls
--- is a run of the definitions, and each promise is one of the calls.
+-- is a run of the definitions. A call that is refused changes nothing that is held.
 use Prim.Native.Nat.{ℕ, _+_, _*_}
 use native.Mathlib.Omega.{arith}
 use mathlib.Core.Path.{_≡_, refl, sym, ap, _∙_, subst}
@@ -7,85 +7,123 @@ use mathlib.Core.Bool.{Bool, true, false}
 use mathlib.Core.List.{List, [], _∷_, _++_}
 use lib.ListN.{length, take}
 use lib.Seq.{take-append-seam}
-use Rattle.terms.specs.declared.Settings.{Settings}
 use Rattle.terms.specs.declared.Event.{Event}
 use Rattle.terms.specs.declared.Order.{Order}
 use Rattle.terms.specs.declared.Report.{Report}
 use Rattle.terms.specs.declared.Refusal.{Refusal}
-use Rattle.terms.specs.declared.Refusal.the-variants.{SmallRoom, Unsound}
+use Rattle.terms.specs.declared.Refusal.the-variants.{SmallRoom}
 use Rattle.terms.specs.declared.Verdict.{Verdict}
 use Rattle.terms.specs.declared.Verdict.the-variants.{Fine, Refused}
 use Rattle.terms.specs.Sizes.{recordLength}
-use Rattle.terms.proofs.Logic.{cases}
 use Rattle.terms.specs.Records.{recordsOf}
 use Rattle.terms.specs.Refusals.{codeOf}
+use Rattle.terms.proofs.Records.{length-records}
+use Rattle.terms.proofs.Refusals.{code-fine}
 use Rattle.tables.specs.Put.{put}
 use Rattle.tables.specs.Tables.{decode, tableOf}
 use Rattle.tables.proofs.Slots.{decode-encode}
-use Rattle.terms.proofs.Records.{length-records}
-use Rattle.book_law.specs.Told.{traded, cancelled}
+use Rattle.book_law.specs.Told.{total}
 use Rattle.state_law.specs.declared.Session.{Session}
-use Rattle.state_law.specs.Opening.{openedSession}
-use Rattle.state_law.specs.Day.{Day, opened}
-use Rattle.soundness_law.specs.Sound.{dayIn}
+use Rattle.state_law.specs.Day.{Day}
 use Rattle.soundness_law.proofs.Days.{SoundDay, sound-day}
-use Rattle.refusal_law.proofs.Accepted.{sound-not-two}
-use Rattle.acts_law.specs.Acts.{Acted, act}
-use Rattle.acts_law.specs.Asked.{resting, accepts, numbersTo}
-use Rattle.engine_law.specs.declared.Answer.{Answer}
+use Rattle.refusal_law.specs.Refusals.{refusalOf}
+use Rattle.acts_law.specs.Acts.{act}
+use Rattle.acts_law.specs.Asked.{askedBy}
+use Rattle.engine_law.specs.Answers.{answerCount}
 use Rattle.engine_law.specs.Outcome.{Outcome, decided, outcome, after, told}
-use Rattle.engine_law.specs.Calls.{roomy, callVerdict, called, answerBy, tableBy}
-use Rattle.engine_law.proofs.Kept.{outcome-verdict, accepted-sound, refused-nothing}
-use Rattle.engine_law.proofs.Applies.{called-outcome, called-short}
-use Rattle.promises.specs.Runs.{Held, dayHeld, openedOn, Call, HandsOut, Called, counting, Run, RunsAsDefined, CallsKeepLots, CallsKeepOrders, CallsTradeWithin, CallsStaySound, CallsNeverTwo, CallsGiveInOrder, CallsGoForward, CallsWritable, CallsWiden, SameRuns, CallsClockLine}
-use Rattle.promises.specs.ClockLine.{clockAt, plain}
+use Rattle.engine_law.specs.Calls.{callVerdict, called, tableBy}
+use Rattle.engine_law.proofs.Kept.{accepted-sound, refused-nothing}
+use Rattle.engine_law.proofs.Answers.{called-verdict, answered-code, answered-count}
+use Rattle.engine_law.proofs.Applies.{called-outcome, small-verdict, roomy-verdict}
+use Rattle.engine_law.proofs.Called.{fine-roomy}
+use Rattle.promises.specs.Lots.{asked}
+use Rattle.promises.specs.Runs.{Held, dayHeld, Call, hasRoom, Called, numberAnswered, counting, Run, askedOver}
 use Rattle.promises.specs.Runs.Run.{ends, calls}
 use Rattle.promises.proofs.Records.{records-tell}
-use Rattle.promises.proofs.Kept.{lots-kept, order-kept, given-in-order, always-sound, trades-within, never-narrows, widens-after-touch, widens-to-enhanced, reports-forward}
-use Rattle.promises.proofs.Writable.{runs-writable}
-use Rattle.promises.proofs.ClockLine.{clock-unheard}
+use Rattle.promises.proofs.Runs.{after-append, told-append}
 
--- ---- the reports that a call hands out
+-- ---- what a call comes to, by its contract
 
-decided-silent : (v : Verdict) (d : Day) (a : Acted) (r : Refusal) → decided v d a .verdict ≡ Refused r → decided v d a .reports ≡ []
-decided-silent Fine d a r e = absurd (let z : _≡_ {A = ℕ} 0 1 = cc in omega arith)
-decided-silent (Refused q) d a r e = refl
+module _ (h : Held) (c : Call) where
+  abbrev pub verdictOn : Verdict
+  verdictOn = callVerdict (h .session) (c .event) (h .buys) (h .sells) (c .room)
 
--- the records of reports that are laid at the start of a room are the first in it
-first-records : (o : List Report) (room : List ℕ) → take (recordLength * length o) (put room 0 (recordsOf o)) ≡ recordsOf o
-unfolding put
-first-records o room = rw (← length-records o) (take-append-seam (recordsOf o) _)
+  abbrev calledOn : Outcome
+  calledOn = called (h .session) (c .event) (h .buys) (h .sells) (c .room)
 
-handed : (v : Verdict) (o rs : List Report) (room room′ : List ℕ) → room′ ≡ put room 0 (recordsOf o) → ((r : Refusal) → v ≡ Refused r → o ≡ []) →
-    HandsOut (answerBy v (length o)) room′ rs → rs ≡ o
-handed Fine o rs room room′ e f h =
-    records-tell rs o (sym (h .0)) (sym (h .1) ∙ ap (take (recordLength * length o)) e ∙ first-records o room)
-handed (Refused r) o rs room room′ e f h = h ∙ sym (f r refl)
+  pub verdict-called : calledOn .verdict ≡ verdictOn
+  verdict-called = called-verdict (h .session) (c .event) (h .buys) (h .sells) (c .room)
 
--- ---- what it leaves, by what it comes to
+  -- row 1 applies, or the others decide, on the day that is held
+  pub short-verdict : hasRoom h c ≡ false → verdictOn ≡ Refused SmallRoom
+  short-verdict = small-verdict (h .session) (c .event) (h .buys) (h .sells) (c .room)
 
+  pub judged-verdict : hasRoom h c ≡ true → verdictOn ≡ refusalOf (dayHeld h) (c .event)
+  judged-verdict = roomy-verdict (h .session) (c .event) (h .buys) (h .sells) (c .room)
+
+  judged-called : hasRoom h c ≡ true → calledOn ≡ outcome (dayHeld h) (c .event)
+  judged-called = called-outcome (h .session) (c .event) (h .buys) (h .sells) (c .room)
+
+-- what it leaves, by what it comes to
 pub record Left (o : Outcome) (h : Held) (rs : List Report) (h′ : Held) : Type 0 where
   pub session : h′ .session ≡ o .day .session
   pub buys : h′ .buys ≡ tableBy (o .verdict) (o .day .buys) (h .buys)
   pub sells : h′ .sells ≡ tableBy (o .verdict) (o .day .sells) (h .sells)
   pub reports : rs ≡ o .reports
 
-called-silent : (s : Session) (e : Event) (buys sells room : List ℕ) (r : Refusal) → called s e buys sells room .verdict ≡ Refused r →
-    called s e buys sells room .reports ≡ []
-unfolding called
-called-silent s e buys sells room r h = decided-silent (callVerdict s e buys sells room) (dayIn s buys sells) (act (dayIn s buys sells) e) r h
+-- the records of reports that are laid at the start of a room are the first in it
+first-records : (o : List Report) (room : List ℕ) → take (recordLength * length o) (put room 0 (recordsOf o)) ≡ recordsOf o
+unfolding put
+first-records o room = rw (← length-records o) (take-append-seam (recordsOf o) _)
 
-left : (h h′ : Held) (c : Call) (rs : List Report) → Called h c rs h′ → Left (called (h .session) (c .event) (h .buys) (h .sells) (c .room)) h rs h′
-left h h′ c rs k =
-    let o : Outcome = called (h .session) (c .event) (h .buys) (h .sells) (c .room) in
-    let a = k .contract in
-    record {
-      session = k .session ∙ a .session;
-      buys = a .bought;
-      sells = a .sold;
-      reports = handed (o .verdict) (o .reports) rs (c .room) (k .room) (a .told)
-          (called-silent (h .session) (c .event) (h .buys) (h .sells) (c .room)) (subst (λ x. HandsOut x (k .room) rs) (a .answer) (k .reports));
-    }
+module _ (h h′ : Held) (c : Call) (rs : List Report) (k : Called h c rs h′) where
+  left : Left (calledOn h c) h rs h′
+  left =
+      let o : Outcome = calledOn h c in
+      let a = k .contract in
+      let n : answerCount (k .answered .answer) ≡ length (o .reports) =
+      answered-count (h .session) (c .event) (h .buys) (h .sells) (c .room) (h′ .buys) (h′ .sells) (k .room) (k .answered) a in
+      record {
+        session = k .session ∙ a .session;
+        buys = a .bought;
+        sells = a .sold;
+        reports = records-tell rs (o .reports) (sym (k .reports .0) ∙ n)
+            (sym (k .reports .1) ∙ (λ i. take (recordLength * n i) (a .told i)) ∙ first-records (o .reports) (c .room));
+      }
+
+  -- with room enough, what its event does on the day that was held
+  judged : hasRoom h c ≡ true → Left (outcome (dayHeld h) (c .event)) h rs h′
+  judged b = subst (λ o. Left o h rs h′) (judged-called h c b) left
+
+  -- a refused call hands out nothing and changes nothing
+  pub refused-call : (r : Refusal) → verdictOn h c ≡ Refused r → (rs ≡ []) × (h′ ≡ h)
+  unfolding called
+  refused-call r v =
+      let k′ : Left (decided (Refused r) (dayHeld h) (act (dayHeld h) (c .event))) h rs h′ =
+      subst (λ x. Left (decided x (dayHeld h) (act (dayHeld h) (c .event))) h rs h′) v left in
+      (k′ .reports, λ i. record { session = k′ .session i; buys = k′ .buys i; sells = k′ .sells i })
+
+  -- the number of its answer is that of the first row that applies
+  pub number-by : numberAnswered k ≡ codeOf (verdictOn h c)
+  number-by = answered-code (h .session) (c .event) (h .buys) (h .sells) (c .room) (h′ .buys) (h′ .sells) (k .room) (k .answered) (k .contract)
+
+  -- a call that answers 0 had room enough, and its event is accepted on the day that was held
+  accepted-call : numberAnswered k ≡ 0 → (hasRoom h c ≡ true) × (outcome (dayHeld h) (c .event) .verdict ≡ Fine)
+  accepted-call z =
+      let v : calledOn h c .verdict ≡ Fine = verdict-called h c ∙ code-fine (verdictOn h c) (sym number-by ∙ z) in
+      let b : hasRoom h c ≡ true = fine-roomy (h .session) (c .event) (h .buys) (h .sells) (c .room) v in
+      (b, sym (ap (λ (o : Outcome). o .verdict) (judged-called h c b)) ∙ v)
+
+  -- a law of a call and whether it counts: of one with room enough, by what its event does; of another, as it changes nothing
+  by-room : (P : Bool → Type 0) → (Left (outcome (dayHeld h) (c .event)) h rs h′ → P true) → ((rs ≡ []) × (h′ ≡ h) → P false) →
+      P (hasRoom h c)
+  by-room P f g = go (hasRoom h c) refl
+    where
+      go : (b : Bool) → hasRoom h c ≡ b → P b
+      go true e = f (judged e)
+      go false e = g (refused-call SmallRoom (short-verdict h c e))
+
+-- ---- the day that is read from the tables after an event is that of its outcome
 
 -- a table of orders, read by their count, is these orders
 reads-back : (n : ℕ) (os : List Order) (t : List ℕ) → n ≡ length os → decode n (tableOf os t) ≡ os
@@ -96,7 +134,6 @@ reads-back n os t e = rw e (decode-encode os _)
 same-day : (h h′ : Held) → h′ .session ≡ h .session → h′ .buys ≡ h .buys → h′ .sells ≡ h .sells → dayHeld h′ ≡ dayHeld h
 same-day h h′ s b e = λ i. dayHeld (record { session = s i; buys = b i; sells = e i })
 
--- the day that is read from the tables after an event is that of its outcome
 module _ (h h′ : Held) (e : Event) (rs : List Report) (k : Left (outcome (dayHeld h) e) h rs h′) where
   abbrev o : Outcome
   o = outcome (dayHeld h) e
@@ -129,120 +166,68 @@ module _ (h h′ : Held) (e : Event) (rs : List Report) (k : Left (outcome (dayH
 
 -- ---- a run
 
--- its reports and the day that it leaves are those of its events
-record Follows (h : Held) (es : List Event) (rs : List Report) (h′ : Held) : Type 0 where
-  reports : rs ≡ told (dayHeld h) es
-  day : dayHeld h′ ≡ after (dayHeld h) es
+-- from a day on: the reports and the day that is held at the end are those of the events
+pub record Follows (d : Day) (es : List Event) (rs : List Report) (h : Held) : Type 0 where
+  pub reports : rs ≡ told d es
+  pub day : dayHeld h ≡ after d es
 
-judged-next : (h h′ h″ : Held) (e : Event) (es : List Event) (rs rs′ : List Report) → Left (outcome (dayHeld h) e) h rs h′ → Follows h′ es rs′ h″ →
-    Follows h (e ∷ es) (rs ++ rs′) h″
+-- an event, then others
+judged-next : (h h′ h″ : Held) (e : Event) (es : List Event) (rs rs′ : List Report) → Left (outcome (dayHeld h) e) h rs h′ →
+    Follows (dayHeld h′) es rs′ h″ → Follows (dayHeld h) (e ∷ es) (rs ++ rs′) h″
 unfolding told after
 judged-next h h′ h″ e es rs rs′ k f =
     let d : dayHeld h′ ≡ outcome (dayHeld h) e .day = outcome-day h h′ e rs k in
     let r : rs′ ≡ told (outcome (dayHeld h) e .day) es = f .reports ∙ ap (λ (x : Day). told x es) d in
     record { reports = λ i. k .reports i ++ r i; day = f .day ∙ ap (λ (x : Day). after x es) d }
 
-short-next : (h h′ h″ : Held) (a : Acted) (es : List Event) (rs rs′ : List Report) → Left (decided (Refused SmallRoom) (dayHeld h) a) h rs h′ →
-    Follows h′ es rs′ h″ → Follows h es (rs ++ rs′) h″
-short-next h h′ h″ a es rs rs′ k f =
-    let d : dayHeld h′ ≡ dayHeld h = same-day h h′ (k .session) (k .buys) (k .sells) in
-    record {
-      reports = (λ i. k .reports i ++ f .reports i) ∙ ap (λ (x : Day). told x es) d;
-      day = f .day ∙ ap (λ (x : Day). after x es) d;
-    }
-
-next : (h h′ h″ : Held) (c : Call) (es : List Event) (rs rs′ : List Report) (enough : Bool) → roomy (h .buys) (h .sells) (c .room) ≡ enough →
-    Called h c rs h′ → Follows h′ es rs′ h″ → Follows h (counting enough (c .event) es) (rs ++ rs′) h″
-next h h′ h″ c es rs rs′ true b k f =
-    judged-next h h′ h″ (c .event) es rs rs′
-    (subst (λ o. Left o h rs h′) (called-outcome (h .session) (c .event) (h .buys) (h .sells) (c .room) b) (left h h′ c rs k)) f
-next h h′ h″ c es rs rs′ false b k f =
-    short-next h h′ h″ (act (dayHeld h) (c .event)) es rs rs′
-    (subst (λ o. Left o h rs h′) (called-short (h .session) (c .event) (h .buys) (h .sells) (c .room) b) (left h h′ c rs k)) f
-
-run-follows : (h : Held) (es : List Event) (rs : List Report) (h′ : Held) → Run h es rs h′ → Follows h es rs h′
+pub run-follows : (h : Held) (es : List Event) (rs : List Report) (h′ : Held) → Run h es rs h′ → Follows (dayHeld h) es rs h′
 unfolding told after
 run-follows h es rs h′ (ends h₀) = record { reports = refl; day = refl }
 run-follows h es rs h′ (calls h₀ h₁ h₂ c es₀ rs₀ rs₁ k run) =
-    next h₀ h₁ h₂ c es₀ rs₀ rs₁ (roomy (h₀ .buys) (h₀ .sells) (c .room)) refl k (run-follows h₁ es₀ rs₁ h₂ run)
+    let f : Follows (dayHeld h₁) es₀ rs₁ h₂ = run-follows h₁ es₀ rs₁ h₂ run in
+    by-room h₀ h₁ c rs₀ k (λ (b : Bool). Follows (dayHeld h₀) (counting b (c .event) es₀) (rs₀ ++ rs₁) h₂)
+    (λ l. judged-next h₀ h₁ h₂ (c .event) es₀ rs₀ rs₁ l f)
+    (λ n. let d : dayHeld h₁ ≡ dayHeld h₀ = ap dayHeld (n .1) in
+    record {
+      reports = (λ i. n .0 i ++ f .reports i) ∙ ap (λ (x : Day). told x es₀) d;
+      day = f .day ∙ ap (λ (x : Day). after x es₀) d;
+    })
 
--- ---- the promises
+-- what is asked for by the calls' own reports is what the definitions say
+pub run-asks : (id : ℕ) (h : Held) (es : List Event) (rs : List Report) (h′ : Held) (run : Run h es rs h′) → askedOver id run ≡ asked id (dayHeld h) es
+unfolding askedOver asked total
+run-asks id h es rs h′ (ends h₀) = refl
+run-asks id h es rs h′ (calls h₀ h₁ h₂ c es₀ rs₀ rs₁ k run) =
+    let q : askedOver id run ≡ asked id (dayHeld h₁) es₀ = run-asks id h₁ es₀ rs₁ h₂ run in
+    by-room h₀ h₁ c rs₀ k
+    (λ (b : Bool). askedBy id (c .event .act) rs₀ + askedOver id run ≡ asked id (dayHeld h₀) (counting b (c .event) es₀))
+    (λ l. (λ i. askedBy id (c .event .act) (l .reports i) + q i)
+    ∙ ap (λ (d : Day). askedBy id (c .event .act) (outcome (dayHeld h₀) (c .event) .reports) + asked id d es₀) (outcome-day h₀ h₁ (c .event) rs₀ l))
+    (λ n. let none : askedBy id (c .event .act) rs₀ ≡ 0 = ap (askedBy id (c .event .act)) (n .0) in
+    let same : asked id (dayHeld h₁) es₀ ≡ asked id (dayHeld h₀) es₀ = ap (λ (x : Held). asked id (dayHeld x) es₀) (n .1) in
+    omega arith)
 
--- an opening has no live orders, whatever lies in the tables
-opened-held : (g : Settings) (buys sells : List ℕ) → dayHeld (openedOn g buys sells) ≡ opened g
-unfolding openedSession decode
-opened-held g buys sells = refl
+-- ---- a run cut at a call that accepts its event
 
-pub runs-as-defined : RunsAsDefined
-runs-as-defined g buys sells es rs h run =
-    let f = run-follows (openedOn g buys sells) es rs h run in
-    let o : dayHeld (openedOn g buys sells) ≡ opened g = opened-held g buys sells in
-    (f .reports ∙ ap (λ (d : Day). told d es) o, f .day ∙ ap (λ (d : Day). after d es) o)
+-- the whole follows, and the event is accepted on the day that the events before it leave
+pub record Cut (d : Day) (before later : List Event) (e : Event) (rs own rest : List Report) (h″ : Held) : Type 0 where
+  pub whole : Follows d (before ++ (e ∷ later)) (rs ++ (own ++ rest)) h″
+  pub accepted : outcome (after d before) e .verdict ≡ Fine
+  pub told-own : own ≡ outcome (after d before) e .reports
 
-pub calls-keep-lots : CallsKeepLots
-calls-keep-lots g buys sells es rs h run id =
-    let p = runs-as-defined g buys sells es rs h run in
-    lots-kept g es id ∙ (λ i. traded id (sym (p .0) i) + cancelled id (sym (p .0) i) + resting id (sym (p .1) i))
-
-pub calls-keep-orders : CallsKeepOrders
-calls-keep-orders g buys sells es rs h run before later t n e v =
-    let p = runs-as-defined g buys sells es rs h run in
-    let id : ℕ = after (opened g) before .session .given + 1 in
-    order-kept g before later t n v
-    ∙ ap (λ (l : List Event). traded id (told (opened g) l) + cancelled id (told (opened g) l) + resting id (after (opened g) l)) (sym e)
-    ∙ (λ i. traded id (sym (p .0) i) + cancelled id (sym (p .0) i) + resting id (sym (p .1) i))
-
-pub calls-trade-within : CallsTradeWithin
-calls-trade-within g buys sells es rs h run before later t deal e =
-    trades-within g es before later t deal (sym (runs-as-defined g buys sells es rs h run .0) ∙ e)
-
-pub calls-stay-sound : CallsStaySound
-calls-stay-sound g buys sells es rs h run v = rw (runs-as-defined g buys sells es rs h run .1) (always-sound g es v)
-
-answer-refused : (v : Verdict) (n : ℕ) (r : Refusal) → answerBy v n ≡ Answer.Refused r → v ≡ Refused r
-answer-refused Fine n r e = absurd (let z : _≡_ {A = ℕ} 0 1 = cc in omega arith)
-answer-refused (Refused q) n r e = let z : q ≡ r = cc in ap Refused z
-
-pub calls-never-two : CallsNeverTwo
-calls-never-two g buys sells es rs h run v c rs′ h′ k e =
-    let o : Outcome = called (h .session) (c .event) (h .buys) (h .sells) (c .room) in
-    let two : o .verdict ≡ Refused Unsound = answer-refused (o .verdict) (length (o .reports)) Unsound (sym (k .contract .answer) ∙ e) in
-    cases (roomy (h .buys) (h .sells) (c .room))
-    (λ b. let same : o ≡ outcome (dayHeld h) (c .event) = called-outcome (h .session) (c .event) (h .buys) (h .sells) (c .room) b in
-    sound-not-two (dayHeld h) (c .event) (calls-stay-sound g buys sells es rs h run v)
-    (ap codeOf (sym (outcome-verdict (dayHeld h) (c .event)) ∙ sym (ap (λ (x : Outcome). x .verdict) same) ∙ two)))
-    (λ b. let same : o ≡ decided (Refused SmallRoom) (dayHeld h) (act (dayHeld h) (c .event)) =
-    called-short (h .session) (c .event) (h .buys) (h .sells) (c .room) b in
-    let differ : Refused SmallRoom ≡ Refused Unsound = sym (ap (λ (x : Outcome). x .verdict) same) ∙ two in
-    let z : _≡_ {A = ℕ} 0 1 = cc in omega arith)
-
-pub calls-give-in-order : CallsGiveInOrder
-calls-give-in-order g buys sells es rs h run =
-    let p = runs-as-defined g buys sells es rs h run in
-    ap accepts (p .0) ∙ given-in-order g es ∙ ap (λ (d : Day). numbersTo (d .session .given)) (sym (p .1))
-
-pub calls-go-forward : CallsGoForward
-calls-go-forward g buys sells es rs h run before later r r′ e =
-    reports-forward g es before later r r′ (sym (runs-as-defined g buys sells es rs h run .0) ∙ e)
-
-pub calls-writable : CallsWritable
-calls-writable g buys sells es rs h run before later r e =
-    runs-writable g es before later r (sym (runs-as-defined g buys sells es rs h run .0) ∙ e)
-
-pub calls-widen : CallsWiden
-calls-widen g buys sells es rs h run before later t band e =
-    let w = sym (runs-as-defined g buys sells es rs h run .0) ∙ e in
-    let bands = widens-to-enhanced g es before later t band w in
-    (widens-after-touch g es before later t band w, bands .0, bands .1, never-narrows g es before later t band w)
-
-pub same-runs : SameRuns
-same-runs g buys sells buys′ sells′ es rs rs′ h h′ run run′ =
-    let p = runs-as-defined g buys sells es rs h run in
-    let q = runs-as-defined g buys′ sells′ es rs′ h′ run′ in
-    (p .0 ∙ sym (q .0), p .1 ∙ sym (q .1))
-
-pub calls-clock-line : CallsClockLine
-calls-clock-line g buys sells buys′ sells′ before later t rs rs′ h h′ run run′ v f =
-    ap plain (runs-as-defined g buys′ sells′ (before ++ (clockAt t ∷ later)) rs′ h′ run′ .0)
-    ∙ clock-unheard (opened g) before later t v f
-    ∙ sym (ap plain (runs-as-defined g buys sells (before ++ later) rs h run .0))
+pub cut : (d : Day) (before later : List Event) (e : Event) (rs own rest : List Report) (h h′ h″ : Held) (c : Call) → Follows d before rs h →
+    (k : Called h c own h′) → Run h′ later rest h″ → c .event ≡ e → numberAnswered k ≡ 0 → Cut d before later e rs own rest h″
+cut d before later e rs own rest h h′ h″ c f k run same z =
+    let a = accepted-call h h′ c own k z in
+    let l : Left (outcome (dayHeld h) e) h own h′ = subst (λ x. Left (outcome (dayHeld h) x) h own h′) same (judged h h′ c own k (a .0)) in
+    let g : Follows (dayHeld h) (e ∷ later) (own ++ rest) h″ = judged-next h h′ h″ e later own rest l (run-follows h′ later rest h″ run) in
+    record {
+      whole = record {
+        reports = (λ i. f .reports i ++ g .reports i)
+            ∙ ap (λ (x : Day). told d before ++ told x (e ∷ later)) (f .day)
+            ∙ sym (told-append d before (e ∷ later));
+        day = g .day ∙ ap (λ (x : Day). after x (e ∷ later)) (f .day) ∙ sym (after-append d before (e ∷ later));
+      };
+      accepted = ap (λ (x : Day). outcome x e .verdict) (sym (f .day)) ∙ subst (λ x. outcome (dayHeld h) x .verdict ≡ Fine) same (a .1);
+      told-own = l .reports ∙ ap (λ (x : Day). outcome x e .reports) (f .day);
+    }

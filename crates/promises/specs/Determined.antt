@@ -2,9 +2,12 @@
 use Prim.Native.Nat.{ℕ}
 use mathlib.Core.Path.{_≡_}
 use mathlib.Core.List.{List}
+use denote.Ref.{RefT}
 use Rattle.terms.specs.declared.Settings.{Settings}
 use Rattle.terms.specs.declared.Event.{Event}
 use Rattle.terms.specs.declared.Side.{Side}
+use Rattle.terms.specs.declared.Verdict.{Verdict}
+use Rattle.terms.specs.Settings.{settingsVerdict}
 use Rattle.state_law.specs.declared.Session.{Session}
 use Rattle.state_law.specs.declared.Opened.{Opened}
 use Rattle.state_law.specs.Opening.{openingOf}
@@ -19,8 +22,13 @@ use Rattle.lines_writing_law.specs.declared.Wrote.{Wrote}
 use Rattle.lines_writing_law.specs.Writes.{Writes}
 use Rattle.feed_law.specs.declared.Run.{Run}
 use Rattle.feed_law.specs.declared.Taken.{Taken}
-use Rattle.feed_law.specs.Feeds.{Feed, TakenBy}
+use Rattle.feed_law.specs.Feeds.{Feed, begun, TakenBy}
+use Rattle.journal.specs.declared.Walker.{Walker}
 use Rattle.journal.specs.Walk.{eventFrom}
+
+-- `terms::judge::check`
+abbrev pub CheckDetermined : Type 0
+CheckDetermined = (g : Settings) (r r′ : Verdict) → r ≡ settingsVerdict g → r′ ≡ settingsVerdict g → r ≡ r′
 
 -- `state::opening::begin`
 abbrev pub OpeningDetermined : Type 0
@@ -52,6 +60,14 @@ EventReadDetermined = (bytes : List ℕ) (r r′ : ReadEvent) → EventRead byte
 abbrev pub SettingsReadDetermined : Type 0
 SettingsReadDetermined = (bytes : List ℕ) (r r′ : ReadSettings) → SettingsRead bytes r → SettingsRead bytes r′ → r ≡ r′
 
+-- the walker's `journal::new` and `journal::moved`: the bytes that it holds, and its place
+abbrev pub NewDetermined : Type 0
+NewDetermined = (bytes : RefT (List ℕ)) (r r′ : Walker) → (r .bytes ≡ bytes) × (r .at ≡ 0) → (r′ .bytes ≡ bytes) × (r′ .at ≡ 0) → r ≡ r′
+
+abbrev pub MovedDetermined : Type 0
+MovedDetermined =
+    (w r r′ : Walker) (at : ℕ) → (r .bytes ≡ w .bytes) × (r .at ≡ at) → (r′ .bytes ≡ w .bytes) × (r′ .at ≡ at) → r ≡ r′
+
 -- the walker's calls: `journal::step`, `line_at`, `event_at`
 abbrev pub WalkDetermined : Type 0
 WalkDetermined =
@@ -66,6 +82,10 @@ abbrev pub RecordReadDetermined : Type 0
 RecordReadDetermined = (numbers : List ℕ) (r r′ : ReadRecord) → RecordRead numbers r → RecordRead numbers r′ → r ≡ r′
 
 -- ---- text in, text out
+
+-- `feed::start`
+abbrev pub StartDetermined : Type 0
+StartDetermined = (r r′ : Run) → r ≡ begun → r′ ≡ begun → r ≡ r′
 
 pub record SameTaken (r₁ r₂ : Taken) (buys₁ sells₁ room₁ out₁ buys₂ sells₂ room₂ out₂ : List ℕ) : Type 0 where
   pub stage : r₁ .run .stage ≡ r₂ .run .stage

@@ -1,8 +1,9 @@
--- A RUN OF CALLS: an opening and any list of calls after it, each handed the session and the tables that the last one left. A call is what
--- the contract of `engine::apply` allows, and nothing else is known of it. The promises of this crate, said of such runs.
+-- A RUN OF CALLS: an opening and any list of calls after it, each handed the session and the tables that the last one left. The opening is
+-- what the contract of `state::opening::begin` allows, a call what the contract of `engine::apply` allows, and nothing else is known of
+-- them. The promises of this crate, said of such runs.
 use Prim.Native.Nat.{ℕ, _+_, _*_, _/_, _≤_}
 use mathlib.Core.Path.{_≡_}
-use mathlib.Core.Bool.{Bool, true, false}
+use mathlib.Core.Bool.{Bool, true, false, cond}
 use mathlib.Core.List.{List, [], _∷_, _++_}
 use lib.ListN.{length, take}
 use Rattle.terms.specs.declared.Settings.{Settings}
@@ -16,11 +17,9 @@ use Rattle.terms.specs.declared.Side.{Side}
 use Rattle.terms.specs.declared.Side.the-variants.{Buy, Sell}
 use Rattle.terms.specs.declared.Report.{Report}
 use Rattle.terms.specs.declared.Said.the-variants.{Trade, Slab}
-use Rattle.terms.specs.declared.Refusal.the-variants.{Unsound}
-use Rattle.terms.specs.declared.Verdict.the-variants.{Fine}
-use Rattle.terms.specs.Sizes.{width, tableLength, recordLength}
+use Rattle.terms.specs.Sizes.{width, recordLength, lineRoom}
 use Rattle.terms.specs.Records.{recordsOf}
-use Rattle.terms.specs.Settings.{settingsVerdict}
+use Rattle.terms.specs.Refusals.{codeOf}
 use Rattle.rules_law.specs.Slabs.{inBand}
 use Rattle.rules_law.specs.Reference.{inRange}
 use Rattle.tables.specs.Tables.{decode}
@@ -28,16 +27,20 @@ use Rattle.book_law.specs.Matching.{reportAt}
 use Rattle.book_law.specs.Over.{lotsOf}
 use Rattle.book_law.specs.Told.{traded, cancelled}
 use Rattle.state_law.specs.declared.Session.{Session}
-use Rattle.state_law.specs.Opening.{openedSession}
-use Rattle.state_law.specs.Day.{Day, opened}
+use Rattle.state_law.specs.declared.Opened.{Opened}
+use Rattle.state_law.specs.Opening.{openingOf}
+use Rattle.state_law.specs.Day.{Day}
 use Rattle.soundness_law.specs.Sound.{sound, dayIn}
-use Rattle.acts_law.specs.Asked.{resting, accepts, numbersTo}
+use Rattle.acts_law.specs.Asked.{askedBy, resting, accepts, numbersTo}
 use Rattle.acts_law.specs.Heard.{initialBand, enhancedBand, bandSaid, rangeSaid, touchedBy}
-use Rattle.engine_law.specs.Outcome.{outcome, after, told}
+use Rattle.engine_law.specs.Outcome.{after, told}
 use Rattle.engine_law.specs.declared.Answer.{Answer}
 use Rattle.engine_law.specs.declared.Applied.{Applied}
-use Rattle.engine_law.specs.Calls.{roomy, AppliedAs, viewCall}
-use Rattle.promises.specs.Lots.{asked}
+use Rattle.engine_law.specs.Answers.{answerCode, answerCount}
+use Rattle.engine_law.specs.Calls.{roomy, AppliedAs, eventAt, viewCall}
+use Rattle.lines_writing_law.specs.declared.Wrote.{Wrote}
+use Rattle.lines_writing_law.specs.Lines.{renderReport, reportNumbers}
+use Rattle.lines_writing_law.specs.Writes.{wroteCode, Writes}
 use Rattle.promises.specs.ClockLine.{clockAt, plain, From}
 use Rattle.promises.specs.Writable.{AllWritable}
 
@@ -52,8 +55,8 @@ abbrev pub dayHeld : Held → Day
 dayHeld h = dayIn (h .session) (h .buys) (h .sells)
 
 -- an opening "touches no table": they hold anything
-abbrev pub openedOn : Settings → List ℕ → List ℕ → Held
-openedOn g buys sells = record { session = openedSession g; buys = buys; sells = sells }
+abbrev pub openedOn : Opened → List ℕ → List ℕ → Held
+openedOn o buys sells = record { session = o .session; buys = buys; sells = sells }
 
 -- ---- a call
 
@@ -62,10 +65,13 @@ pub record Call : Type 0 where
   pub event : Event
   pub room : List ℕ
 
--- the reports that a call hands out: as many as it answers, and their records are the first in the room; none where it answers a refusal
+-- the tables that are held and that room are long enough, so that 1 does not apply
+abbrev pub hasRoom : Held → Call → Bool
+hasRoom h c = roomy (h .buys) (h .sells) (c .room)
+
+-- the reports that a call hands out: as many as its answer counts, none by a refusal; their records are the first in the room
 abbrev pub HandsOut : Answer → List ℕ → List Report → Type 0
-HandsOut (Answer.Reported count) room rs = (count ≡ length rs) × (take (recordLength * count) room ≡ recordsOf rs)
-HandsOut (Answer.Refused r) room rs = rs ≡ []
+HandsOut a room rs = (answerCount a ≡ length rs) × (take (recordLength * answerCount a) room ≡ recordsOf rs)
 
 -- the call is handed h, hands out rs and leaves h′
 pub record Called (h : Held) (c : Call) (rs : List Report) (h′ : Held) : Type 0 where
@@ -74,6 +80,10 @@ pub record Called (h : Held) (c : Call) (rs : List Report) (h′ : Held) : Type 
   pub contract : AppliedAs (h .session) (c .event) (h .buys) (h .sells) (c .room) (h′ .buys) (h′ .sells) room answered
   pub session : h′ .session ≡ answered .session
   pub reports : HandsOut (answered .answer) room rs
+
+-- the paper's number of its answer: 0 where the event is accepted, else that of the refusal
+abbrev pub numberAnswered : {h : Held} {c : Call} {rs : List Report} {h′ : Held} → Called h c rs h′ → ℕ
+numberAnswered k = answerCode (k .answered .answer)
 
 -- ---- a run
 
@@ -86,21 +96,71 @@ counting false e es = es
 pub data Run : Held → List Event → List Report → Held → Type 0 where
   ends : (h : Held) → Run h [] [] h
   calls : (h h′ h″ : Held) (c : Call) (es : List Event) (rs rs′ : List Report) → Called h c rs h′ → Run h′ es rs′ h″ →
-      Run h (counting (roomy (h .buys) (h .sells) (c .room)) (c .event) es) (rs ++ rs′) h″
+      Run h (counting (hasRoom h c) (c .event) es) (rs ++ rs′) h″
+
+-- ---- a run from an opening
+
+-- g is opened, by the contract of `begin`: "a refused one returns its number and one fixed session", and begins a run too. The tables hold
+-- anything. Then come the calls.
+pub record RunFrom (g : Settings) (es : List Event) (rs : List Report) (h : Held) : Type 0 where
+  pub opening : Opened
+  pub contract : opening ≡ openingOf g
+  pub buys : List ℕ
+  pub sells : List ℕ
+  pub run : Run (openedOn opening buys sells) es rs h
+
+-- the paper's number of the opening's answer: 0, or 12 or 13
+abbrev pub numberOpened : {g : Settings} {es : List Event} {rs : List Report} {h : Held} → RunFrom g es rs h → ℕ
+numberOpened r = codeOf (r .opening .verdict)
+
+-- cut at a call that is handed e and accepts it, by its own answer: the run up to it, the call, and the run that follows
+pub record CutAt (g : Settings) (before : List Event) (e : Event) (later : List Event) (rs own rest : List Report) (h : Held) : Type 0 where
+  pub held : Held
+  pub left : Held
+  pub call : Call
+  pub until : RunFrom g before rs held
+  pub called : Called held call own left
+  pub handed : call .event ≡ e
+  pub accepted : numberAnswered called ≡ 0
+  pub following : Run left later rest h
 
 -- ---- the promises, of any run of calls from an opening, whatever lies in the tables and in the rooms
 
--- g opens on any tables, then comes any list of calls: of its events, its reports and what is held at the end
+-- of its settings, its events, its reports and what is held at the end
 abbrev pub ForRuns : (Settings → List Event → List Report → Held → Type 0) → Type 0
-ForRuns P = (g : Settings) (buys sells : List ℕ) (es : List Event) (rs : List Report) (h : Held) → Run (openedOn g buys sells) es rs h → P g es rs h
+ForRuns P = (g : Settings) (es : List Event) (rs : List Report) (h : Held) → RunFrom g es rs h → P g es rs h
+
+-- the same of the runs whose opening is not refused
+abbrev pub ForOpenRuns : (Settings → List Event → List Report → Held → Type 0) → Type 0
+ForOpenRuns P = (g : Settings) (es : List Event) (rs : List Report) (h : Held) (r : RunFrom g es rs h) → numberOpened r ≡ 0 → P g es rs h
+
+-- the day that an opening begins, refused or not: its session, and no order
+abbrev pub begins : Settings → Day
+begins g = record { session = openingOf g .session; buys = []; sells = [] }
 
 -- a run tells and leaves what the definitions say of its events
 abbrev pub RunsAsDefined : Type 0
-RunsAsDefined = ForRuns (λ g es rs h. (rs ≡ told (opened g) es) × (dayHeld h ≡ after (opened g) es))
+RunsAsDefined = ForRuns (λ g es rs h. (rs ≡ told (begins g) es) × (dayHeld h ≡ after (begins g) es))
+
+-- AFTER A REFUSED OPENING nothing was told, what was held is held still, and the next call is refused: by 1 where something lent to it is
+-- short, else by 2
+abbrev pub CallsAfterRefusal : Type 0
+CallsAfterRefusal =
+    (g : Settings) (es : List Event) (rs : List Report) (h : Held) (r : RunFrom g es rs h) → (numberOpened r ≡ 0 → ⊥) →
+    (rs ≡ []) × (h ≡ openedOn (r .opening) (r .buys) (r .sells))
+    × ((c : Call) (rs′ : List Report) (h′ : Held) (k : Called h c rs′ h′) → numberAnswered k ≡ cond (hasRoom h c) 2 1)
+
+-- the lots that the order with number id asked for in a run: the acceptance among the reports of a call gives it its number, the event of
+-- that call its lots
+unfoldable pub askedOver : ℕ → {h : Held} {es : List Event} {rs : List Report} {h′ : Held} → Run h es rs h′ → ℕ
+askedOver id (ends h) = 0
+askedOver id (calls h h′ h″ c es rs rs′ k run) = askedBy id (c .event .act) rs + askedOver id run
 
 -- every lot is accounted for: traded and cancelled by the reports, resting by the tables
 abbrev pub CallsKeepLots : Type 0
-CallsKeepLots = ForRuns (λ g es rs h. (id : ℕ) → asked id (opened g) es ≡ traded id rs + cancelled id rs + resting id (dayHeld h))
+CallsKeepLots =
+    (g : Settings) (es : List Event) (rs : List Report) (h : Held) (r : RunFrom g es rs h) (id : ℕ) →
+    askedOver id (r .run) ≡ traded id rs + cancelled id rs + resting id (dayHeld h)
 
 -- the same by what a caller sees: each side's orders are those whose numbers the view of it shows
 abbrev pub ordersSeen : Side → Held → List Order
@@ -110,17 +170,26 @@ ordersSeen side h =
 abbrev pub restingSeen : ℕ → Held → ℕ
 restingSeen id h = lotsOf id (ordersSeen Buy h) + lotsOf id (ordersSeen Sell h)
 
+abbrev pub CallsShowResting : Type 0
+CallsShowResting = ForRuns (λ g es rs h. (id : ℕ) → resting id (dayHeld h) ≡ restingSeen id h)
+
 abbrev pub CallsKeepSeen : Type 0
 CallsKeepSeen =
-    ForRuns (λ g es rs h. settingsVerdict g ≡ Fine → tableLength ≤ length (h .buys) → tableLength ≤ length (h .sells) →
-    (id : ℕ) → asked id (opened g) es ≡ traded id rs + cancelled id rs + restingSeen id h)
+    (g : Settings) (es : List Event) (rs : List Report) (h : Held) (r : RunFrom g es rs h) (id : ℕ) →
+    askedOver id (r .run) ≡ traded id rs + cancelled id rs + restingSeen id h
 
--- and of an order that came in after the events `before` and was accepted, so that it has the next number
+-- an order of so many lots has the number that its call's one acceptance tells, and under it all reports of the run and the tables at its
+-- end account for these lots
+pub record Accounted (lots : ℕ) (own all : List Report) (h : Held) : Type 0 where
+  pub number : ℕ
+  pub given : accepts own ≡ number ∷ []
+  pub kept : lots ≡ traded number all + cancelled number all + resting number (dayHeld h)
+
+-- and of every order that a call accepts
 abbrev pub CallsKeepOrders : Type 0
 CallsKeepOrders =
-    ForRuns (λ g es rs h. (before later : List Event) (t : ℕ) (n : Entry) → es ≡ before ++ (record { time = t; act = Enter n } ∷ later) →
-    outcome (after (opened g) before) (record { time = t; act = Enter n }) .verdict ≡ Fine →
-    let id : ℕ = after (opened g) before .session .given + 1 in n .lots ≡ traded id rs + cancelled id rs + resting id (dayHeld h))
+    (g : Settings) (before later : List Event) (rs own rest : List Report) (h : Held) (t : ℕ) (n : Entry) →
+    CutAt g before (eventAt t (Enter n)) later rs own rest h → Accounted (n .lots) own (rs ++ (own ++ rest)) h
 
 -- every trade is inside what was told before it
 abbrev pub CallsTradeWithin : Type 0
@@ -130,13 +199,11 @@ CallsTradeWithin =
 
 -- what is held stays sound
 abbrev pub CallsStaySound : Type 0
-CallsStaySound = ForRuns (λ g es rs h. settingsVerdict g ≡ Fine → sound (dayHeld h) ≡ true)
+CallsStaySound = ForOpenRuns (λ g es rs h. sound (dayHeld h) ≡ true)
 
 -- NO RUN MEETS REFUSAL 2: whatever call follows, it does not answer so
 abbrev pub CallsNeverTwo : Type 0
-CallsNeverTwo =
-    ForRuns (λ g es rs h. settingsVerdict g ≡ Fine → (c : Call) (rs′ : List Report) (h′ : Held) (k : Called h c rs′ h′) →
-    k .answered .answer ≡ Answer.Refused Unsound → ⊥)
+CallsNeverTwo = ForOpenRuns (λ g es rs h. (c : Call) (rs′ : List Report) (h′ : Held) (k : Called h c rs′ h′) → numberAnswered k ≡ 2 → ⊥)
 
 -- numbers are given in order from 1
 abbrev pub CallsGiveInOrder : Type 0
@@ -150,6 +217,12 @@ CallsGoForward = ForRuns (λ g es rs h. (before later : List Report) (r r′ : R
 abbrev pub CallsWritable : Type 0
 CallsWritable = ForRuns (λ g es rs h. AllWritable rs)
 
+-- so `lines_writing_reports::write_report` writes it into any room of a line's length, and answers 0
+abbrev pub CallsWritten : Type 0
+CallsWritten =
+    ForRuns (λ g es rs h. (before later : List Report) (x : Report) (room room′ : List ℕ) (w : Wrote) → rs ≡ before ++ (x ∷ later) →
+    lineRoom ≤ length room → Writes room (renderReport x) (reportNumbers x) w room′ → wroteCode w ≡ 0)
+
 -- the band widens only after a trade at an end of the initial one, and once: it was the initial one, and becomes the enhanced one, which
 -- holds every price of the one before
 abbrev pub CallsWiden : Type 0
@@ -162,13 +235,13 @@ CallsWiden =
 -- same live orders, whatever lies in the tables and rooms of each: a clock behind the calls would tell them apart
 abbrev pub SameRuns : Type 0
 SameRuns =
-    (g : Settings) (buys sells buys′ sells′ : List ℕ) (es : List Event) (rs rs′ : List Report) (h h′ : Held) →
-    Run (openedOn g buys sells) es rs h → Run (openedOn g buys′ sells′) es rs′ h′ → (rs ≡ rs′) × (dayHeld h ≡ dayHeld h′)
+    (g : Settings) (es : List Event) (rs rs′ : List Report) (h h′ : Held) → RunFrom g es rs h → RunFrom g es rs′ h′ →
+    (rs ≡ rs′) × (dayHeld h ≡ dayHeld h′)
 
--- A CLOCK LINE MAKES NO TRADE: two runs, without and with a clock event that is accepted and not later than what follows, hand out the
--- same reports but for slab and ref
+-- A CLOCK LINE MAKES NO TRADE: two runs, with and without a clock event that its call accepts and that is not later than what follows,
+-- hand out the same reports but for slab and ref
 abbrev pub CallsClockLine : Type 0
 CallsClockLine =
-    (g : Settings) (buys sells buys′ sells′ : List ℕ) (before later : List Event) (t : ℕ) (rs rs′ : List Report) (h h′ : Held) →
-    Run (openedOn g buys sells) (before ++ later) rs h → Run (openedOn g buys′ sells′) (before ++ (clockAt t ∷ later)) rs′ h′ →
-    outcome (after (opened g) before) (clockAt t) .verdict ≡ Fine → From t later → plain rs′ ≡ plain rs
+    (g : Settings) (before later : List Event) (t : ℕ) (rs own rest rs′ : List Report) (h h′ : Held) →
+    CutAt g before (clockAt t) later rs own rest h → RunFrom g (before ++ later) rs′ h′ → From t later →
+    plain (rs ++ (own ++ rest)) ≡ plain rs′

@@ -146,6 +146,11 @@ pub sound-not-two : (d : Day) (e : Event) → sound d ≡ true → codeOf (refus
 unfolding refusalOf firstFailed
 sound-not-two d e h r = not-among 2 (laterRules d e) (λ z. omega arith) refl (rw h at r)
 
+-- and on a day that is not sound every event is refused 2
+pub unsound-refused : (d : Day) (e : Event) → sound d ≡ false → refusalOf d e ≡ Refused Unsound
+unfolding refusalOf firstFailed
+unsound-refused d e h = rw h
+
 -- on a closed day every event is refused 3
 pub closed-refused : (d : Day) (e : Event) → sound d ≡ true → d .session .closed ≡ true → refusalOf d e ≡ Refused Closed
 unfolding refusalOf firstFailed

@@ -4,7 +4,7 @@ use native.Mathlib.Omega.{arith}
 use native.Mathlib.Nat.{mul-le-mul}
 use borrow.Author.Tests.{eqb-true, eq-eqb, lt-ltb}
 use mathlib.Core.Path.{_≡_, refl}
-use mathlib.Core.Bool.{true}
+use mathlib.Core.Bool.{true, false}
 use mathlib.Core.List.{List, []}
 use lib.Dec.{eqb}
 use lib.ListN.{length}
@@ -12,10 +12,13 @@ use Rattle.terms.specs.declared.Settings.{Settings}
 use Rattle.terms.specs.declared.Order.{Order}
 use Rattle.terms.specs.declared.Side.{Side}
 use Rattle.terms.specs.declared.Side.the-variants.{Buy, Sell}
-use Rattle.terms.specs.declared.Verdict.the-variants.{Fine}
+use Rattle.terms.specs.declared.Refusal.{Refusal}
+use Rattle.terms.specs.declared.Verdict.the-variants.{Fine, Refused}
+use Rattle.terms.specs.Truth.{_⊓_}
+use Rattle.terms.specs.Refusals.{firstFailed}
 use Rattle.terms.specs.Sizes.{priceMost}
 use Rattle.terms.specs.Settings.{Valid, settingsRanged, settingsTicked, settingsValid, settingsVerdict}
-use Rattle.terms.proofs.Logic.{by, both, make, between-facts}
+use Rattle.terms.proofs.Logic.{by, both, make, cases, between-facts}
 use Rattle.terms.proofs.Cascade.{fine-first}
 use Rattle.terms.proofs.Valid.{valid-facts}
 use Rattle.rules_law.specs.declared.Row.{Row}
@@ -30,9 +33,9 @@ use Rattle.book_sound_law.specs.Sound.{bookSound, onSide, OrderFits, BookFits}
 use Rattle.book_sound_law.proofs.Facts.{book-fits, empty-sound}
 use Rattle.state_law.specs.declared.Session.{Session}
 use Rattle.state_law.specs.Now.{percentNow, bandNow}
-use Rattle.state_law.specs.Opening.{openedSession}
+use Rattle.state_law.specs.Opening.{openedSession, fixedSession}
 use Rattle.state_law.specs.Day.{Day, dayWith, opened}
-use Rattle.soundness_law.specs.Sound.{every, counted, sound}
+use Rattle.soundness_law.specs.Sound.{every, clockSound, sessionSound, counted, sound, dayIn}
 use Rattle.soundness_law.proofs.Parts.{Parts, parts-of, parts-made}
 use Rattle.soundness_law.proofs.Kept.{Tradable, counted-kept}
 
@@ -160,3 +163,23 @@ pub opened-sound : (g : Settings) → settingsVerdict g ≡ Fine → sound (open
 unfolding openedSession
 opened-sound g h =
     day-sound Buy (openedSession g) [] [] (opened-parts g (fine-settings g h)) (empty-sound 0 (g .tick) (bandNow (openedSession g)))
+
+-- and a sound day has settings that they let pass,
+pub sound-settings : (d : Day) → sound d ≡ true → settingsVerdict (d .session .settings) ≡ Fine
+unfolding settingsVerdict settingsValid firstFailed
+sound-settings d h =
+    let v = both (sound-day d h .parts .valid) in
+    rw (v .0, v .1)
+
+-- so it is no day of settings that one of them refuses
+pub refused-unsound : (g : Settings) (r : Refusal) → settingsVerdict g ≡ Refused r → sound (opened g) ≡ false
+unfolding openedSession
+refused-unsound g r e =
+    cases (sound (opened g))
+    (λ h. absurd (let fine : settingsVerdict g ≡ Fine = sound-settings (opened g) h in let z : _≡_ {A = ℕ} 0 1 = cc in omega arith))
+    (λ h. h)
+
+-- "one fixed session, broad, open, every number zero, which is not sound", whatever lies in the tables
+pub fixed-unsound : (buys sells : List ℕ) → sound (dayIn fixedSession buys sells) ≡ false
+unfolding sound sessionSound clockSound settingsValid settingsRanged fixedSession _⊓_
+fixed-unsound buys sells = refl
