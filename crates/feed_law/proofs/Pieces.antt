@@ -187,7 +187,7 @@ module _ {W : Type 0} (on : World W) where
   -- ---- the end
 
   -- unless the room is to be emptied first, what is left to be printed is what the end prints
-  abbrev Rest : List ℕ → Fed W → Type 0
+  abbrev pub Rest : List ℕ → Fed W → Type 0
   Rest xs f = (f .stop ≡ Stop.Full → ⊥) → printedFrom on (f .stage) (f .world) (drop (f .used) xs) ≡ endText (f .stage) (length xs - f .used)
 
   module _ (stage : Stage) (w : W) (xs : List ℕ) where
@@ -216,8 +216,8 @@ module _ {W : Type 0} (on : World W) where
   none-rest : (stage : Stage) (w : W) (xs : List ℕ) → length xs ≤ 0 → printedFrom on stage w xs ≡ endText stage (length xs - 0)
   none-rest stage w xs h = let n : length xs - 0 ≡ length xs = omega arith in rw n (none-printed (length xs) stage w xs h)
 
-  rest : (left : ℕ) (stage : Stage) (w : W) (xs : List ℕ) → Rest xs (fedIn on (length xs) left stage w xs)
-  rest left stage w xs =
+  pub lines-rest : (left : ℕ) (stage : Stage) (w : W) (xs : List ℕ) → Rest xs (fedIn on (length xs) left stage w xs)
+  lines-rest left stage w xs =
       fed-by on (λ left stage w xs f. Rest xs f) (λ left stage w xs h _. none-rest stage w xs h) (λ left stage w xs h went. absurd (went refl))
       (λ left stage w xs h z _. last-rest stage w xs (sort w xs [] stage) z) (λ left stage w xs f u k. ahead-rest stage w xs f k)
       (length xs) left stage w xs (omega arith)
@@ -235,6 +235,14 @@ module _ {W : Type 0} (on : World W) where
   stopped left stage w xs =
       fed-by on (λ left stage w xs f. Stopped f) (λ left stage w xs h. stands refl) (λ left stage w xs h. full refl) (λ left stage w xs h z. stands refl)
       (λ left stage w xs f u k. ahead-stopped (turnOf on stage w xs) f k) (length xs) left stage w xs (omega arith)
+
+  pub stands-there : (left : ℕ) (stage : Stage) (w : W) (xs : List ℕ) → let f : Fed W = fedIn on (length xs) left stage w xs in
+      (f .stop ≡ Stop.Full → ⊥) → f .stop ≡ stopAt (f .stage)
+  stands-there left stage w xs went = go (stopped left stage w xs)
+    where
+      go : Stopped (fedIn on (length xs) left stage w xs) → fedIn on (length xs) left stage w xs .stop ≡ stopAt (fedIn on (length xs) left stage w xs .stage)
+      go (full e) = absurd (went e)
+      go (stands e) = e
 
   -- lines, and the end behind them
   module _ (left : ℕ) (stage : Stage) (w : W) (xs : List ℕ) (f : Fed W)
@@ -274,5 +282,5 @@ module _ {W : Type 0} (on : World W) where
   unfolding endBehind
   end-prints-rest left stage w xs =
       let f : Fed W = fedIn on (length xs) left stage w xs in
-      told-by left stage w xs f (rw (append-nil xs, append-nil (drop (f .used) xs)) at (pieces left stage w xs [])) (rest left stage w xs)
+      told-by left stage w xs f (rw (append-nil xs, append-nil (drop (f .used) xs)) at (pieces left stage w xs [])) (lines-rest left stage w xs)
       (stopped left stage w xs)

@@ -51,11 +51,11 @@ use Rattle.promises.proofs.Tables.{Left, outcome-day}
 
 -- ---- lent numbers as a day
 
-abbrev dayLent : Lent → Day
+abbrev pub dayLent : Lent → Day
 dayLent l = dayIn (l .session) (l .buys) (l .sells)
 
 -- all that is lent is long enough
-abbrev Long : Lent → Type 0
+abbrev pub Long : Lent → Type 0
 Long l = roomy (l .buys) (l .sells) (l .room) ≡ true
 
 -- ---- an opening: a session with no orders
@@ -169,7 +169,7 @@ turn-same Stage.Over l h bytes = record { stage = refl; day = refl; used = refl;
 
 -- ---- all lines
 
-same-printed : (n : ℕ) (stage : Stage) (l : Lent) (bytes : List ℕ) → Long l → printedIn calls n stage l bytes ≡ printedIn days n stage (dayLent l) bytes
+pub same-printed : (n : ℕ) (stage : Stage) (l : Lent) (bytes : List ℕ) → Long l → printedIn calls n stage l bytes ≡ printedIn days n stage (dayLent l) bytes
 unfolding printedIn
 same-printed zero stage l bytes h = refl
 same-printed (suc n) stage l bytes h =
@@ -181,7 +181,7 @@ same-printed (suc n) stage l bytes h =
     s .text i
     ++ cond (eqb (s .used i) 0) (endText (s .stage i) (length bytes)) (printedIn days n (s .stage i) (s .day i) (drop (s .used i) bytes)))
 
-fed-long : (left : ℕ) (stage : Stage) (l : Lent) (bytes : List ℕ) → Long l → Long (fedIn calls (length bytes) left stage l bytes .world)
+pub fed-long : (left : ℕ) (stage : Stage) (l : Lent) (bytes : List ℕ) → Long l → Long (fedIn calls (length bytes) left stage l bytes .world)
 fed-long left stage l bytes =
     fed-by calls (λ left stage l xs f. Long l → Long (f .world)) (λ left stage l xs e h. h) (λ left stage l xs e h. h)
     (λ left stage l xs e z h. turn-same stage l h xs .long) (λ left stage l xs f u k h. k (turn-same stage l h xs .long)) (length bytes) left stage l bytes

@@ -1,0 +1,45 @@
+// Bytes read from a descriptor.
+use crate::pausing;
+use crate::Got;
+use crate::Load;
+ghost use lib.ListN.{length};
+ghost use Rattle.descriptors.specs.Counted.{GotWithin, LoadWithin};
+
+
+// Reads once, as soon as there is something to read.
+pub fn read_some(fd: i32, buf: &mut [u8]) -> Got
+    ensures { λ r. ⌜ GotWithin (length (now (buf .entry))) r ⌝ }
+{
+    let mut turns = u64::MAX;
+    while turns > 0 {
+        let got = libc::read(fd, buf);
+        if got >= 0 {
+            return Got::Bytes(io::count(got, buf));
+        }
+        if !pausing::passes(os::errno()) {
+            return Got::Failed;
+        }
+        pausing::pause();
+        turns -= 1;
+    }
+    Got::Failed
+}
+
+// Reads to the end of the input. An input that fills the buffer is too long: its end was not seen.
+pub fn read_whole(fd: i32, buf: &mut [u8]) -> Load
+    ensures { λ r. ⌜ LoadWithin (length (now (buf .entry))) r ⌝ }
+{
+    let mut at: usize = 0;
+    while at < buf.len() {
+        match read_some(fd, &mut buf[at..]) {
+            Got::Failed => return Load::Failed,
+            Got::Bytes(n) => {
+                if n == 0 {
+                    return Load::Whole(at);
+                }
+                at += n;
+            }
+        }
+    }
+    Load::TooLong
+}

@@ -1,0 +1,237 @@
+// stream_feed: bytes that were read go to feed, and what feed prints goes to the sink. It knows of no descriptor but through the sink.
+// It may use feed and what feed uses, and stream_sink. It promises, of any bytes and any expected output: what is sent on and what is
+// still to be printed is what the program prints; all whole lines are taken; and at the end all is sent that the program prints.
+
+use feed::lines;
+use feed_law::Run;
+use feed_law::Stage;
+use feed_law::Stop;
+use lines_writing_law::Wrote;
+use stream_law::Handed;
+use stream_law::Held;
+use stream_law::Reading;
+use stream_law::Sink;
+use terms::sizes;
+ghost use Prim.Native.Nat.{_-_, _≤_};
+ghost use mathlib.Core.Path.{_≡_};
+ghost use mathlib.Core.Bool.{cond};
+ghost use lib.ListN.{length, take, drop};
+ghost use Rattle.terms.specs.Sizes.{lineRoom};
+ghost use Rattle.feed_law.specs.Texts.{endText};
+ghost use Rattle.feed_law.specs.Feeds.{fedOf};
+ghost use Rattle.stream_law.specs.declared.Reading.{Reading};
+ghost use Rattle.stream_law.specs.Sinks.{SentAs, isOpen};
+ghost use Rattle.stream_law.specs.Streams.{Tables, isFull, moreAfter, fedHere, HandedAs, handedTo, holding, OverAs, readingAfter, TakesIn, EndsAs};
+
+// The output room: what two lines of input can print at most, so that many go out in one write.
+const OUT: usize = lines::TEXT * 2;
+
+// ---- one call of feed
+
+// The output room is to be emptied, and then there are more lines.
+fn is_full(stop: Stop) -> bool
+    ensures { λ r. ⌜ r ≡ isFull stop ⌝ }
+{
+    match stop {
+        Stop::Waits => false,
+        Stop::Full => true,
+        Stop::Over => false,
+        Stop::Refused(_) => false,
+    }
+}
+
+fn has_more(stop: Stop, to: Sink) -> bool
+    ensures { λ r. ⌜ r ≡ moreAfter stop to ⌝ }
+{
+    is_full(stop) & stream_sink::is_open(to)
+}
+
+// One call of feed in lent rooms, and what it prints sent on.
+fn hand_in(
+    to: Sink,
+    expected: &[u8],
+    run: Run,
+    bytes: &[u8],
+    buys: &mut [u64],
+    sells: &mut [u64],
+    room: &mut [u64],
+    out: &mut [u8],
+) -> Handed
+    ensures { λ r. ⌜ HandedAs (fedOf run (now (buys .entry)) (now (sells .entry)) (now (room .entry)) (now (bytes .entry)) (now (out .entry))) (now (expected .entry)) to (now (buys .exit)) (now (sells .exit)) r × (r .used ≤ length (now (bytes .entry))) ⌝ }
+{
+    let t = lines::take_lines(run, bytes, buys, sells, room, out);
+    let after = t.run;
+    let used = t.used;
+    let wrote = t.wrote;
+    let stop = t.stop;
+    let sent = stream_sink::send(to, expected, &out[0..wrote]);
+    let more = has_more(stop, sent);
+    Handed {
+        run: after,
+        used: used,
+        to: sent,
+        more: more,
+    }
+}
+
+// One call of feed, in rooms that hold nothing before it.
+fn hand_some(
+    to: Sink,
+    expected: &[u8],
+    run: Run,
+    bytes: &[u8],
+    buys: &mut [u64],
+    sells: &mut [u64],
+) -> Handed
+    ensures { λ r. ⌜ HandedAs (fedHere run (now (buys .entry)) (now (sells .entry)) (now (bytes .entry))) (now (expected .entry)) to (now (buys .exit)) (now (sells .exit)) r × (r .used ≤ length (now (bytes .entry))) ⌝ }
+{
+    let mut room = [0u64; sizes::ROOM];
+    let mut out = [0u8; OUT];
+    hand_in(to, expected, run, bytes, buys, sells, &mut room, &mut out)
+}
+
+// ---- all whole lines
+
+fn handed(run: Run, used: usize, to: Sink) -> Handed
+    ensures { λ r. ⌜ r ≡ handedTo run used to ⌝ }
+{
+    Handed {
+        run: run,
+        used: used,
+        to: to,
+        more: false,
+    }
+}
+
+// Hands all whole lines over, one call after the other, while more may be sent.
+fn hand_over(
+    to: Sink,
+    expected: &[u8],
+    run: Run,
+    bytes: &[u8],
+    buys: &mut [u64],
+    sells: &mut [u64],
+) -> Handed
+    requires { ⌜ Tables (now buys) (now sells) ⌝ }
+    ensures { λ r. ⌜ OverAs (now (expected .entry)) (holding run (now (buys .entry)) (now (sells .entry)) (now (bytes .entry))) to (now (buys .exit)) (now (sells .exit)) r ⌝ }
+{
+    let mut now = run;
+    let mut sink = to;
+    let mut at: usize = 0;
+    while at < bytes.len() {
+        let h = hand_some(sink, expected, now, &bytes[at..], buys, sells);
+        let used = h.used;
+        let more = h.more;
+        now = h.run;
+        sink = h.to;
+        at += used;
+        if !more {
+            return handed(now, at, sink);
+        }
+    }
+    handed(now, at, sink)
+}
+
+// ---- a buffer
+
+// Moves the bytes from a place up to an end to the front.
+fn to_front(buf: &mut [u8], start: usize, end: usize)
+    requires { ⌜ (start ≤ end) × (end ≤ length (now buf)) ⌝ }
+    ensures { λ _. ⌜ take (end - start) (now (buf .exit)) ≡ drop start (take end (now (buf .entry))) ⌝ }
+{
+    let n = end - start;
+    let mut i: usize = 0;
+    while i < n {
+        buf[i] = buf[start + i];
+        i += 1;
+    }
+}
+
+fn reading_to(to: Sink) -> Reading
+    ensures { λ r. ⌜ r ≡ cond (isOpen to) Reading.On Reading.Done ⌝ }
+{
+    if stream_sink::is_open(to) {
+        return Reading::On;
+    }
+    Reading::Done
+}
+
+// Whether to read on: not where the run is over or the sink is shut.
+fn reading_after(stage: Stage, to: Sink) -> Reading
+    ensures { λ r. ⌜ r ≡ readingAfter stage to ⌝ }
+{
+    match stage {
+        Stage::Awaiting => reading_to(to),
+        Stage::Trading => reading_to(to),
+        Stage::Over => Reading::Done,
+    }
+}
+
+// Hands over what stands in the buffer up to an end, and keeps the rest at its front.
+pub fn take_in(
+    to: Sink,
+    expected: &[u8],
+    run: Run,
+    buf: &mut [u8],
+    end: usize,
+    buys: &mut [u64],
+    sells: &mut [u64],
+) -> Held
+    requires { ⌜ Tables (now buys) (now sells) ⌝ }
+    requires { ⌜ end ≤ length (now buf) ⌝ }
+    ensures { λ r. ⌜ TakesIn (now (expected .entry)) (holding run (now (buys .entry)) (now (sells .entry)) (take end (now (buf .entry)))) to (now (buf .exit)) (now (buys .exit)) (now (sells .exit)) r ⌝ }
+{
+    let h = hand_over(to, expected, run, &buf[0..end], buys, sells);
+    let used = h.used;
+    let after = h.run;
+    let sink = h.to;
+    let stage = after.stage;
+    to_front(buf, used, end);
+    let reading = reading_after(stage, sink);
+    Held {
+        run: after,
+        have: end - used,
+        to: sink,
+        reading: reading,
+    }
+}
+
+// ---- the end of the input
+
+// What the end prints where no whole line is left, sent on.
+fn end_with(to: Sink, expected: &[u8], stage: Stage, rest: &[u8], out: &mut [u8]) -> Sink
+    requires { ⌜ lineRoom ≤ length (now out) ⌝ }
+    ensures { λ r. ⌜ SentAs (now (expected .entry)) to (endText stage (length (now (rest .entry)))) r ⌝ }
+{
+    match lines::take_end(stage, rest, out) {
+        Wrote::Written(n) => stream_sink::send(to, expected, &out[0..n]),
+        Wrote::Refused(_) => to,
+    }
+}
+
+fn tell_end(to: Sink, expected: &[u8], stage: Stage, rest: &[u8]) -> Sink
+    ensures { λ r. ⌜ SentAs (now (expected .entry)) to (endText stage (length (now (rest .entry)))) r ⌝ }
+{
+    let mut line = [0u8; sizes::LINE];
+    end_with(to, expected, stage, rest, &mut line)
+}
+
+// The end of the input: the lines that are left are taken, and all that is still to be printed is sent.
+pub fn ending(
+    to: Sink,
+    expected: &[u8],
+    run: Run,
+    rest: &[u8],
+    buys: &mut [u64],
+    sells: &mut [u64],
+) -> Sink
+    requires { ⌜ Tables (now buys) (now sells) ⌝ }
+    ensures { λ r. ⌜ EndsAs (now (expected .entry)) (holding run (now (buys .entry)) (now (sells .entry)) (now (rest .entry))) to r ⌝ }
+{
+    let h = hand_over(to, expected, run, rest, buys, sells);
+    let used = h.used;
+    let after = h.run;
+    let stage = after.stage;
+    let sink = h.to;
+    tell_end(sink, expected, stage, &rest[used..])
+}

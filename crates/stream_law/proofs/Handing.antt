@@ -1,0 +1,128 @@
+-- The lines of some bytes, one call of feed after the other; and a buffer whose bytes are handed over. Assumes nothing.
+use Prim.Native.Nat.{ℕ, _+_, _-_, _≤_, _<_}
+use native.Mathlib.Omega.{arith}
+use mathlib.Core.Path.{_≡_, refl, sym, ap, _∙_, subst}
+use mathlib.Core.Bool.{Bool, true, false, not, cond, _&&_, true≢false, false≢true}
+use mathlib.Core.List.{List, [], _++_}
+use lib.ListN.{length, take, drop, length-drop, drop-of-length-le}
+use lib.Seq.{drop-drop, length-take-le}
+use borrow.Author.Tests.{not-true, not-false}
+use Rattle.terms.specs.Sizes.{roomLength, lineRoom}
+use Rattle.terms.proofs.Logic.{split}
+use Rattle.soundness_law.specs.Sound.{dayIn}
+use Rattle.feed_law.specs.declared.Run.{Run}
+use Rattle.feed_law.specs.declared.Stage.{Stage}
+use Rattle.feed_law.specs.declared.Stop.{Stop}
+use Rattle.feed_law.specs.Texts.{endText}
+use Rattle.feed_law.specs.Worlds.{Lent, days}
+use Rattle.feed_law.specs.Turns.{Fed, printedIn}
+use Rattle.promises.specs.Printed.{Holding, toPrint}
+use Rattle.stream_law.specs.declared.Sink.{Sink}
+use Rattle.stream_law.specs.declared.Handed.{Handed}
+use Rattle.stream_law.specs.declared.Reading.{Reading}
+use Rattle.stream_law.specs.Sinks.{isOpen}
+use Rattle.stream_law.specs.Streams.{outRoom, zeros, fedHere, Tables, isFull, moreAfter, HandedAs, holding, Goes, NoLine, handedTo, handedOn, OverAs, readingAfter, Room, TakesIn}
+use Rattle.stream_law.proofs.Beginnings.{rest-is, part-within}
+use Rattle.stream_law.proofs.Goes.{goes-none, goes-then, rooms-wide, out-wide, handed-goes, handed-none, handed-some}
+
+-- ---- the loop: so many bytes were taken, and how it stands
+
+pub record Handing (expected : List ℕ) (a : Holding) (to : Sink) (now : Run) (buys sells : List ℕ) (at : ℕ) (sink : Sink) : Type 0 where
+  pub within : at ≤ length (a .kept)
+  pub goes : Goes expected a to [] (holding now buys sells (drop at (a .kept))) sink
+
+pub handing-start : (expected bytes : List ℕ) (run : Run) (buys sells : List ℕ) (to : Sink) →
+    Handing expected (holding run buys sells bytes) to run buys sells 0 to
+handing-start expected bytes run buys sells to = record { within = omega arith; goes = goes-none expected _ to }
+
+-- no bytes are left
+none-left : (run : Run) (buys sells bytes : List ℕ) (at : ℕ) → length bytes ≤ at → NoLine (holding run buys sells (drop at bytes))
+unfolding printedIn
+none-left run buys sells bytes at h =
+    let e = drop-of-length-le bytes h in
+    subst (λ (x : List ℕ). NoLine (holding run buys sells x)) (sym e) (record { end = refl; short = λ _. omega arith })
+
+over-as : {expected : List ℕ} {a : Holding} {to : Sink} {now : Run} {buys sells : List ℕ} {at : ℕ} {sink : Sink} {r : Handed} →
+    Handing expected a to now buys sells at sink → r ≡ handedTo now at sink →
+    (isOpen sink ≡ true → NoLine (holding now buys sells (drop at (a .kept)))) → OverAs expected a to buys sells r
+over-as {expected} {a} {to} {now} {buys} {sells} g e k =
+    subst (OverAs expected a to buys sells) (sym e) (record { within = g .within; goes = g .goes; lines = k })
+
+module _ {expected : List ℕ} {a : Holding} {to : Sink} {now : Run} {buys sells : List ℕ} {at : ℕ} {sink : Sink}
+    (g : Handing expected a to now buys sells at sink) where
+  pub handing-end : {r : Handed} → length (a .kept) ≤ at → r ≡ handedTo now at sink → OverAs expected a to buys sells r
+  handing-end h e = over-as g e (λ _. none-left now buys sells (a .kept) at h)
+
+  module _ (t : Tables buys sells) {buys′ sells′ : List ℕ} {h : Handed}
+      (k : HandedAs (fedHere now buys sells (take (length (a .kept) - at) (drop at (a .kept)))) expected sink buys′ sells′ h
+      × (h .used ≤ length (take (length (a .kept) - at) (drop at (a .kept))))) where
+    abbrev bytes : List ℕ
+    bytes = drop at (a .kept)
+
+    whole : HandedAs (fedHere now buys sells bytes) expected sink buys′ sells′ h
+    whole = rw (rest-is (a .kept) at) at (k .0)
+
+    -- what was taken is there
+    pub handing-within : at + h .used ≤ length (a .kept)
+    handing-within = part-within (a .kept) at (h .used) (g .within) (k .1)
+
+    further : drop (h .used) bytes ≡ drop (at + h .used) (a .kept)
+    further = drop-drop (h .used) at (a .kept)
+
+    pub handing-on : Handing expected a to (h .run) buys′ sells′ (at + h .used) (h .to)
+    handing-on =
+        record {
+          within = handing-within;
+          goes =
+              goes-then (g .goes)
+              (subst (λ (x : List ℕ). Goes expected (holding now buys sells bytes) sink [] (holding (h .run) buys′ sells′ x) (h .to)) further
+              (handed-goes now buys sells (zeros roomLength) bytes (zeros outRoom) (rooms-wide buys sells t) out-wide whole));
+        }
+
+    -- a further call has fewer bytes
+    pub handing-less : not (h .more) ≡ false → 0 < h .used
+    handing-less m =
+        handed-some now buys sells (zeros roomLength) bytes (zeros outRoom) (rooms-wide buys sells t) out-wide whole (not-false (h .more) m)
+
+    -- no further call: the room was not full, so no whole line is there; or the sink is shut
+    pub handing-stops : {r : Handed} → r ≡ handedTo (h .run) (at + h .used) (h .to) → not (h .more) ≡ true → OverAs expected a to buys′ sells′ r
+    handing-stops e m =
+        over-as handing-on e
+        (λ o.
+        subst (λ (x : List ℕ). NoLine (holding (h .run) buys′ sells′ x)) further
+        (handed-none now buys sells (zeros roomLength) bytes (zeros outRoom) (rooms-wide buys sells t) out-wide whole o (not-true (h .more) m)))
+
+-- ---- a buffer: its bytes up to an end are handed over, and the rest is moved to its front
+
+-- where more is to be read, the run is not over and the sink is open
+open-if : (b : Bool) → cond b Reading.On Reading.Done ≡ Reading.On → b ≡ true
+open-if true e = refl
+open-if false e = absurd (let z : _≡_ {A = ℕ} 0 1 = cc in omega arith)
+
+on-if : (stage : Stage) (to : Sink) → readingAfter stage to ≡ Reading.On → (isOpen to ≡ true) × (stage ≡ Stage.Over → ⊥)
+on-if Stage.Awaiting to e = (open-if (isOpen to) e, λ p. let z : _≡_ {A = ℕ} 0 1 = cc in omega arith)
+on-if Stage.Trading to e = (open-if (isOpen to) e, λ p. let z : _≡_ {A = ℕ} 0 1 = cc in omega arith)
+on-if Stage.Over to e = absurd (let z : _≡_ {A = ℕ} 0 1 = cc in omega arith)
+
+pub takes-in : (expected buf : List ℕ) (end : ℕ) (to : Sink) (run : Run) (buys sells : List ℕ) {buf′ buys′ sells′ : List ℕ} {h : Handed} {reading : Reading} →
+    end ≤ length buf → length buf′ ≡ length buf → OverAs expected (holding run buys sells (take (end - 0) buf)) to buys′ sells′ h →
+    take (end - h .used) buf′ ≡ drop (h .used) (take end buf) → reading ≡ readingAfter (h .run .stage) (h .to) →
+    TakesIn expected (holding run buys sells (take end buf)) to buf′ buys′ sells′ (record { run = h .run; have = end - h .used; to = h .to; reading = reading })
+takes-in expected buf end to run buys sells {buf′} {buys′} {sells′} {h} {reading} there same k moved e =
+    let z : end - 0 ≡ end = omega arith in
+    let k′ : OverAs expected (holding run buys sells (take end buf)) to buys′ sells′ h = rw z at k in
+    record {
+      room =
+          record {
+            within = omega arith;
+            short =
+                λ on.
+                let o = on-if (h .run .stage) (h .to) (sym e ∙ on) in
+                let l = k′ .lines (o .0) .short (o .1) in
+                let m = length-drop (h .used) (take end buf) ∙ ap (λ (n : ℕ). n - h .used) (length-take-le end buf there) in
+                omega arith;
+          };
+      goes =
+          subst (λ (x : List ℕ). Goes expected (holding run buys sells (take end buf)) to [] (holding (h .run) buys′ sells′ x) (h .to)) (sym moved) (k′ .goes);
+      reading = e;
+    }

@@ -1,0 +1,58 @@
+-- A whole run, from the start to the end. Assumes nothing.
+use Prim.Native.Nat.{ℕ, _-_, _≤_}
+use native.Mathlib.Omega.{arith}
+use native.Mathlib.Nat.{le-of-eq}
+use mathlib.Core.Path.{_≡_, refl, sym, ap, _∙_, subst}
+use mathlib.Core.List.{List, [], _++_, append-nil}
+use lib.ListN.{length, take, length-replicate}
+use Rattle.terms.specs.Sizes.{tableLength}
+use Rattle.tables.specs.Tables.{decode}
+use Rattle.state_law.specs.Opening.{fixedSession}
+use Rattle.feed_law.specs.Turns.{printed}
+use Rattle.feed_law.specs.Feeds.{begun}
+use Rattle.promises.specs.Printed.{Holding, toPrint}
+use Rattle.stream_law.specs.declared.Sink.{Sink}
+use Rattle.stream_law.specs.declared.Finish.{Finish}
+use Rattle.stream_law.specs.declared.Held.{Held}
+use Rattle.stream_law.specs.Sinks.{SentAs, finishOf}
+use Rattle.stream_law.specs.Streams.{zeros, Tables, holding, heldOn, Hears, EndsAs, Finished, ThroughAs, Tells, Compares, PrintedAs}
+use Rattle.stream_law.specs.Streams.ThroughAs.{unread, whole}
+use Rattle.stream_law.proofs.Sends.{sent-then, finish-tells, finish-printed}
+
+-- tables of zeros are long enough
+pub tables-long : Tables (zeros tableLength) (zeros tableLength)
+tables-long =
+    let e : tableLength ≤ length (zeros tableLength) = le-of-eq (sym (length-replicate {A = ℕ} tableLength 0)) in
+    record { buys-long = e; sells-long = e }
+
+-- before the first line, whatever the tables hold, all is still to be printed
+from-start : (buys sells input : List ℕ) → printed input ≡ toPrint (holding begun buys sells []) input
+unfolding printed fixedSession decode
+from-start buys sells input = refl
+
+-- all that was read, then the end
+pub run-whole : (expected buys sells : List ℕ) (to last : Sink) {buf′ buys′ sells′ : List ℕ} {h : Held} {r : Finish} →
+    Hears expected (holding begun buys sells []) to buf′ buys′ sells′ h → EndsAs expected (holding (h .run) buys′ sells′ (take (h .have - 0) buf′)) (h .to) last →
+    r ≡ finishOf expected last → ThroughAs expected to r
+run-whole expected buys sells to last {buf′} {buys′} {sells′} {h} k e q =
+    let b : Holding = heldOn buf′ buys′ sells′ h in
+    let z : h .have - 0 ≡ h .have = omega arith in
+    let e′ : EndsAs expected b (h .to) last = rw z at e in
+    let p : printed (k .got) ≡ k .goes .text ++ toPrint b [] =
+    from-start buys sells (k .got) ∙ ap (toPrint (holding begun buys sells [])) (sym (append-nil (k .got))) ∙ k .goes .prints [] in
+    whole (k .got)
+    (record {
+      sink = last;
+      sent = subst (λ (x : List ℕ). SentAs expected to x last) (sym p) (sent-then expected (k .goes .text) (toPrint b []) to (h .to) last (k .goes .sent) e′);
+      finish = q;
+    })
+
+-- ---- what is told
+
+pub through-compares : (expected : List ℕ) (r : Finish) → ThroughAs expected (Sink.Match 0) r → Compares expected r
+through-compares expected r (unread e) = record { input = []; tells = subst (Tells (printed []) expected) (sym e) tt }
+through-compares expected r (whole input f) = record { input = input; tells = finish-tells expected (printed input) r f }
+
+pub through-prints : (expected : List ℕ) (r : Finish) → ThroughAs expected Sink.Print r → PrintedAs r
+through-prints expected r (unread e) = subst PrintedAs (sym e) tt
+through-prints expected r (whole input f) = finish-printed expected (printed input) r f
