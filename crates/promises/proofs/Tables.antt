@@ -37,11 +37,11 @@ use Rattle.engine_law.specs.Outcome.{Outcome, decided, outcome, after, told}
 use Rattle.engine_law.specs.Calls.{roomy, callVerdict, called, answerBy, tableBy}
 use Rattle.engine_law.proofs.Kept.{outcome-verdict, accepted-sound, refused-nothing}
 use Rattle.engine_law.proofs.Applies.{called-outcome, called-short}
-use Rattle.promises.specs.Runs.{Held, dayHeld, openedOn, Call, HandsOut, Called, counting, Run, RunsAsDefined, CallsKeepLots, CallsKeepOrders, CallsTradeWithin, CallsStaySound, CallsNeverTwo, CallsGiveInOrder, CallsGoForward, CallsWritable, CallsWiden, SameRuns, CallsClockLine}
+use Rattle.promises.specs.Runs.{Held, dayHeld, openedOn, Call, HandsOut, Called, counting, Run, RunsAsDefined, CallsKeepLots, CallsKeepOrders, CallsTradeWithin, CallsStaySound, CallsNeverTwo, CallsGiveInOrder, CallsGoForward, CallsWritable, CallsWiden, CallsWidenOnce, SameRuns, CallsClockLine}
 use Rattle.promises.specs.ClockLine.{clockAt, plain}
 use Rattle.promises.specs.Runs.Run.{ends, calls}
 use Rattle.promises.proofs.Records.{records-tell}
-use Rattle.promises.proofs.Kept.{lots-kept, order-kept, given-in-order, always-sound, trades-within, never-narrows, widens-after-touch, widens-to-enhanced, reports-forward}
+use Rattle.promises.proofs.Kept.{lots-kept, order-kept, given-in-order, always-sound, trades-within, never-narrows, widens-after-touch, widens-to-enhanced, widens-once, reports-forward}
 use Rattle.promises.proofs.Writable.{runs-writable}
 use Rattle.promises.proofs.ClockLine.{clock-unheard}
 
@@ -234,6 +234,9 @@ calls-widen g buys sells es rs h run before later t band e =
     let w = sym (runs-as-defined g buys sells es rs h run .0) ∙ e in
     let bands = widens-to-enhanced g es before later t band w in
     (widens-after-touch g es before later t band w, bands .0, bands .1, never-narrows g es before later t band w)
+
+pub calls-widen-once : CallsWidenOnce
+calls-widen-once g buys sells es rs h run = rw (runs-as-defined g buys sells es rs h run .0) (widens-once g es)
 
 pub same-runs : SameRuns
 same-runs g buys sells buys′ sells′ es rs rs′ h h′ run run′ =

@@ -3,3 +3,4 @@ pub mod Cascade
 pub mod Valid
 pub mod Multiples
 pub mod Records
+pub mod Papers
