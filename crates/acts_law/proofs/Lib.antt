@@ -14,3 +14,8 @@ pub mod Says
 pub mod Small
 pub mod Stays
 pub mod Tens
+pub mod Widens
+pub mod Ranks
+pub mod Closes
+pub mod InForce
+pub mod Listed

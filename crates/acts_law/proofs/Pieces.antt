@@ -1,4 +1,5 @@
--- What holds of each of a run of reports, piece by piece: the clock steps, trades, a remainder, cancels. Assumes nothing.
+-- What holds of each of a run of reports, piece by piece: the clock steps, an order with its trades and its remainder, cancels. Assumes
+-- nothing.
 use Prim.Native.Nat.{ℕ, _+_}
 use native.Mathlib.Omega.{arith}
 use mathlib.Core.Path.{_≡_, refl}
@@ -7,17 +8,18 @@ use mathlib.Core.List.{List, [], _∷_, _++_}
 use Rattle.terms.specs.declared.Closing.{Closing}
 use Rattle.terms.specs.declared.Deal.{Deal}
 use Rattle.terms.specs.declared.Ended.{Ended}
+use Rattle.terms.specs.declared.Entry.{Entry}
 use Rattle.terms.specs.declared.Order.{Order}
 use Rattle.terms.specs.declared.Side.{Side}
 use Rattle.terms.specs.declared.Report.{Report}
 use Rattle.terms.specs.declared.Said.{Said}
-use Rattle.terms.specs.declared.Said.the-variants.{Trade, Convert, Cancel, Close}
+use Rattle.terms.specs.declared.Said.the-variants.{Accept, Trade, Convert, Cancel, Close}
 use Rattle.terms.specs.declared.Why.{Why}
 use Rattle.terms.specs.declared.Why.the-variants.{DayEnd}
-use Rattle.book_law.specs.Matching.{reportAt, dealOf, tradeReports, Fate, Done, Rests, Turns, Ends, fateReports}
+use Rattle.book_law.specs.Matching.{Swept, reportAt, dealOf, tradeReports, Fate, Done, Rests, Turns, Ends, fateReports}
 use Rattle.book_law.specs.Told.{total}
 use Rattle.state_law.specs.declared.Session.{Session}
-use Rattle.acts_law.specs.Acts.{only, slabMoved, slabReport, refMoved, refReport, clockReports, cancelReports, closeReport, finished}
+use Rattle.acts_law.specs.Acts.{only, slabMoved, slabReport, refMoved, refReport, clockReports, fateIn, entered, cancelReports, closeReport, finished}
 
 -- it holds of each report
 unfoldable pub EachTold : (Report → Type 0) → List Report → Type 0
@@ -59,6 +61,17 @@ module _ (P : Report → Type 0) where
   fate-each time number left (Rests price) convert cancel = tt
   fate-each time number left (Turns price) convert cancel = (convert _, tt)
   fate-each time number left (Ends why) convert cancel = (cancel _, tt)
+
+  pub entered-each : (s : Session) (n : Entry) (mine : List Order) (w : Swept) → ((number : ℕ) → P (reportAt (s .time) (Accept number))) →
+      ((deal : Deal) → P (reportAt (s .time) (Trade deal))) → ((o : Order) → P (reportAt (s .time) (Convert o))) →
+      ((e : Ended) → P (reportAt (s .time) (Cancel e))) → EachTold P (entered s n mine w .reports)
+  unfolding EachTold entered
+  entered-each s n mine w accept trade convert cancel =
+      let number : ℕ = s .given + 1 in
+      let ts : List Report = tradeReports (s .time) (n .side) number (w .fills) in
+      let fs : List Report = fateReports (s .time) number (w .left) (fateIn s n w) in
+      let remainder : EachTold P fs = fate-each (s .time) number (w .left) (fateIn s n w) convert cancel in
+      (accept number, each-append ts fs (trades-each (s .time) (n .side) number (w .fills) trade) remainder)
 
   pub cancels-each : (why : Why) (time : ℕ) (os : List Order) → ((e : Ended) → P (reportAt time (Cancel e))) → EachTold P (cancelReports why time os)
   unfolding EachTold cancelReports

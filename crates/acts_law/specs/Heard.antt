@@ -1,5 +1,5 @@
--- What settings and reports alone say: the band, the reference, whether an end of the initial band has been touched. Nothing here
--- speaks of a session.
+-- What settings and reports alone say: the band, the reference, whether an end of the initial band has been touched, how often the band
+-- was widened. Nothing here speaks of a session.
 use Prim.Native.Nat.{ℕ, _+_}
 use mathlib.Core.Bool.{Bool, false, _&&_, _||_}
 use mathlib.Core.List.{List, [], _∷_}
@@ -12,6 +12,7 @@ use Rattle.rules_law.specs.declared.Range.{Range}
 use Rattle.rules_law.specs.Slabs.{slabOf, bandAt, touches, coolingLength}
 use Rattle.rules_law.specs.Reference.{openingReference, rangeOf}
 use Rattle.book_law.specs.Tells.{maybe, tells}
+use Rattle.book_law.specs.Told.{total}
 
 -- the last word of the reports on something: what it was, changed by each report in turn
 unfoldable pub lastSaid : {A : Type 0} → (A → Said → A) → A → List Report → A
@@ -54,3 +55,11 @@ touchedIn band t time x = maybe false (λ deal. touches band (deal .price) && le
 unfoldable pub touchedBy : Band → ℕ → List Report → Bool
 touchedBy band t [] = false
 touchedBy band t (r ∷ rs) = touchedIn band t (r .time) (r .said) || touchedBy band t rs
+
+-- ---- how many slab reports stand among these
+
+abbrev pub slabIn : Said → ℕ
+slabIn x = maybe 0 (λ band. 1) (tells x .band)
+
+abbrev pub slabsTold : List Report → ℕ
+slabsTold rs = total slabIn rs

@@ -1,6 +1,7 @@
 // acts_law: the law of what an accepted event does to a day: an order entered, cancelled, the day closed, and the reports of each.
-// It has no code and may use the laws below it, tables and matching. It promises: no lot is made or lost, numbers are given in order, every
-// trade is where settings and reports allow it, and the reports of an event fit the room.
+// It has no code and may use the laws below it, tables, rules and matching. It promises: no lot is made or lost, numbers are given in order,
+// every trade is where settings and reports allow it, no slab is told but where the band is widened, and the reports of an event stand in
+// document 01's order and fit the room.
 
 use state_law::Session;
 use terms::Why;

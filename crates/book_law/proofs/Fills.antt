@@ -1,21 +1,22 @@
--- The fills of a sweep: best first, at resting prices, each fitting the limit and in range; a market order's within the mark of the
+-- The fills of a sweep: best first, at resting prices, each within the limit and in range; a market order's within the mark of the
 -- first. What fills and rest keep of the orders that they are parts of.
 use Prim.Native.Nat.{ℕ, _-_, _≤_, _<_}
 use native.Mathlib.Omega.{arith}
-use borrow.Author.Tests.{eqb-false}
+use borrow.Author.Tests.{eqb-false, leb-true}
 use mathlib.Core.Path.{_≡_, refl}
 use mathlib.Core.Bool.{true, false}
 use mathlib.Core.List.{List, [], _∷_}
 use lib.Dec.{eqb}
 use Rattle.terms.specs.declared.Side.{Side}
-use Rattle.terms.specs.declared.Kind.the-variants.{Market}
+use Rattle.terms.specs.declared.Side.the-variants.{Buy, Sell}
+use Rattle.terms.specs.declared.Kind.the-variants.{Limit, Market}
 use Rattle.terms.specs.declared.Order.{Order}
 use Rattle.terms.proofs.Logic.{cases, both, make}
 use Rattle.rules_law.specs.declared.Range.{Range}
 use Rattle.rules_law.specs.Reference.{inRange}
 use Rattle.rules_law.specs.Mark.{beyondMark}
 use Rattle.book_law.specs.Priority.{ahead, headBehind, sorted}
-use Rattle.book_law.specs.Matching.{Taker, taker, Swept, fits, beyond, firstAfter, part, sweep, ownLastOr}
+use Rattle.book_law.specs.Matching.{Taker, taker, Swept, fitsLimit, fits, beyond, firstAfter, part, sweep, ownLastOr}
 use Rattle.book_law.specs.Over.{Each, EachPrice}
 use Rattle.book_law.proofs.Over.{each-map}
 use Rattle.book_law.proofs.Sweep.{sweep-by}
@@ -137,6 +138,22 @@ fills-dealable q =
       cuts = λ first lots o os m some l. ((m .fitting, m .ranged), tt);
       takes = λ first lots o os w m some l k. ((m .fitting, m .ranged), k);
     })
+
+-- "the best counter order fits the limit": a buy pays at most its limit, a sell gets at least its own
+abbrev pub WithinLimit : Side → ℕ → ℕ → Type 0
+WithinLimit Buy limit p = p ≤ limit
+WithinLimit Sell limit p = limit ≤ p
+
+fits-within : (side : Side) (limit p : ℕ) → fitsLimit side limit p ≡ true → WithinLimit side limit p
+fits-within Buy limit p e = leb-true p limit e
+fits-within Sell limit p e = leb-true limit p e
+
+pub limit-kept : (side : Side) (limit : ℕ) (range : Range) (lots : ℕ) (os : List Order) →
+    EachPrice (WithinLimit side limit) (sweep (taker side (Limit limit) range) 0 lots os .fills)
+limit-kept side limit range lots os =
+    let q : Taker = taker side (Limit limit) range in
+    each-map (λ o. Dealable q (o .price)) (λ o. WithinLimit side limit (o .price)) (λ o e. fits-within side limit (o .price) (e .0))
+    (sweep q 0 lots os .fills) (fills-dealable q 0 lots os)
 
 -- ---- a market order's mark
 

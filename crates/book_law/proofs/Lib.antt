@@ -9,3 +9,5 @@ pub mod Search
 pub mod Stops
 pub mod Sweep
 pub mod Views
+pub mod Fates
+pub mod Telling

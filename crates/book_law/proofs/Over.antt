@@ -1,7 +1,7 @@
 -- Insertion and removal: what each order keeps, what a sum over the orders becomes, how many there are. Assumes nothing.
 use Prim.Native.Nat.{ℕ, suc, _+_, _≤_}
 use native.Mathlib.Omega.{arith}
-use borrow.Author.Tests.{eqb-true, eq-eqb}
+use borrow.Author.Tests.{eqb-true, eq-eqb, ne-eqb}
 use mathlib.Core.Path.{_≡_, refl, ap}
 use mathlib.Core.Bool.{true, false, false≢true}
 use mathlib.Core.List.{List, [], _∷_, _++_}
@@ -65,6 +65,13 @@ mine-add id n a b = cases (eqb n id) (λ e. rw e refl) (λ e. rw e (omega arith)
 
 pub mine-zero : (id n : ℕ) → mine id n 0 ≡ 0
 mine-zero id n = cases (eqb n id) (λ e. rw e) (λ e. rw e)
+
+-- an order's own count, and not another's
+pub mine-own : (id n : ℕ) → mine id id n ≡ n
+mine-own id n = rw (eq-eqb id id refl)
+
+pub mine-other : (id number n : ℕ) → (number ≡ id → ⊥) → mine id number n ≡ 0
+mine-other id number n h = rw (ne-eqb number id h)
 
 -- no lot is made or lost by an insertion,
 pub lots-insert : (id : ℕ) (s : Side) (o : Order) (os : List Order) →

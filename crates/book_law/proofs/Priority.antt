@@ -1,15 +1,15 @@
 -- Priority is a strict order of the orders of a side; insertion and removal keep a side best first. Each law is for both sides.
 use Prim.Native.Nat.{ℕ, _<_}
 use native.Mathlib.Omega.{arith}
-use borrow.Author.Tests.{ltb-true, ltb-false, lt-ltb, le-ltb, eq-eqb, eqb-true}
-use mathlib.Core.Path.{_≡_, refl, _∙_}
+use borrow.Author.Tests.{ltb-true, ltb-false, lt-ltb, le-ltb, eq-eqb, ne-eqb, eqb-true}
+use mathlib.Core.Path.{_≡_, refl, sym, _∙_}
 use mathlib.Core.Bool.{Bool, true, false, _&&_, _||_}
 use mathlib.Core.List.{List, [], _∷_}
 use lib.Dec.{ltb, eqb}
 use Rattle.terms.specs.declared.Side.{Side}
 use Rattle.terms.specs.declared.Side.the-variants.{Buy, Sell}
 use Rattle.terms.specs.declared.Order.{Order}
-use Rattle.terms.proofs.Logic.{by, both, make, split, join, or-none, or-left, or-last}
+use Rattle.terms.proofs.Logic.{by, both, make, split, join, no-both, or-none, or-left, or-last}
 use Rattle.book_law.specs.Priority.{better, ahead, headBehind, sorted, insert, removed}
 use Rattle.book_law.specs.Over.{Each, EachPrice}
 
@@ -75,6 +75,33 @@ unfolding ahead
 ahead-flip s a b h e =
     or-last (better s (b .price) (a .price)) _
     (λ f. join _ _ (eq-eqb _ _ (tie-price s (a .price) (b .price) (or-none _ _ e .0) f)) (lt-ltb _ _ h))
+
+-- "Best price first": the dearest buy, the cheapest sell;
+pub dearest-first : (a b : Order) → b .price < a .price → ahead Buy a b ≡ true
+unfolding ahead
+dearest-first a b h = or-left _ _ (lt-ltb (b .price) (a .price) h)
+
+pub cheapest-first : (a b : Order) → a .price < b .price → ahead Sell a b ≡ true
+unfolding ahead
+cheapest-first a b h = or-left _ _ (lt-ltb (a .price) (b .price) h)
+
+-- "then lower number first"
+pub earlier-first : (s : Side) (a b : Order) → a .price ≡ b .price → a .number < b .number → ahead s a b ≡ true
+unfolding ahead
+earlier-first s a b e h =
+    or-last (better s (a .price) (b .price)) _ (λ z. join _ _ (eq-eqb (a .price) (b .price) e) (lt-ltb (a .number) (b .number) h))
+
+-- and of two orders only one goes before the other
+pub ahead-once : (s : Side) (a b : Order) → ahead s a b ≡ true → ahead s b a ≡ false
+unfolding ahead
+ahead-once s a b e =
+    or-cases (better s (a .price) (b .price)) _ e
+    (λ f. let apart : (b .price ≡ a .price → ⊥) = λ z. no-both (better s (a .price) (b .price)) f (same-not s (b .price) (a .price) z) in
+    rw (better-not s (a .price) (b .price) f, ne-eqb (b .price) (a .price) apart))
+    (λ f. let p = split (eqb (a .price) (b .price)) (ltb (a .number) (b .number)) f in
+    let tie : a .price ≡ b .price = eqb-true (a .price) (b .price) (p .0) in
+    let late : ltb (b .number) (a .number) ≡ false = le-ltb (b .number) (a .number) (omega (arith, ltb-true (a .number) (b .number) (p .1))) in
+    rw (same-not s (a .price) (b .price) tie, eq-eqb (b .price) (a .price) (sym tie), late))
 
 -- ---- a side best first
 

@@ -4,7 +4,7 @@ use Prim.Native.Nat.{ℕ, _+_, _≤_}
 use native.Mathlib.Omega.{arith}
 use borrow.Author.Tests.{eqb-true}
 use mathlib.Core.Path.{_≡_, refl, ap}
-use mathlib.Core.List.{List, [], _∷_, _++_}
+use mathlib.Core.List.{List, [], _∷_, _++_, map}
 use lib.Dec.{eqb}
 use lib.ListN.{length}
 use Rattle.terms.specs.declared.Side.{Side}
@@ -15,14 +15,17 @@ use Rattle.terms.specs.declared.Life.{Life}
 use Rattle.terms.specs.declared.Life.the-variants.{AllDay, Ioc}
 use Rattle.terms.specs.declared.Order.{Order}
 use Rattle.terms.specs.declared.Band.{Band}
+use Rattle.terms.specs.declared.Deal.{Deal}
 use Rattle.terms.specs.declared.Why.{Why}
-use Rattle.terms.specs.declared.Why.the-variants.{Immediate, OutOfRange, OutsideBand}
 use Rattle.terms.specs.declared.Report.{Report}
 use Rattle.terms.specs.declared.Said.{Said}
 use Rattle.terms.proofs.Logic.{by}
 use Rattle.rules_law.specs.Slabs.{inBand}
-use Rattle.book_law.specs.Matching.{Taker, Swept, sweep, tradeReports, Fate, Done, Rests, Turns, Ends, ownLastOr, fateOfLeft, fateOf, settled, fateReports}
+use Rattle.book_law.specs.Matching.{Taker, Swept, sweep, dealOf, tradeReports, Fate, Done, Rests, Turns, Ends, ownLastOr, fateOfLeft, fateOf, settled, fateReports}
 use Rattle.book_law.specs.Over.{tally, mine, sumOf, lotsOf}
+use Rattle.book_law.specs.Priority.{otherSide}
+use Rattle.book_law.specs.View.{named}
+use Rattle.book_law.specs.Tells.{maybe, tells}
 use Rattle.book_law.specs.Told.{total, tradedIn, cancelledIn, traded, cancelled}
 use Rattle.book_law.proofs.Over.{mine-add, mine-zero, lots-insert}
 use Rattle.book_law.proofs.Conserve.{Conserved, sweep-conserves}
@@ -33,6 +36,17 @@ total-append f [] ys = omega arith
 total-append f (x ∷ xs) ys = omega (arith, total-append f xs ys)
 
 -- ---- trades
+
+-- the incoming order trades on its own side, the counter order on the other, at the resting price
+pub record DealTold (side : Side) (number : ℕ) (f : Order) (d : Deal) : Type 0 where
+  pub mine : named side (d .buy) (d .sell) ≡ number
+  pub theirs : named (otherSide side) (d .buy) (d .sell) ≡ f .number
+  pub lots : d .lots ≡ f .lots
+  pub price : d .price ≡ f .price
+
+pub deal-told : (side : Side) (number : ℕ) (f : Order) → DealTold side number f (dealOf side number f)
+deal-told Buy number f = record { mine = refl; theirs = refl; lots = refl; price = refl }
+deal-told Sell number f = record { mine = refl; theirs = refl; lots = refl; price = refl }
 
 -- the incoming order traded the lots of all fills, each counter order those of its own
 pub trades-traded : (id time : ℕ) (side : Side) (number : ℕ) (fs : List Order) →
@@ -46,6 +60,20 @@ pub trades-cancelled : (id time : ℕ) (side : Side) (number : ℕ) (fs : List O
 unfolding total tradeReports
 trades-cancelled id time side number [] = refl
 trades-cancelled id time side number (f ∷ fs) = omega (arith, trades-cancelled id time side number fs)
+
+-- the reports stand in the order of the fills, best first
+abbrev dealIn : Said → List Deal
+dealIn x = maybe [] (λ deal. deal ∷ []) (tells x .deal)
+
+unfoldable pub dealsTold : List Report → List Deal
+dealsTold [] = []
+dealsTold (r ∷ rs) = dealIn (r .said) ++ dealsTold rs
+
+pub trades-in-order : (time : ℕ) (side : Side) (number : ℕ) (fs : List Order) →
+    dealsTold (tradeReports time side number fs) ≡ map (dealOf side number) fs
+unfolding dealsTold tradeReports
+trades-in-order time side number [] = refl
+trades-in-order time side number (f ∷ fs) = ap (λ (l : List Deal). dealOf side number f ∷ l) (trades-in-order time side number fs)
 
 pub length-trades : (time : ℕ) (side : Side) (number : ℕ) (fs : List Order) → length (tradeReports time side number fs) ≡ length fs
 unfolding tradeReports
@@ -82,9 +110,9 @@ module _ (side : Side) (number left time : ℕ) (os : List Order) where
   ends-placed why = record { kept = λ id. omega arith; untraded = λ id. refl; one = omega arith }
 
   left-placed : (life : Life) (kind : Kind) (b : Band) (p : ℕ) → Placed side number left time os (fateOfLeft life kind b p)
-  left-placed Ioc kind b p = ends-placed Immediate
+  left-placed Ioc kind b p = ends-placed _
   left-placed AllDay (Limit l) b p = rests-placed l
-  left-placed AllDay Market b p = by (Placed side number left time os) (inBand b p) _ _ (λ e. turns-placed p) (λ e. ends-placed OutsideBand)
+  left-placed AllDay Market b p = by (Placed side number left time os) (inBand b p) _ _ (λ e. turns-placed p) (λ e. ends-placed _)
 
 pub fate-placed : (side : Side) (number time : ℕ) (os : List Order) (life : Life) (kind : Kind) (b : Band) (last : ℕ) (w : Swept) →
     Placed side number (w .left) time os (fateOf life kind b last w)
@@ -92,7 +120,7 @@ unfolding fateOf
 fate-placed side number time os life kind b last w =
     let P : Fate → Type 0 = Placed side number (w .left) time os in
     by P (eqb (w .left) 0) _ _ (λ e. done-placed side number (w .left) time os (eqb-true _ _ e))
-    (λ e. by P (w .out) _ _ (λ e. ends-placed side number (w .left) time os OutOfRange)
+    (λ e. by P (w .out) _ _ (λ e. ends-placed side number (w .left) time os _)
     (λ e. left-placed side number (w .left) time os life kind b (ownLastOr last (w .fills))))
 
 -- ---- both together: of each order, what is told of it and what rests afterwards is what rested before, and what came in

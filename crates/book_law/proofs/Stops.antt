@@ -1,12 +1,13 @@
--- Where a sweep ends: with lots left and in range, the next counter order does not fit, or lies beyond the mark.
-use Prim.Native.Nat.{ℕ, _≤_}
+-- Where a sweep ends: with lots left, the next counter order does not fit, or is out of range, or is in range and beyond the mark.
+use Prim.Native.Nat.{ℕ, _≤_, _<_}
 use native.Mathlib.Omega.{arith}
-use borrow.Author.Tests.{not-true}
+use borrow.Author.Tests.{not-true, leb-false}
 use mathlib.Core.Path.{_≡_, refl}
 use mathlib.Core.Bool.{Bool, true, false, _||_, not, false≢true}
 use mathlib.Core.List.{List, [], _∷_}
 use lib.Dec.{eqb}
 use Rattle.terms.specs.declared.Side.{Side}
+use Rattle.terms.specs.declared.Side.the-variants.{Buy, Sell}
 use Rattle.terms.specs.declared.Kind.the-variants.{Limit, Market}
 use Rattle.terms.specs.declared.Order.{Order}
 use Rattle.terms.proofs.Logic.{split}
@@ -15,7 +16,7 @@ use Rattle.rules_law.specs.Mark.{beyondMark}
 use Rattle.book_law.specs.Matching.{Taker, taker, Swept, fitsLimit, beyond, sweep}
 use Rattle.book_law.specs.Over.{FirstPrice}
 use Rattle.book_law.proofs.Over.{first-map}
-use Rattle.book_law.proofs.Sweep.{barred, Stop, sweep-by}
+use Rattle.book_law.proofs.Sweep.{barred, Forbidden, SomePrice, Stop, sweep-by}
 use Rattle.book_law.proofs.Mark.{firstOf, first-stays}
 use Rattle.book_law.proofs.Fills.{Positive, each-swept}
 
@@ -29,7 +30,11 @@ sweep-stops q =
     sweep-by q (λ first lots os w. Ended q first w)
     (record {
       stops = λ first lots os out s. s;
-      cuts = λ first lots o os m some l. record { inside = λ e n. absurd (omega arith); outside = λ e. absurd (false≢true e) };
+      cuts = λ first lots o os m some l. record {
+        inside = λ e n. absurd (omega arith);
+        outside = λ e. absurd (false≢true e);
+        range-first = λ n. absurd (omega arith);
+      };
       takes = λ first lots o os w m some l k. k;
     })
 
@@ -41,6 +46,15 @@ or-never : (a : Bool) → a || false ≡ true → a ≡ true
 or-never true h = refl
 or-never false h = h
 
+-- and one that would trade but for the range stops it for want of range, whatever the mark
+pub range-before-mark : (q : Taker) (lots : ℕ) (os : List Order) → 1 ≤ sweep q 0 lots os .left →
+    FirstPrice (λ p. Forbidden q p → sweep q 0 lots os .out ≡ true) (sweep q 0 lots os .rest)
+range-before-mark q lots os l = sweep-stops q 0 lots os .range-first l
+
+-- nothing else does
+pub out-of-range : (q : Taker) (lots : ℕ) (os : List Order) → sweep q 0 lots os .out ≡ true → SomePrice (Forbidden q) (sweep q 0 lots os .rest)
+out-of-range q lots os e = sweep-stops q 0 lots os .outside e .1
+
 -- a limit order: it does not fit
 pub limit-stops : (side : Side) (limit : ℕ) (range : Range) (first lots : ℕ) (os : List Order) →
     Next (λ p. fitsLimit side limit p ≡ false) (sweep (taker side (Limit limit) range) first lots os)
@@ -49,6 +63,22 @@ limit-stops side limit range first lots os e l =
     let w : Swept = sweep q first lots os in
     first-map (λ p. barred q (firstOf first (w .fills)) p ≡ true) (λ p. fitsLimit side limit p ≡ false)
     (λ p h. not-true _ (or-never (not (fitsLimit side limit p)) h)) (w .rest) (sweep-stops q first lots os .inside e l)
+
+-- that is, it is dearer than a buy pays, cheaper than a sell takes
+abbrev pub PastLimit : Side → ℕ → ℕ → Type 0
+PastLimit Buy limit p = limit < p
+PastLimit Sell limit p = p < limit
+
+unfit-past : (side : Side) (limit p : ℕ) → fitsLimit side limit p ≡ false → PastLimit side limit p
+unfit-past Buy limit p e = leb-false p limit e
+unfit-past Sell limit p e = leb-false limit p e
+
+pub limit-passed : (side : Side) (limit : ℕ) (range : Range) (first lots : ℕ) (os : List Order) →
+    Next (PastLimit side limit) (sweep (taker side (Limit limit) range) first lots os)
+limit-passed side limit range first lots os e l =
+    let w : Swept = sweep (taker side (Limit limit) range) first lots os in
+    first-map (λ p. fitsLimit side limit p ≡ false) (PastLimit side limit) (unfit-past side limit) (w .rest)
+    (limit-stops side limit range first lots os e l)
 
 -- a market order: it is beyond the mark from the first trade,
 abbrev pub Beyond : Side → ℕ → Swept → ℕ → Type 0

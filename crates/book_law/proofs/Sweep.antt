@@ -8,7 +8,7 @@ use mathlib.Core.Bool.{Bool, true, false, _||_, not, true≢false, false≢true}
 use mathlib.Core.List.{List, [], _∷_}
 use lib.Dec.{ltb, eqb}
 use Rattle.terms.specs.declared.Order.{Order}
-use Rattle.terms.proofs.Logic.{by}
+use Rattle.terms.proofs.Logic.{by, no-both}
 use Rattle.rules_law.specs.Reference.{inRange}
 use Rattle.book_law.specs.Matching.{Taker, Swept, stopped, cutShort, takenWhole, fits, beyond, firstAfter, sweep}
 use Rattle.book_law.specs.Over.{FirstPrice}
@@ -17,10 +17,21 @@ use Rattle.book_law.specs.Over.{FirstPrice}
 abbrev pub barred : Taker → ℕ → ℕ → Bool
 barred q first price = not (fits (q .side) (q .kind) price) || beyond (q .side) (q .kind) first price
 
--- why a sweep ends with these lots left before these counter orders: no lots, no order, a price that is barred, or one out of range
+-- a counter price at which it would trade, if the range did not forbid it
+abbrev pub Forbidden : Taker → ℕ → Type 0
+Forbidden q p = (fits (q .side) (q .kind) p ≡ true) × (inRange (q .range) p ≡ false)
+
+-- there is a first price, and it has the property
+abbrev pub SomePrice : (ℕ → Type 0) → List Order → Type 0
+SomePrice P [] = ⊥
+SomePrice P (o ∷ os) = P (o .price)
+
+-- why a sweep ends with these lots left before these counter orders: no lots, no order, a price that is barred, or one that fits and is out
+-- of range, which is looked at before the mark
 pub record Stop (q : Taker) (first lots : ℕ) (os : List Order) (out : Bool) : Type 0 where
   pub inside : out ≡ false → 1 ≤ lots → FirstPrice (λ p. barred q first p ≡ true) os
-  pub outside : out ≡ true → (1 ≤ lots) × FirstPrice (λ p. inRange (q .range) p ≡ false) os
+  pub outside : out ≡ true → (1 ≤ lots) × SomePrice (Forbidden q) os
+  pub range-first : 1 ≤ lots → FirstPrice (λ p. Forbidden q p → out ≡ true) os
 
 -- what holds of a price at which it trades
 pub record Meets (q : Taker) (first price : ℕ) : Type 0 where
@@ -39,19 +50,36 @@ pub record Laws (q : Taker) (P : ℕ → ℕ → List Order → Swept → Type 0
 pub sweep-by : (q : Taker) (P : ℕ → ℕ → List Order → Swept → Type 0) → Laws q P → (first lots : ℕ) (os : List Order) →
     P first lots os (sweep q first lots os)
 unfolding sweep
-sweep-by q P k first lots [] = k .stops first lots [] false (record { inside = λ e l. tt; outside = λ e. absurd (false≢true e) })
+sweep-by q P k first lots [] =
+    k .stops first lots [] false (record { inside = λ e l. tt; outside = λ e. absurd (false≢true e); range-first = λ l. tt })
 sweep-by q P k first lots (o ∷ os) =
     let Q : Swept → Type 0 = P first lots (o ∷ os) in
     let halt = k .stops first lots (o ∷ os) in
     by Q (eqb lots 0) _ _
-    (λ z. halt false (record { inside = λ e l. absurd (let y : lots ≡ 0 = eqb-true lots 0 z in omega arith); outside = λ e. absurd (false≢true e) }))
+    (λ z. let y : lots ≡ 0 = eqb-true lots 0 z in halt false (record {
+      inside = λ e l. absurd (omega arith);
+      outside = λ e. absurd (false≢true e);
+      range-first = λ l. absurd (omega arith);
+    }))
     (λ z. let some : 1 ≤ lots = (let y : (lots ≡ 0 → ⊥) = eqb-false lots 0 z in omega arith) in
     by Q (not (fits (q .side) (q .kind) (o .price))) _ _
-    (λ u. halt false (record { inside = λ e l. rw u refl; outside = λ e. absurd (false≢true e) }))
+    (λ u. halt false (record {
+      inside = λ e l. rw u refl;
+      outside = λ e. absurd (false≢true e);
+      range-first = λ l f. no-both _ (f .0) (not-true _ u);
+    }))
     (λ u. by Q (not (inRange (q .range) (o .price))) _ _
-    (λ r. halt true (record { inside = λ e. absurd (true≢false e); outside = λ e. (some, not-true _ r) }))
+    (λ r. halt true (record {
+      inside = λ e. absurd (true≢false e);
+      outside = λ e. (some, (not-false _ u, not-true _ r));
+      range-first = λ l f. refl;
+    }))
     (λ r. by Q (beyond (q .side) (q .kind) first (o .price)) _ _
-    (λ b. halt false (record { inside = λ e l. rw (u, b) refl; outside = λ e. absurd (false≢true e) }))
+    (λ b. halt false (record {
+      inside = λ e l. rw (u, b) refl;
+      outside = λ e. absurd (false≢true e);
+      range-first = λ l f. no-both _ (not-false _ r) (f .1);
+    }))
     (λ b. let meets : Meets q first (o .price) = record { fitting = not-false _ u; ranged = not-false _ r; near = b } in
     by Q (ltb lots (o .lots)) _ _
     (λ p. k .cuts first lots o os meets some (ltb-true lots (o .lots) p))

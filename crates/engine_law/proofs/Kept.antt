@@ -1,11 +1,11 @@
 -- What an event comes to: a refused one changes nothing and tells nothing; an accepted one leaves a sound day, keeps every lot, gives
--- numbers in order, tells nothing that is not fine, has no more reports than the room has place for, and no number in them that cannot be
--- written. Each law is for any day.
+-- numbers in order, tells nothing that is not fine and no slab but where it widens the band, has no more reports than the room has place
+-- for, and no number in them that cannot be written. Each law is for any day.
 use Prim.Native.Nat.{ℕ, _+_, _≤_, _<_}
 use native.Mathlib.Omega.{arith}
 use native.Mathlib.Nat.{le-refl}
 use native.Mathlib.Numerals.{add-one}
-use borrow.Author.Tests.{leb-true, eq-eqb, ne-eqb}
+use borrow.Author.Tests.{leb-true}
 use mathlib.Core.Path.{_≡_, refl, ap, _∙_}
 use mathlib.Core.Bool.{true, false}
 use mathlib.Core.List.{[], _∷_, _++_, append-nil, append-cancel-left}
@@ -20,16 +20,18 @@ use Rattle.terms.specs.declared.Verdict.{Verdict}
 use Rattle.terms.specs.declared.Verdict.the-variants.{Fine, Refused}
 use Rattle.terms.specs.Sizes.{reportsMost}
 use Rattle.book_law.specs.Over.{mine}
-use Rattle.book_law.proofs.Over.{mine-zero}
+use Rattle.book_law.proofs.Over.{mine-zero, mine-own, mine-other}
 use Rattle.book_law.specs.Told.{total, traded, cancelled}
 use Rattle.state_law.specs.Tens.{Ten}
 use Rattle.state_law.specs.Day.{Day}
 use Rattle.soundness_law.specs.Sound.{sound}
+use Rattle.soundness_law.proofs.Days.{sound-day}
 use Rattle.book_law.specs.Tells.{maybe}
 use Rattle.refusal_law.specs.Carried.{carries}
 use Rattle.refusal_law.specs.Refusals.{refusalOf}
 use Rattle.refusal_law.proofs.Accepted.{Accepted, accepted, unsound-refused}
 use Rattle.acts_law.specs.Acts.{act}
+use Rattle.acts_law.specs.Heard.{slabsTold}
 use Rattle.acts_law.specs.Small.{SmallReports}
 use Rattle.acts_law.specs.Asked.{wanted, askedBy, resting, accepts, numbersTo}
 use Rattle.acts_law.proofs.Stays.{act-stays}
@@ -37,6 +39,7 @@ use Rattle.acts_law.proofs.Lots.{act-kept, act-asks}
 use Rattle.acts_law.proofs.Numbers.{act-counts, givenBy, act-given}
 use Rattle.acts_law.proofs.Hears.{Listener, knownOf, KnowsOf, TellsOf, none-tells}
 use Rattle.acts_law.proofs.Says.{act-tells, act-moved}
+use Rattle.acts_law.proofs.Widens.{act-widens}
 use Rattle.acts_law.proofs.Few.{act-few}
 use Rattle.acts_law.proofs.Small.{act-small}
 use Rattle.acts_law.proofs.Tens.{act-ten}
@@ -113,6 +116,17 @@ outcome-tells d e l m =
     (λ k. act-tells d e l (k .whole) (leb-true (d .session .time) (e .time) (k .forward)) m)
     (λ r. none-tells (d .session .settings) (knownOf (d .session)) l m)
 
+-- NO MORE SLAB REPORTS THAN WIDENINGS,
+pub outcome-widens : (d : Day) (e : Event) → slabsTold (outcome d e .reports) + d .session .widened ≤ outcome d e .day .session .widened
+unfolding total
+outcome-widens d e =
+    by-verdict (λ (o : Outcome). slabsTold (o .reports) + d .session .widened ≤ o .day .session .widened) d e (λ k. act-widens d e) (λ r. omega arith)
+
+-- and the band is widened once at most
+pub outcome-once : (d : Day) (e : Event) → d .session .widened ≤ 1 → outcome d e .day .session .widened ≤ 1
+outcome-once d e h =
+    by-verdict (λ (o : Outcome). o .day .session .widened ≤ 1) d e (λ k. sound-day (act d e .day) (act-stays d e k) .parts .timed .once) (λ r. h)
+
 pub outcome-settings : (d : Day) (e : Event) → outcome d e .day .session .settings ≡ d .session .settings
 outcome-settings d e = by-verdict (λ (o : Outcome). o .day .session .settings ≡ d .session .settings) d e (λ k. act-moved d e .settings) (λ r. refl)
 
@@ -146,7 +160,7 @@ accepted-asks d t n =
     let e : Event = record { time = t; act = Enter n } in
     let id : ℕ = d .session .given + 1 in
     by-verdict (λ (o : Outcome). o .verdict ≡ Fine → (askedBy id (Enter n) (o .reports) ≡ n .lots) × (o .day .session .given ≡ id)) d e
-    (λ k h. (act-asks id d e ∙ rw (eq-eqb id id refl), act-given d e))
+    (λ k h. (act-asks id d e ∙ mine-own id (n .lots), act-given d e))
     (λ r h. absurd (let z : _≡_ {A = ℕ} 0 1 = cc in omega arith))
 
 -- which its one report of acceptance tells
@@ -170,20 +184,17 @@ outcome-given d e =
     (λ k. omega (arith, act-given d e, given-grows (d .session .given) (carries (e .act) .entry)))
     (λ r. le-refl (d .session .given))
 
-not-mine : (id number lots : ℕ) → (number ≡ id → ⊥) → mine id number lots ≡ 0
-not-mine id number lots h = rw (ne-eqb number id h)
-
 -- a number that was given before is asked for no more,
 pub asks-old : (id : ℕ) (d : Day) (e : Event) → id ≤ d .session .given → askedBy id (e .act) (outcome d e .reports) ≡ 0
 unfolding total
 asks-old id d e h =
     by-verdict (λ (o : Outcome). askedBy id (e .act) (o .reports) ≡ 0) d e
-    (λ k. act-asks id d e ∙ not-mine id (d .session .given + 1) (wanted (e .act)) (λ z. omega arith))
+    (λ k. act-asks id d e ∙ mine-other id (d .session .given + 1) (wanted (e .act)) (λ z. omega arith))
     (λ r. refl)
 
 asked-new : (id given : ℕ) (n : Option Entry) → maybe given (λ n. given + 1) n < id → mine id (given + 1) (maybe 0 (λ n. n .lots) n) ≡ 0
 asked-new id given none h = mine-zero id (given + 1)
-asked-new id given (some n) h = not-mine id (given + 1) (n .lots) (λ z. omega arith)
+asked-new id given (some n) h = mine-other id (given + 1) (n .lots) (λ z. omega arith)
 
 -- and one that is not given yet is not asked for
 pub asks-new : (id : ℕ) (d : Day) (e : Event) → outcome d e .day .session .given < id → askedBy id (e .act) (outcome d e .reports) ≡ 0

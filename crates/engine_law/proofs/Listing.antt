@@ -1,19 +1,13 @@
--- Document 01's listing: its events on its settings, and all its reports, computed from the definitions.
+-- Document 01's listing: its events on its settings give all its reports, computed from the definitions.
 use Prim.Native.Nat.{ℕ}
 use mathlib.Core.Path.{_≡_, refl}
 use mathlib.Core.List.{List, [], _∷_}
-use Rattle.terms.specs.declared.Settings.{Settings}
-use Rattle.terms.specs.declared.Category.the-variants.{Gems}
 use Rattle.terms.specs.declared.Side.the-variants.{Buy, Sell}
 use Rattle.terms.specs.declared.Kind.the-variants.{Limit, Market}
 use Rattle.terms.specs.declared.Life.the-variants.{AllDay}
 use Rattle.terms.specs.declared.Event.{Event}
 use Rattle.terms.specs.declared.Act.{Act}
 use Rattle.terms.specs.declared.Act.the-variants.{Enter, Withdraw, Finish}
-use Rattle.terms.specs.declared.Report.{Report}
-use Rattle.terms.specs.declared.Said.{Said}
-use Rattle.terms.specs.declared.Said.the-variants.{Accept, Trade, Convert, Slab, Ref, Close}
-use Rattle.terms.specs.declared.Why.the-variants.{Asked}
 use Rattle.terms.specs.Truth.{_⊓_}
 use Rattle.terms.specs.Refusals.{firstFailed}
 use Rattle.terms.specs.Settings.{settingsRanged, settingsTicked, settingsValid}
@@ -22,7 +16,7 @@ use Rattle.rules_law.specs.Growth.{factorial, term, terms, growth, theoretical}
 use Rattle.rules_law.specs.Reference.{theoreticalOr, minuteAfter, boundaries, reckoned, inRange}
 use Rattle.rules_law.specs.Close.{tallied, tallyAll, nearest, remembered, tapeAfter, lastOr, closePrice, nextBase}
 use Rattle.book_law.specs.Priority.{ahead, headBehind, sorted, insert, rests, removed, leftOf}
-use Rattle.book_law.specs.Matching.{sweep, reportAt, tradeReports, ownLastOr, fateOf}
+use Rattle.book_law.specs.Matching.{sweep, tradeReports, ownLastOr, fateOf}
 use Rattle.book_sound_law.specs.Sound.{orderSound, eachSound, distinct, uncrossed, bookSound}
 use Rattle.state_law.specs.Opening.{openedSession}
 use Rattle.state_law.specs.Clock.{widenedBy, coolingBy, clockStep}
@@ -30,12 +24,9 @@ use Rattle.state_law.specs.Trades.{withTrade, withTrades}
 use Rattle.state_law.specs.Day.{opened}
 use Rattle.soundness_law.specs.Sound.{timeSound, countsSound, slabSound, numbersSound, every, rememberedSound, halfSound, minuteSound, clockSound, tapeSound, sessionSound, counted, sound}
 use Rattle.refusal_law.specs.Refusals.{numbersRight, inHours, ticksRight, bandRight, finds, hasPlace, hasNumbers, refusalOf}
-use Rattle.acts_law.specs.Acts.{clockReports, sweepIn, fateIn, entered, ended, dropped, cancelReports, finished, act}
+use Rattle.acts_law.specs.Acts.{clockReports, sweepIn, fateIn, entered, dropped, cancelReports, finished, act}
+use Rattle.acts_law.proofs.Listed.{settings, reports}
 use Rattle.engine_law.specs.Outcome.{outcome, told}
-
--- `cat=gems base=10000 close=10000 settle=10000 tick=5 len=3600000 days=0 under=0`
-abbrev pub settings : Settings
-settings = record { category = Gems; base = 10000; close = 10000; settle = 10000; tick = 5; length = 3600000; days = 0; under = 0 }
 
 abbrev event : ℕ → Act → Event
 event time act = record { time = time; act = act }
@@ -48,26 +39,6 @@ events =
     ∷ event 61000 (Enter (record { side = Buy; kind = Market; life = AllDay; lots = 6 }))
     ∷ event 961000 (Withdraw 4)
     ∷ event 3600000 (Finish 10200)
-    ∷ []
-
-abbrev trade : ℕ → ℕ → ℕ → ℕ → Said
-trade buy sell lots price = Trade (record { buy = buy; sell = sell; lots = lots; price = price })
-
-abbrev pub reports : List Report
-reports =
-    reportAt 0 (Accept 1)
-    ∷ reportAt 1000 (Accept 2)
-    ∷ reportAt 1000 (trade 2 1 1 10150)
-    ∷ reportAt 60000 (Ref 10150)
-    ∷ reportAt 60000 (Accept 3)
-    ∷ reportAt 61000 (Accept 4)
-    ∷ reportAt 61000 (trade 4 1 3 10150)
-    ∷ reportAt 61000 (trade 4 3 2 10300)
-    ∷ reportAt 61000 (Convert (record { number = 4; price = 10300; lots = 1 }))
-    ∷ reportAt 961000 (Slab (record { low = 9400; high = 10600 }))
-    ∷ reportAt 961000 (Ref 10225)
-    ∷ ended 961000 4 1 Asked
-    ∷ reportAt 3600000 (Close (record { price = 10300; base = 10200 }))
     ∷ []
 
 -- THE LISTING

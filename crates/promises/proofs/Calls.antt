@@ -24,10 +24,10 @@ use Rattle.lines_writing_law.specs.Lines.{reportNumbers}
 use Rattle.lines_writing_law.specs.Writes.{lineVerdict}
 use Rattle.lines_writing_law.proofs.Back.{written-code}
 use Rattle.promises.specs.Lots.{asked}
-use Rattle.promises.specs.Runs.{dayHeld, hasRoom, begins, CallsKeepLots, CallsKeepOrders, CallsTradeWithin, CallsStaySound, CallsNeverTwo, CallsGiveInOrder, CallsGoForward, CallsWritable, CallsWritten, CallsWiden, SameRuns, CallsClockLine}
+use Rattle.promises.specs.Runs.{dayHeld, hasRoom, begins, CallsKeepLots, CallsKeepOrders, CallsTradeWithin, CallsStaySound, CallsNeverTwo, CallsGiveInOrder, CallsGoForward, CallsWritable, CallsWritten, CallsWiden, CallsWidenOnce, SameRuns, CallsClockLine}
 use Rattle.promises.specs.ClockLine.{clockAt, plain}
 use Rattle.promises.proofs.Runs.{run-asked}
-use Rattle.promises.proofs.Kept.{empty-kept, counts-from, always-sound, trades-within, never-narrows, widens-after-touch, widens-to-enhanced, reports-forward}
+use Rattle.promises.proofs.Kept.{empty-kept, counts-from, always-sound, trades-within, never-narrows, widens-after-touch, widens-to-enhanced, widens-once, reports-forward}
 use Rattle.promises.proofs.Writable.{runs-writable}
 use Rattle.promises.proofs.ClockLine.{clock-unheard}
 use Rattle.promises.proofs.Tables.{verdictOn, short-verdict, judged-verdict, number-by, run-asks, Cut}
@@ -101,6 +101,9 @@ calls-widen g es rs h r before later t band e =
     let w = sym (run-told g es rs h r) ∙ e in
     let bands = widens-to-enhanced g es before later t band w in
     (widens-after-touch g es before later t band w, bands .0, bands .1, never-narrows g es before later t band w)
+
+pub calls-widen-once : CallsWidenOnce
+calls-widen-once g es rs h r = rw (run-told g es rs h r) (widens-once g es)
 
 -- ---- two runs
 

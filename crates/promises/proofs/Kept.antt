@@ -29,9 +29,9 @@ use Rattle.engine_law.proofs.Kept.{outcome-verdict, outcome-few}
 use Rattle.promises.specs.Lots.{asked, LotsKept, OrderKept}
 use Rattle.promises.specs.Given.{GivenInOrder}
 use Rattle.promises.specs.Within.{TradesWithin}
-use Rattle.promises.specs.Slabs.{NeverNarrows, WidensAfterTouch, WidensToEnhanced}
+use Rattle.promises.specs.Slabs.{NeverNarrows, WidensAfterTouch, WidensToEnhanced, WidensOnce}
 use Rattle.promises.specs.Always.{AlwaysSound, NeverTwo, TimeForward, ReportsForward, ReportsFit}
-use Rattle.promises.proofs.Runs.{after-append, run-sound, run-forward, run-kept, run-counts, run-fine, run-asked}
+use Rattle.promises.proofs.Runs.{after-append, run-sound, run-forward, run-kept, run-counts, run-fine, run-widens, run-once, run-asked}
 
 -- a day without orders
 abbrev pub emptyDay : Session → Day
@@ -143,6 +143,11 @@ pub widens-to-enhanced : WidensToEnhanced
 widens-to-enhanced g es before later t band e =
     let f = fine-at g (first g) before later (reportAt t (Slab band)) (rw e at (all-fine g es)) .1 .1 in
     (rw (band-heard (first g) before) at (f .before), f .told)
+
+-- no band is widened at the opening, and none is widened more than once
+pub widens-once : WidensOnce
+unfolding openedSession
+widens-once g es = omega (arith, run-widens (opened g) es, run-once (opened g) es (omega arith))
 
 -- two reports, one after the other
 two-forward : (g : Settings) (l : Listener) (before later : List Report) (r r′ : Report) → EachFine g l (before ++ (r ∷ (r′ ∷ later))) →

@@ -16,10 +16,11 @@ use Rattle.book_law.proofs.Remainder.{total-append}
 use Rattle.state_law.specs.Day.{Day}
 use Rattle.soundness_law.specs.Sound.{sound}
 use Rattle.acts_law.specs.Asked.{resting, accepts, numbersTo}
+use Rattle.acts_law.specs.Heard.{slabIn, slabsTold}
 use Rattle.acts_law.proofs.Numbers.{accepts-append}
 use Rattle.acts_law.proofs.Hears.{Listener, listenAll, EachFine, KnowsOf, TellsOf, fine-append}
 use Rattle.engine_law.specs.Outcome.{outcome, after, told}
-use Rattle.engine_law.proofs.Kept.{outcome-sound, outcome-kept, outcome-counts, outcome-tells, outcome-settings, outcome-forward, outcome-given, accepted-asks, asks-old, asks-new}
+use Rattle.engine_law.proofs.Kept.{outcome-sound, outcome-kept, outcome-counts, outcome-tells, outcome-widens, outcome-once, outcome-settings, outcome-forward, outcome-given, accepted-asks, asks-old, asks-new}
 use Rattle.promises.specs.Lots.{asked}
 
 -- ---- two runs, one after the other
@@ -82,6 +83,18 @@ run-fine g l d (e ∷ es) k m =
     let p : TellsOf g l rs (d′ .session) =
     subst (λ (x : Settings). KnowsOf x l (d .session) → TellsOf x l rs (d′ .session)) k (outcome-tells d e l) m in
     fine-append g l rs (told d′ es) (p .fine) (run-fine g (listenAll l rs) d′ es (outcome-settings d e ∙ k) (p .known))
+
+pub run-widens : (d : Day) (es : List Event) → slabsTold (told d es) + d .session .widened ≤ after d es .session .widened
+unfolding told after total
+run-widens d [] = omega arith
+run-widens d (e ∷ es) =
+    let d′ : Day = outcome d e .day in
+    omega (arith, outcome-widens d e, run-widens d′ es, total-append slabIn (outcome d e .reports) (told d′ es))
+
+pub run-once : (d : Day) (es : List Event) → d .session .widened ≤ 1 → after d es .session .widened ≤ 1
+unfolding after
+run-once d [] h = h
+run-once d (e ∷ es) h = run-once (outcome d e .day) es (outcome-once d e h)
 
 -- ---- the number of an order over a run
 

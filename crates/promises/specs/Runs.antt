@@ -32,7 +32,7 @@ use Rattle.state_law.specs.Opening.{openingOf}
 use Rattle.state_law.specs.Day.{Day}
 use Rattle.soundness_law.specs.Sound.{sound, dayIn}
 use Rattle.acts_law.specs.Asked.{askedBy, resting, accepts, numbersTo}
-use Rattle.acts_law.specs.Heard.{initialBand, enhancedBand, bandSaid, rangeSaid, touchedBy}
+use Rattle.acts_law.specs.Heard.{initialBand, enhancedBand, bandSaid, rangeSaid, touchedBy, slabsTold}
 use Rattle.engine_law.specs.Outcome.{after, told}
 use Rattle.engine_law.specs.declared.Answer.{Answer}
 use Rattle.engine_law.specs.declared.Applied.{Applied}
@@ -223,13 +223,17 @@ CallsWritten =
     ForRuns (λ g es rs h. (before later : List Report) (x : Report) (room room′ : List ℕ) (w : Wrote) → rs ≡ before ++ (x ∷ later) →
     lineRoom ≤ length room → Writes room (renderReport x) (reportNumbers x) w room′ → wroteCode w ≡ 0)
 
--- the band widens only after a trade at an end of the initial one, and once: it was the initial one, and becomes the enhanced one, which
--- holds every price of the one before
+-- a slab report comes only after a trade at an end of the initial band; the band told before it was the initial one, and it tells the enhanced
+-- one, which holds every price of the one before
 abbrev pub CallsWiden : Type 0
 CallsWiden =
     ForRuns (λ g es rs h. (before later : List Report) (t : ℕ) (band : Band) → rs ≡ before ++ (reportAt t (Slab band) ∷ later) →
     (touchedBy (initialBand g) t before ≡ true) × (bandSaid g before ≡ initialBand g) × (band ≡ enhancedBand g)
     × ((x : ℕ) → inBand (bandSaid g before) x ≡ true → inBand band x ≡ true))
+
+-- and it comes at most once
+abbrev pub CallsWidenOnce : Type 0
+CallsWidenOnce = ForRuns (λ g es rs h. slabsTold rs ≤ 1)
 
 -- TIME COMES FROM THE EVENTS: two runs with the same settings and events hand out the same reports, and leave the same session and the
 -- same live orders, whatever lies in the tables and rooms of each: a clock behind the calls would tell them apart

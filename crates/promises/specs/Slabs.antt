@@ -1,6 +1,6 @@
--- THE BAND NEVER NARROWS, and it widens only after a reported trade at an end of the initial band at least 900,000 ms before, and once,
--- to the percent "initial plus enhanced".
-use Prim.Native.Nat.{ℕ}
+-- THE BAND NEVER NARROWS, and it widens only after a reported trade at an end of the initial band at least 900,000 ms before, to the percent
+-- "initial plus enhanced", and once.
+use Prim.Native.Nat.{ℕ, _≤_}
 use mathlib.Core.Path.{_≡_}
 use mathlib.Core.Bool.{true}
 use mathlib.Core.List.{List, _∷_, _++_}
@@ -12,7 +12,7 @@ use Rattle.terms.specs.declared.Said.the-variants.{Slab}
 use Rattle.rules_law.specs.Slabs.{inBand}
 use Rattle.book_law.specs.Matching.{reportAt}
 use Rattle.state_law.specs.Day.{opened}
-use Rattle.acts_law.specs.Heard.{initialBand, enhancedBand, bandSaid, touchedBy}
+use Rattle.acts_law.specs.Heard.{initialBand, enhancedBand, bandSaid, touchedBy, slabsTold}
 use Rattle.engine_law.specs.Outcome.{told}
 
 -- in any run from an opening, a slab report stands at t
@@ -36,3 +36,7 @@ abbrev pub WidensToEnhanced : Type 0
 WidensToEnhanced =
     (g : Settings) (es : List Event) (before later : List Report) (t : ℕ) (band : Band) → Widened g es before t band later →
     (bandSaid g before ≡ initialBand g) × (band ≡ enhancedBand g)
+
+-- "In the base it widens once": a run has at most one slab report, also where a coarse tick gives both bands the same ends
+abbrev pub WidensOnce : Type 0
+WidensOnce = (g : Settings) (es : List Event) → slabsTold (told (opened g) es) ≤ 1

@@ -1,13 +1,15 @@
--- The ends of a band mean what document 01 says; the base lies inside; a greater percent gives a band that contains the smaller one.
--- Assumes nothing.
+-- The ends of a band mean what document 01 says; both are inside, and so is the base; a greater percent gives a band that contains the
+-- smaller one. Assumes nothing.
 use Prim.Native.Nat.{ℕ, zero, suc, _+_, _-_, _*_, _/_, _%_, _≤_, _<_}
 use mathlib.Core.Path.{_≡_}
-use mathlib.Core.Bool.{true}
+use mathlib.Core.Bool.{true, false}
 use native.Mathlib.Omega.{arith}
 use native.Mathlib.Nat.{lt-div-mul-add, div-lt-iff-lt-mul, div-mul-le-self, le-div-iff-mul-le, mul-le-mul, mul-le-mul-left, mul-le-mul-right, mul-assoc, mul-comm, mul-mod-left, add-mul, one-mul, sub-le, le-trans, div-zero, div-add-mod'}
-use borrow.Author.Tests.{eqb-true}
+use borrow.Author.Tests.{eqb-true, lt-leb}
+use lib.Dec.{leb}
+use Rattle.terms.specs.declared.Band.{Band}
 use Rattle.terms.specs.Numbers.{onTick}
-use Rattle.terms.proofs.Logic.{between-facts, between-make}
+use Rattle.terms.proofs.Logic.{cases, between-facts, between-make}
 use Rattle.rules_law.specs.Slabs.{lowAt, highAt, bandAt, bandMost, inBand, Priced}
 use Rattle.rules_law.specs.Meaning.{IsLow, IsHigh}
 
@@ -41,6 +43,17 @@ high-is base tick p pos =
       within = omega (arith, div-mul-le-self n u, hundred (n / u) tick);
       greatest = λ k h. mul-le-mul-right tick (le-div-iff-mul-le up .1 (omega (arith, hundred k tick)));
     }
+
+-- ---- a band holds the prices from the one end to the other, and no others
+
+pub inside : (b : Band) (x : ℕ) → b .low ≤ x → x ≤ b .high → inBand b x ≡ true
+inside b x h k = between-make (b .low) x (b .high) h k
+
+pub below-it : (b : Band) (x : ℕ) → x < b .low → inBand b x ≡ false
+below-it b x h = rw (lt-leb (b .low) x h)
+
+pub above-it : (b : Band) (x : ℕ) → b .high < x → inBand b x ≡ false
+above-it b x h = cases (leb (b .low) x) (λ e. rw (e, lt-leb x (b .high) h)) (λ e. rw e)
 
 -- ---- the base lies inside
 

@@ -1,11 +1,26 @@
--- The cooling-off: exactly what starts one.
-use Prim.Native.Nat.{ℕ, _+_}
+-- The cooling-off: exactly what starts one, and from when on it is over. Assumes nothing.
+use Prim.Native.Nat.{ℕ, _+_, _≤_, _<_}
+use native.Mathlib.Omega.{arith}
 use mathlib.Core.Path.{_≡_, refl}
 use mathlib.Core.Bool.{Bool, true, false, cond, _&&_}
+use borrow.Author.Tests.{eq-eqb, ne-eqb, le-leb, lt-leb}
 use lib.Dec.{eqb}
 use Rattle.terms.specs.declared.Band.{Band}
-use Rattle.terms.proofs.Logic.{no-both}
-use Rattle.rules_law.specs.Slabs.{coolingLength, touches, coolingAfter}
+use Rattle.terms.proofs.Logic.{no-both, or-left, or-last}
+use Rattle.rules_law.specs.Slabs.{coolingLength, touches, coolingAfter, overBy}
+
+-- ---- "A trade exactly at either end"
+
+pub touches-low : (b : Band) → touches b (b .low) ≡ true
+touches-low b = or-left _ _ (eq-eqb (b .low) (b .low) refl)
+
+pub touches-high : (b : Band) → touches b (b .high) ≡ true
+touches-high b = or-last (eqb (b .high) (b .low)) _ (λ e. eq-eqb (b .high) (b .high) refl)
+
+pub touches-only : (b : Band) (x : ℕ) → (x ≡ b .low → ⊥) → (x ≡ b .high → ⊥) → touches b x ≡ false
+touches-only b x h k = rw (ne-eqb x (b .low) h, ne-eqb x (b .high) k)
+
+-- ---- what starts one
 
 -- the initial slab, no cooling-off that runs, a trade at either end
 abbrev pub startsOne : ℕ → ℕ → Band → ℕ → Bool
@@ -32,3 +47,15 @@ starts widened cooling time b price = all-three (eqb widened 0) (eqb cooling 0) 
 pub stays : (widened cooling time : ℕ) → (b : Band) → (price : ℕ) → startsOne widened cooling b price ≡ false → coolingAfter widened cooling time b price ≡ cooling
 unfolding coolingAfter
 stays widened cooling time b price = not-all (eqb widened 0) (eqb cooling 0) (touches b price) (time + coolingLength) cooling
+
+-- ---- "at or after its end"
+
+pub over-from : (cooling t : ℕ) → 1 ≤ cooling → cooling ≤ t → overBy cooling t ≡ true
+over-from cooling t some h = rw (ne-eqb cooling 0 (λ e. omega arith), le-leb cooling t h)
+
+pub over-before : (cooling t : ℕ) → t < cooling → overBy cooling t ≡ false
+over-before cooling t h = rw (ne-eqb cooling 0 (λ e. omega arith), lt-leb cooling t h)
+
+-- where none runs, none is over
+pub none-over : (t : ℕ) → overBy 0 t ≡ false
+none-over t = refl

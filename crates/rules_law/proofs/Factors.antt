@@ -1,6 +1,6 @@
 -- The growth factors, computed from their definition and tested once, entry by entry: each lies from 1,000,000,000 to 1,106,000,000,
--- so a theoretical price is 1 to 110,600,000. Assumes nothing.
-use Prim.Native.Nat.{ℕ, zero, suc, _*_, _≤_}
+-- so a theoretical price is 1 to 110,600,000. Factor and price are rounded down. Assumes nothing.
+use Prim.Native.Nat.{ℕ, zero, suc, _+_, _*_, _^_, _≤_, _<_}
 use native.Mathlib.Omega.{arith}
 use native.Mathlib.Nat.{mul-le-mul}
 use mathlib.Core.Path.{_≡_, refl}
@@ -70,9 +70,24 @@ theoretical-range u d a b h =
     let m : u * growth d ≤ 100000000 * 1106000000 = mul-le-mul b (g .1) in
     omega arith
 
+-- and the bound on a reference is the greatest price times that on a factor
+pub reference-bound : referenceMost * 1000000000 ≡ priceMost * 1106000000
+reference-bound = refl
+
 pub theoreticalOr-range : (r u d : ℕ) → 1 ≤ r → r ≤ referenceMost → u ≤ priceMost → d ≤ daysMost → (1 ≤ theoreticalOr r u d) × (theoreticalOr r u d ≤ referenceMost)
 unfolding theoreticalOr
 theoreticalOr-range r u d a b c h =
     by (λ (x : ℕ). (1 ≤ x) × (x ≤ referenceMost)) (eqb u 0) r (theoretical u d)
     (λ e. (a, b))
     (λ e. theoretical-range u d (let n : (u ≡ 0 → ⊥) = eqb-false u 0 e in omega arith) c h)
+
+-- ---- "rounded down"
+
+pub growth-down : (d : ℕ) →
+    (growth d * (3650 ^ 8 * factorial 8) ≤ 1000000000 * terms d 8) × (1000000000 * terms d 8 < (growth d + 1) * (3650 ^ 8 * factorial 8))
+unfolding growth factorial
+growth-down d = omega arith
+
+pub theoretical-down : (u d : ℕ) → (theoretical u d * 1000000000 ≤ u * growth d) × (u * growth d < (theoretical u d + 1) * 1000000000)
+unfolding theoretical
+theoretical-down u d = omega arith

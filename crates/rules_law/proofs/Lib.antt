@@ -6,5 +6,5 @@ pub mod Factors
 pub mod Minutes
 pub mod Ranges
 pub mod Averages
-pub mod Worked
+pub mod Circulars
 pub mod Tapes

@@ -1,15 +1,48 @@
--- The boundaries of minutes: two steps of time are one, and a second boundary without trades settles the reference. Assumes nothing.
-use Prim.Native.Nat.{ℕ, zero, suc, _+_, _-_, _/_, _≤_}
+-- The boundaries of minutes: what one makes of the reference, that two steps of time are one, and that a second boundary without trades
+-- settles it. Assumes nothing.
+use Prim.Native.Nat.{ℕ, zero, suc, _+_, _-_, _*_, _/_, _≤_, _<_}
 use native.Mathlib.Omega.{arith}
-use native.Mathlib.Nat.{zero-add, suc-add}
+use native.Mathlib.Nat.{zero-add, suc-add, add-mul, one-mul, div-mul-le-self, lt-div-mul-add}
 use mathlib.Core.Path.{_≡_, refl, sym, ap, _∙_}
 use borrow.Author.Tests.{eq-eqb, ne-eqb}
 use lib.Dec.{eqb}
 use Rattle.terms.proofs.Logic.{cases}
 use Rattle.rules_law.specs.declared.Reckoning.{Reckoning}
+use Rattle.rules_law.specs.Growth.{theoretical}
 use Rattle.rules_law.specs.Reference.{theoreticalOr, quiet, boundary, boundaries, crossed, reckoned}
 
--- boundaries one after the other
+-- ---- one boundary
+
+-- "if the minute just ended had trades, the reference is the plain average of their prices, rounded down"
+pub record RoundedDown (sum count average : ℕ) : Type 0 where
+  pub not-above : average * count ≤ sum
+  pub not-below : sum < (average + 1) * count
+
+pub average-down : (under days : ℕ) (r : Reckoning) → 1 ≤ r .minute .count →
+    RoundedDown (r .minute .sum) (r .minute .count) (boundary under days r .reference)
+average-down under days r some =
+    let n : ℕ = r .minute .count in
+    let s : ℕ = r .minute .sum in
+    rw (ne-eqb n 0 (λ e. omega arith))
+    (record { not-above = div-mul-le-self s n; not-below = omega (arith, lt-div-mul-add {a = s} {b = n} some, add-mul (s / n) 1 n, one-mul n) })
+
+-- "else, if an underlying is known, the theoretical price;
+pub known-theoretical : (under days : ℕ) (r : Reckoning) → r .minute .count ≡ 0 → 1 ≤ under →
+    boundary under days r .reference ≡ theoretical under days
+unfolding theoreticalOr
+known-theoretical under days r e some = rw (eq-eqb (r .minute .count) 0 e, ne-eqb under 0 (λ z. omega arith))
+
+-- else it stays"
+pub unknown-stays : (days : ℕ) (r : Reckoning) → r .minute .count ≡ 0 → boundary 0 days r .reference ≡ r .reference
+unfolding theoreticalOr
+unknown-stays days r e = rw (eq-eqb (r .minute .count) 0 e)
+
+-- and the next minute begins without trades
+pub begins-empty : (under days : ℕ) (r : Reckoning) → boundary under days r .minute ≡ record { count = 0; sum = 0 }
+begins-empty under days r = refl
+
+-- ---- boundaries one after the other
+
 pub boundaries-add : (j k under days : ℕ) (r : Reckoning) → boundaries k under days (boundaries j under days r) ≡ boundaries (j + k) under days r
 unfolding boundaries
 boundaries-add zero k under days r = rw (zero-add k)

@@ -1,8 +1,9 @@
--- The range and the mark as code tests them, by whole paise: for any price, without a product that could wrap. Assumes nothing.
+-- The range on both sides of the reference; the range and the mark as code tests them, by whole paise: for any price, without a product
+-- that could wrap. Assumes nothing.
 use Prim.Native.Nat.{ℕ, _+_, _-_, _*_, _/_, _≤_, _<_}
 use native.Mathlib.Omega.{arith}
 use native.Mathlib.Nat.{mul-le-mul}
-use mathlib.Core.Path.{_≡_}
+use mathlib.Core.Path.{_≡_, ap}
 use mathlib.Core.Bool.{true}
 use borrow.Author.Tests.{leb-true, ltb-true, le-leb, lt-ltb}
 use lib.Dec.{leb, ltb}
@@ -13,6 +14,19 @@ use Rattle.rules_law.specs.Reference.{inRange, RangeFits, referenceMost}
 use Rattle.rules_law.specs.Mark.{beyondMark, markMost}
 
 -- ---- the range
+
+-- "the range on both sides of the reference price": k above it, or k below, is in range just where 200×k is at most percent×reference
+pub range-up : (r : Range) (k : ℕ) → inRange r (r .reference + k) ≡ leb (200 * k) (r .percent * r .reference)
+unfolding inRange
+range-up r k =
+    let e : r .reference + k - r .reference + (r .reference - (r .reference + k)) ≡ k = omega arith in
+    ap (λ (d : ℕ). leb (200 * d) (r .percent * r .reference)) e
+
+pub range-down : (r : Range) (k : ℕ) → k ≤ r .reference → inRange r (r .reference - k) ≡ leb (200 * k) (r .percent * r .reference)
+unfolding inRange
+range-down r k h =
+    let e : r .reference - k - r .reference + (r .reference - (r .reference - k)) ≡ k = omega arith in
+    ap (λ (d : ℕ). leb (200 * d) (r .percent * r .reference)) e
 
 -- a whole distance k is within the reach n/200 when 200×k is at most n
 reach : (k n : ℕ) → leb k (n / 200) ≡ leb (200 * k) n

@@ -5,13 +5,16 @@ use native.Mathlib.Nat.{mul-le-mul-right, min-eq-left, min-eq-right}
 use native.Mathlib.Numerals.{add-one}
 use mathlib.Core.Path.{_≡_, refl, sym, ap, _∙_}
 use mathlib.Core.List.{List, [], _∷_, _++_}
-use borrow.Author.Tests.{le-ltb, le-leb, lt-leb, ne-eqb}
+use mathlib.Core.Bool.{Bool, true, false}
+use borrow.Author.Tests.{ltb-true, ltb-false, le-ltb, le-leb, lt-leb, ne-eqb}
+use lib.Dec.{ltb}
 use lib.ListN.{length, getD, take, drop, drop-of-length-le}
-use lib.Seq.{drop-cons}
+use lib.Seq.{drop-cons, getD-set-same}
 use Rattle.terms.specs.Sizes.{priceMost, lotsMost, tradesMost}
+use Rattle.terms.proofs.Logic.{cases}
 use Rattle.rules_law.specs.declared.Tally.{Tally}
 use Rattle.rules_law.specs.declared.Tape.{Tape}
-use Rattle.rules_law.specs.Close.{tallied, tallyAll, remembered, noTally, average, lastOr, closePrice, nextBase, closingOf, TallyFits, TenFits}
+use Rattle.rules_law.specs.Close.{tallied, tallyAll, kept, remembered, halfAfter, noTally, average, tapeAfter, lastOr, closePrice, nextBase, closingOf, TallyFits, TenFits}
 
 -- ---- ten numbers of an array
 
@@ -46,7 +49,29 @@ last-of-few other t n h =
     let l : t .trades ≤ 10 = omega arith in
     rw (ne-eqb (t .trades) 0 n, min-eq-right l)
 
+-- the newest trade is the last
+newest : (old : List ℕ) (n x : ℕ) → length old ≡ 10 → getD (remembered old n x) (kept (n + 1) - 1) 0 ≡ x
+newest old n x l =
+    cases (ltb n 10)
+    (λ e. let h : n < 10 = ltb-true n 10 e in
+    let place : kept (n + 1) - 1 ≡ n = omega arith in
+    rw place (unfold remembered in rw e (getD-set-same old n x 0 (omega arith))))
+    (λ e. let h : 10 ≤ n = ltb-false n 10 e in
+    let place : kept (n + 1) - 1 ≡ 9 = omega arith in
+    rw (place, ← shifted old n x l h))
+
+pub last-newest : (other : ℕ) (t : Tape) (late : Bool) (price lots : ℕ) → length (t .prices) ≡ 10 → lastOr other (tapeAfter t late price lots) ≡ price
+unfolding lastOr tapeAfter
+last-newest other t late price lots l = rw (ne-eqb (t .trades + 1) 0 (λ e. omega arith)) (newest (t .prices) (t .trades) price l)
+
 -- ---- tallies
+
+-- a trade in the half hour is added to its tally, and no other
+pub half-late : (half : Tally) (price lots : ℕ) → halfAfter half true price lots ≡ tallied half price lots
+half-late half price lots = refl
+
+pub half-early : (half : Tally) (price lots : ℕ) → halfAfter half false price lots ≡ half
+half-early half price lots = refl
 
 pub tallied-fits : (t : Tally) (price lots : ℕ) → TallyFits t → t .count < tradesMost → price ≤ priceMost → 1 ≤ lots → lots ≤ lotsMost → TallyFits (tallied t price lots)
 unfolding tallied

@@ -13,7 +13,20 @@ use Rattle.state_law.specs.Now.{percentNow}
 use Rattle.state_law.specs.Clock.{widenedBy, clockStep}
 use Rattle.state_law.specs.Trades.{withTrade, withTrades}
 
--- ---- the clock steps
+-- ---- the clock steps: they move the time, the slab and the reference, and leave all else
+
+pub record Stepped (s : Session) (t : ℕ) (s′ : Session) : Type 0 where
+  pub time : s′ .time ≡ t
+  pub settings : s′ .settings ≡ s .settings
+  pub closed : s′ .closed ≡ s .closed
+  pub live : (s′ .buys ≡ s .buys) × (s′ .sells ≡ s .sells)
+  pub underlying : s′ .under ≡ s .under
+  pub given : s′ .given ≡ s .given
+  pub tape : s′ .tape ≡ s .tape
+
+pub clock-leaves : (s : Session) (t : ℕ) → Stepped s t (clockStep s t)
+unfolding clockStep
+clock-leaves s t = record { time = refl; settings = refl; closed = refl; live = (refl, refl); underlying = refl; given = refl; tape = refl }
 
 -- the band is widened only where a cooling-off is over
 widened-same : (widened cooling t : ℕ) → overBy cooling t ≡ false → widenedBy widened cooling t ≡ widened

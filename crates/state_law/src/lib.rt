@@ -1,6 +1,6 @@
 // state_law: the law of state: the session and the day of one contract, its opening, the clock's steps and a trade in it.
-// It has no code and may use terms and rules_law. It promises: an opened session has begun as document 01 says, and two steps of the
-// clock are one.
+// It has no code and may use terms and rules_law. It promises: an opened session has begun as document 01 says; a trade at an end of the
+// initial band widens it fifteen minutes later and no sooner; two steps of the clock are one.
 
 use rules_law::Reckoning;
 use rules_law::Tape;

@@ -4,3 +4,4 @@ pub mod Valid
 pub mod Multiples
 pub mod Records
 pub mod Refusals
+pub mod Papers

@@ -1,12 +1,15 @@
--- What settings that 12 and 13 let pass are. Assumes nothing.
+-- Settings judged: what passes 12 and 13, and that 12 comes before 13. Assumes nothing.
+use Prim.Native.Nat.{ℕ}
+use native.Mathlib.Omega.{arith}
 use mathlib.Core.Path.{_≡_}
-use mathlib.Core.Bool.{true}
-use borrow.Author.Tests.{leb-true}
+use mathlib.Core.Bool.{true, false}
+use borrow.Author.Tests.{leb-true, le-leb}
 use Rattle.terms.specs.declared.Settings.{Settings}
 use Rattle.terms.specs.declared.Verdict.the-variants.{Fine}
-use Rattle.terms.specs.Sizes.{baseMost, tickMost, lengthLeast, timeMost, priceMost}
+use Rattle.terms.specs.Sizes.{baseMost, tickMost, lengthLeast, timeMost, daysMost, priceMost}
+use Rattle.terms.specs.Refusals.{firstFailed, codeOf}
 use Rattle.terms.specs.Settings.{settingsRanged, settingsTicked, settingsValid, settingsVerdict, Ranged, Valid}
-use Rattle.terms.proofs.Logic.{both, between-facts}
+use Rattle.terms.proofs.Logic.{cases, both, make, between-facts, between-make}
 use Rattle.terms.proofs.Cascade.{fine-first}
 
 pub ranged : (g : Settings) → settingsRanged g ≡ true → Ranged g
@@ -38,6 +41,19 @@ ranged g h =
       under-small = leb-true _ _ (under .1);
     }
 
+-- and all that are within their ranges pass 12
+pub ranged-pass : (g : Settings) → Ranged g → settingsRanged g ≡ true
+unfolding settingsRanged
+ranged-pass g r =
+    make (make (make (make (make (make
+    (between-make 1 (g .base) baseMost (r .base-some) (r .base-small))
+    (between-make 1 (g .close) priceMost (r .close-some) (r .close-small)))
+    (between-make 1 (g .settle) priceMost (r .settle-some) (r .settle-small)))
+    (between-make 1 (g .tick) tickMost (r .tick-some) (r .tick-small)))
+    (between-make lengthLeast (g .length) timeMost (r .length-long) (r .length-small)))
+    (le-leb (g .days) daysMost (r .days-small)))
+    (le-leb (g .under) priceMost (r .under-small))
+
 pub facts : (g : Settings) → settingsRanged g ≡ true → settingsTicked g ≡ true → Valid g
 unfolding settingsTicked
 facts g h k =
@@ -61,6 +77,25 @@ facts g h k =
       close-ticked = first .1;
       settle-ticked = last .1;
     }
+
+-- ---- "first that applies": 12, then 13
+
+-- a number out of its range is answered 12, whatever else is wrong,
+pub twelve-first : (g : Settings) → settingsRanged g ≡ false → codeOf (settingsVerdict g) ≡ 12
+unfolding settingsVerdict firstFailed
+twelve-first g e = rw e
+
+-- and 13 is answered only where every number is in its range
+pub thirteen-in-range : (g : Settings) → codeOf (settingsVerdict g) ≡ 13 → Ranged g × (settingsTicked g ≡ false)
+unfolding settingsVerdict firstFailed
+thirteen-in-range g h =
+    cases (settingsRanged g)
+    (λ r. cases (settingsTicked g)
+    (λ t. absurd (let z : _≡_ {A = ℕ} 0 13 = rw (r, t) at h in omega arith))
+    (λ t. (ranged g r, t)))
+    (λ r. absurd (let z : _≡_ {A = ℕ} 12 13 = rw r at h in omega arith))
+
+-- ---- valid settings
 
 -- settings with no refusal are valid
 pub fine-valid : (g : Settings) → settingsVerdict g ≡ Fine → Valid g

@@ -1,0 +1,73 @@
+-- What a trade adds to the session, and what a boundary of the minute makes of it: 002's reference and 000's half hour. Assumes nothing.
+use Prim.Native.Nat.{ℕ, _+_, _*_, _≤_, _<_}
+use native.Mathlib.Omega.{arith}
+use mathlib.Core.Path.{_≡_, refl, sym, ap}
+use mathlib.Core.List.{List, [], _∷_, _++_}
+use borrow.Author.Tests.{le-leb, lt-leb, ne-eqb}
+use Rattle.terms.specs.declared.Order.{Order}
+use Rattle.rules_law.specs.Growth.{theoretical}
+use Rattle.rules_law.specs.declared.Reckoning.{Reckoning}
+use Rattle.rules_law.specs.Reference.{theoreticalOr, minuteAfter, quiet, boundaries, crossed, reckoned}
+use Rattle.rules_law.specs.Close.{inHalfHour, tallied, lastOr, tapeAfter}
+use Rattle.rules_law.proofs.Circulars.{last-half-hour}
+use Rattle.rules_law.proofs.Minutes.{RoundedDown, average-down, reckon-none, reckon-quiet}
+use Rattle.rules_law.proofs.Tapes.{last-newest}
+use Rattle.state_law.specs.declared.Session.{Session}
+use Rattle.state_law.specs.Clock.{clockStep}
+use Rattle.state_law.specs.Trades.{withTrade, withTrades}
+use Rattle.state_law.specs.Tens.{Ten}
+
+-- ---- a trade
+
+-- it counts once in the minute, whatever its lots
+pub once-in-the-minute : (s : Session) (price lots : ℕ) →
+    (withTrade s price lots .reckoning .minute .count ≡ s .reckoning .minute .count + 1)
+    × (withTrade s price lots .reckoning .minute .sum ≡ s .reckoning .minute .sum + price)
+unfolding withTrade minuteAfter
+once-in-the-minute s price lots = (refl, refl)
+
+-- by its lots in the half hour, if half an hour after it the day is at its length or past it;
+pub late-trade : (s : Session) (price lots : ℕ) → s .settings .length ≤ s .time + 30 * 60 * 1000 →
+    withTrade s price lots .tape .half ≡ tallied (s .tape .half) price lots
+unfolding withTrade tapeAfter tallied
+late-trade s price lots h = rw (last-half-hour (s .settings .length) (s .time), le-leb (s .settings .length) (s .time + 30 * 60 * 1000) h)
+
+-- before that it does not count there
+pub early-trade : (s : Session) (price lots : ℕ) → s .time + 30 * 60 * 1000 < s .settings .length →
+    withTrade s price lots .tape .half ≡ s .tape .half
+unfolding withTrade tapeAfter
+early-trade s price lots h = rw (last-half-hour (s .settings .length) (s .time), lt-leb (s .settings .length) (s .time + 30 * 60 * 1000) h)
+
+-- and it is the last trade
+pub last-traded : (other : ℕ) (s : Session) (price lots : ℕ) → Ten s → lastOr other (withTrade s price lots .tape) ≡ price
+unfolding withTrade
+last-traded other s price lots ten = last-newest other (s .tape) (inHalfHour (s .settings .length) (s .time)) price lots (ten .prices)
+
+-- trades are made in their order
+pub trades-append : (s : Session) (xs ys : List Order) → withTrades s (xs ++ ys) ≡ withTrades (withTrades s xs) ys
+unfolding withTrades
+trades-append s [] ys = refl
+trades-append s (x ∷ xs) ys = trades-append (withTrade s (x .price) (x .lots)) xs ys
+
+-- ---- the reference over the clock steps
+
+module _ (s : Session) (t : ℕ) where
+  -- no boundary: it stays
+  pub minute-runs : crossed (s .time) t ≡ 0 → clockStep s t .reckoning ≡ s .reckoning
+  unfolding clockStep
+  minute-runs e = sym (reckon-none (s .reckoning) (s .under) (s .settings .days) (s .time) t e)
+
+  -- the boundary of a minute with trades: "the plain average of their prices, rounded down"
+  pub minute-averaged : crossed (s .time) t ≡ 1 → 1 ≤ s .reckoning .minute .count →
+      RoundedDown (s .reckoning .minute .sum) (s .reckoning .minute .count) (clockStep s t .reckoning .reference)
+  unfolding clockStep reckoned boundaries
+  minute-averaged e some = rw e (average-down (s .under) (s .settings .days) (s .reckoning) some)
+
+  -- any boundaries without trades: "if an underlying is known, the theoretical price"
+  pub minutes-quiet : (crossed (s .time) t ≡ 0 → ⊥) → s .reckoning .minute .count ≡ 0 → 1 ≤ s .under →
+      clockStep s t .reckoning .reference ≡ theoretical (s .under) (s .settings .days)
+  unfolding clockStep theoreticalOr
+  minutes-quiet n e some =
+      ap (λ (r : Reckoning). r .reference)
+      (sym (reckon-quiet (s .reckoning) (s .under) (s .settings .days) (s .time) t (quiet (theoretical (s .under) (s .settings .days))) _ refl
+      (rw (ne-eqb (s .under) 0 (λ z. omega arith))) n e))

@@ -1,0 +1,61 @@
+-- A session with one field changed: that field, and no other. A day: its live counts, a side's own orders and those across. What is in force:
+-- the range. Assumes nothing.
+use mathlib.Core.Path.{_≡_, refl}
+use mathlib.Core.List.{List}
+use lib.ListN.{length}
+use Rattle.terms.specs.declared.Order.{Order}
+use Rattle.terms.specs.declared.Side.{Side}
+use Rattle.terms.specs.declared.Side.the-variants.{Buy, Sell}
+use Rattle.rules_law.specs.Slabs.{slabOf}
+use Rattle.state_law.specs.declared.Session.{Session}
+use Rattle.state_law.specs.Set.{setTime, setClosed, setBuys, setSells, setUnder, setGiven}
+use Rattle.state_law.specs.Now.{rangeNow}
+use Rattle.state_law.specs.Day.{Day, dayOf, own, across, dayWith}
+
+-- ---- fields
+
+-- what is set is there, and to set what is there changes nothing
+pub record SetsOne {A : Type 0} (get : Session → A) (change : Session → A → Session) : Type 0 where
+  pub there : (s : Session) (v : A) → get (change s v) ≡ v
+  pub else-same : (s : Session) → change s (get s) ≡ s
+
+pub sets-time : SetsOne (λ s. s .time) setTime
+sets-time = record { there = λ s v. refl; else-same = λ s. refl }
+
+pub sets-closed : SetsOne (λ s. s .closed) setClosed
+sets-closed = record { there = λ s v. refl; else-same = λ s. refl }
+
+pub sets-buys : SetsOne (λ s. s .buys) setBuys
+sets-buys = record { there = λ s v. refl; else-same = λ s. refl }
+
+pub sets-sells : SetsOne (λ s. s .sells) setSells
+sets-sells = record { there = λ s v. refl; else-same = λ s. refl }
+
+pub sets-under : SetsOne (λ s. s .under) setUnder
+sets-under = record { there = λ s v. refl; else-same = λ s. refl }
+
+pub sets-given : SetsOne (λ s. s .given) setGiven
+sets-given = record { there = λ s v. refl; else-same = λ s. refl }
+
+-- ---- days
+
+-- the live counts are those of the orders
+pub live-counts : (s : Session) (buys sells : List Order) →
+    (dayOf s buys sells .session .buys ≡ length buys) × (dayOf s buys sells .session .sells ≡ length sells)
+live-counts s buys sells = (refl, refl)
+
+-- the buys are a buy's own, the sells are across from it; and the other way round
+pub sides : (d : Day) → (own Buy d ≡ d .buys) × (across Buy d ≡ d .sells) × (own Sell d ≡ d .sells) × (across Sell d ≡ d .buys)
+sides d = (refl, refl, refl, refl)
+
+-- a day made of a side's own orders and those across has them there
+pub sides-back : (side : Side) (s : Session) (mine theirs : List Order) →
+    (own side (dayWith side s mine theirs) ≡ mine) × (across side (dayWith side s mine theirs) ≡ theirs)
+sides-back Buy s mine theirs = (refl, refl)
+sides-back Sell s mine theirs = (refl, refl)
+
+-- ---- the range in force: by the initial percent and the reference, whatever the band
+
+pub range-in-force : (s : Session) →
+    (rangeNow s .percent ≡ slabOf (s .settings .category) .initial) × (rangeNow s .reference ≡ s .reckoning .reference)
+range-in-force s = (refl, refl)
