@@ -1,8 +1,20 @@
 // days: whole days from files, each held against the output that it must have. The arguments name the days: NAME.in and NAME.out.
-use stream::sink;
-use stream::sink::Sink;
+use descriptors::Load;
+use descriptors::reading;
+use feed::lines;
+use stream_law::Finish;
 ghost use Prim.Native.Nat.{_+_, _≤_};
 ghost use lib.ListN.{length};
+
+// The room for an expected output. A longer one is not read.
+const EXPECTED: usize = lines::TEXT * 4;
+
+// How many days printed what they must, how many something else, and how many have files that could not be read.
+struct Count {
+    right: u64,
+    wrong: u64,
+    unread: u64,
+}
 
 // Puts an ending behind the first n bytes of a path.
 fn end_with(path: &mut [u8], n: usize, ending: &[u8])
@@ -28,46 +40,92 @@ fn open_file(path: &mut [u8], n: usize, ending: &[u8]) -> i32 {
     os::open_read(&path[0..end])
 }
 
-// Runs a day, and says whether it printed what it must, all of it and no more.
-fn is_right(fd: i32, expected: i32) -> bool {
-    if fd < 0 {
-        return false;
+// Runs a day, and holds all that it prints against all of an expected output.
+fn hold(fd: i32, expected: i32, room: &mut [u8]) -> Finish {
+    match reading::read_whole(expected, room) {
+        Load::Whole(n) => stream::compare(fd, &room[0..n]),
+        Load::TooLong => Finish::Unread,
+        Load::Failed => Finish::Unread,
     }
-    if expected < 0 {
-        return false;
-    }
-    let went = stream::through(fd, Sink::Match(expected));
-    let done = sink::is_done(expected);
-    libc::close(fd);
-    libc::close(expected);
-    went & done
 }
 
-// The day that an argument names: a line that says whether it is right.
-fn day(i: usize) -> u64 {
+// The day of two open files.
+fn run(fd: i32, expected: i32) -> Finish {
+    let mut room = [0u8; EXPECTED];
+    let told = hold(fd, expected, &mut room);
+    libc::close(fd);
+    libc::close(expected);
+    told
+}
+
+// Says how a day ended, and counts it.
+fn tell(told: Finish, count: Count) -> Count {
+    let right = count.right;
+    let wrong = count.wrong;
+    let unread = count.unread;
+    match told {
+        Finish::Same => {
+            io::write_all(1, b" right\n");
+            Count {
+                right: std::num::wrapping_add_u64(right, 1),
+                wrong: wrong,
+                unread: unread,
+            }
+        }
+        Finish::Differs => {
+            io::write_all(1, b" WRONG\n");
+            Count {
+                right: right,
+                wrong: std::num::wrapping_add_u64(wrong, 1),
+                unread: unread,
+            }
+        }
+        Finish::Unread | Finish::Printed | Finish::Unwritten => {
+            io::write_all(1, b" UNREAD\n");
+            Count {
+                right: right,
+                wrong: wrong,
+                unread: std::num::wrapping_add_u64(unread, 1),
+            }
+        }
+    }
+}
+
+// The day that an argument names: a line that says how it ended.
+fn day(i: usize, count: Count) -> Count {
     let mut path = io::buffer();
     let n = os::arg(i, &mut path);
     let fd = open_file(&mut path, n, b".in");
     let expected = open_file(&mut path, n, b".out");
-    let right = is_right(fd, expected);
+    let told = run(fd, expected);
     io::write_all(1, &path[0..n]);
-    if right {
-        io::write_all(1, b" right\n");
-        return 1;
-    }
-    io::write_all(1, b" WRONG\n");
-    0
+    tell(told, count)
+}
+
+// The last line: how many there were of each.
+fn total(count: Count) {
+    let right = count.right;
+    let wrong = count.wrong;
+    let unread = count.unread;
+    io::print_decimal(1, right);
+    io::write_all(1, b" days right, ");
+    io::print_decimal(1, wrong);
+    io::write_all(1, b" wrong, ");
+    io::print_decimal(1, unread);
+    io::write_all(1, b" unread\n");
 }
 
 fn main() {
     let n = os::arg_count();
-    let mut right: u64 = 0;
+    let mut count = Count {
+        right: 0,
+        wrong: 0,
+        unread: 0,
+    };
     let mut i: usize = 1;
     while i < n {
-        let one = day(i);
-        right = std::num::wrapping_add_u64(right, one);
+        count = day(i, count);
         i += 1;
     }
-    io::print_decimal(1, right);
-    io::write_all(1, b" days right\n");
+    total(count);
 }

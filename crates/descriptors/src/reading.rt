@@ -1,10 +1,9 @@
 // Bytes read from a descriptor.
-use crate::pausing;
 use crate::Got;
 use crate::Load;
+use crate::pausing;
 ghost use lib.ListN.{length};
 ghost use Rattle.descriptors.specs.Counted.{GotWithin, LoadWithin};
-
 
 // Reads once, as soon as there is something to read.
 pub fn read_some(fd: i32, buf: &mut [u8]) -> Got

@@ -1,178 +1,104 @@
-// stream: a descriptor's bytes, of any number, go through a fixed buffer to feed; what is printed goes to standard output, or is held
+// stream: the bytes of a descriptor, of any number, go through a fixed buffer to feed; what is printed goes to standard output, or is held
 // against an expected output.
-// It may use feed and what feed uses, io and libc. It promises that it is safe and ends. What is printed is feed's to say, and so is that
-// what is kept between two reads is the short start of a line.
+// It may use stream_feed and what it uses, and descriptors. It promises that it is safe and ends; that the buffer always has room, so that
+// a read of no bytes is the end of the input; and, of whatever bytes the reads gave: all is sent that the program prints for them, and a
+// comparison answers "same" just where that is what was expected. Where a read fails nothing more is printed.
 
-pub mod sink;
-
-use feed::lines;
+use descriptors::Got;
+use descriptors::reading;
 use feed_law::Run;
-use feed_law::Stage;
-use feed_law::Stop;
-use lines_writing_law::Wrote;
-use sink::Sink;
+use stream_law::Finish;
+use stream_law::Held;
+use stream_law::Reading;
+use stream_law::Sink;
 use terms::sizes;
-ghost use Prim.Native.Nat.{_≤_};
+ghost use Prim.Native.Nat.{_-_, _<_};
+ghost use mathlib.Core.Path.{_≡_};
+ghost use mathlib.Core.List.{[]};
 ghost use lib.ListN.{length};
+ghost use Rattle.terms.specs.Sizes.{lineRoom};
+ghost use Rattle.descriptors.specs.Counted.{GotWithin};
+ghost use Rattle.feed_law.specs.Feeds.{begun};
+ghost use Rattle.stream_law.specs.Streams.{Tables, holding, isOn, heldAs, heldOn, FrontKept, Hears, isDone, ThroughAs, Compares, PrintedAs};
 
-// What is kept from read to read: the run, how many bytes of an unfinished line stand at the buffer's front, and whether to go on.
-pub struct Held {
-    pub run: Run,
-    pub have: usize,
-    pub more: bool,
-}
+// ---- reads
 
-// How far bytes were handed over, and whether all that was printed went out.
-pub struct Handed {
-    pub run: Run,
-    pub used: usize,
-    pub went: bool,
-}
-
-// The output room is to be emptied, and then there are more lines.
-fn is_full(stop: Stop) -> bool {
-    match stop {
-        Stop::Waits => false,
-        Stop::Full => true,
-        Stop::Over => false,
-        Stop::Refused(_) => false,
-    }
-}
-
-fn is_over(stage: Stage) -> bool {
-    match stage {
-        Stage::Awaiting => false,
-        Stage::Trading => false,
-        Stage::Over => true,
-    }
-}
-
-// Moves the bytes from a place up to an end to the front.
-fn to_front(buf: &mut [u8], from: usize, end: usize)
-    requires { ⌜ (from ≤ end) × (end ≤ length (now buf)) ⌝ }
+// Reads once behind what is kept.
+fn read_behind(fd: i32, have: usize, buf: &mut [u8]) -> Got
+    requires { ⌜ have < length (now buf) ⌝ }
+    ensures { λ r. ⌜ FrontKept have (now (buf .entry)) (now (buf .exit)) × GotWithin (length (now (buf .entry)) - have) r ⌝ }
 {
-    let n = end - from;
-    let mut i: usize = 0;
-    while i < n {
-        buf[i] = buf[from + i];
-        i += 1;
-    }
+    reading::read_some(fd, &mut buf[have..])
 }
 
-// Hands all whole lines over, and sends out what they print.
-fn hand_over(
-    to: Sink,
-    run: Run,
-    bytes: &[u8],
-    buys: &mut [u64],
-    sells: &mut [u64],
-    room: &mut [u64],
-    out: &mut [u8],
-) -> Handed
-    ensures { λ r. ⌜ r .used ≤ length (now (bytes .entry)) ⌝ }
+fn held(run: Run, have: usize, to: Sink, reading: Reading) -> Held
+    ensures { λ r. ⌜ r ≡ heldAs run have to reading ⌝ }
 {
-    let mut now = run;
-    let mut at: usize = 0;
-    while at < bytes.len() {
-        let t = lines::take_lines(now, &bytes[at..], buys, sells, room, out);
-        let used = t.used;
-        let wrote = t.wrote;
-        let stop = t.stop;
-        now = t.run;
-        let went = sink::send(to, out, wrote);
-        let on = went & is_full(stop);
-        if used == 0 {
-            return Handed {
-                run: now,
-                used: at,
-                went: went,
-            };
-        }
-        at += used;
-        if !on {
-            return Handed {
-                run: now,
-                used: at,
-                went: went,
-            };
-        }
+    Held {
+        run: run,
+        have: have,
+        to: to,
+        reading: reading,
     }
-    Handed {
-        run: now,
-        used: at,
-        went: true,
-    }
-}
-
-// Reads once behind what is kept. Answers how many bytes are there then.
-fn read_behind(fd: i32, have: usize, buf: &mut [u8]) -> usize
-    requires { ⌜ have ≤ length (now buf) ⌝ }
-    ensures { λ r. ⌜ (have ≤ r) × (r ≤ length (now (buf .entry))) ⌝ }
-{
-    let got = libc::read(fd, &mut buf[have..]);
-    let n = io::count(got, &buf[have..]);
-    have + n
 }
 
 // Reads once behind what is kept, hands the whole lines over, and keeps the rest.
 fn read_on(
     fd: i32,
-    to: Sink,
+    expected: &[u8],
     h: Held,
     buf: &mut [u8],
     buys: &mut [u64],
     sells: &mut [u64],
-    room: &mut [u64],
-    out: &mut [u8],
 ) -> Held
-    requires { ⌜ h .have ≤ length (now buf) ⌝ }
-    ensures { λ r. ⌜ r .have ≤ length (now (buf .entry)) ⌝ }
+    requires { ⌜ Tables (now buys) (now sells) ⌝ }
+    requires { ⌜ h .have < length (now buf) ⌝ }
+    ensures { λ r. ⌜ Hears (now (expected .entry)) (heldOn (now (buf .entry)) (now (buys .entry)) (now (sells .entry)) h) (h .to) (now (buf .exit)) (now (buys .exit)) (now (sells .exit)) r ⌝ }
 {
-    let have = h.have;
     let run = h.run;
-    let end = read_behind(fd, have, buf);
-    if end == have {
-        return Held {
-            run: run,
-            have: have,
-            more: false,
-        };
-    }
-    let f = hand_over(to, run, &buf[0..end], buys, sells, room, out);
-    let used = f.used;
-    let after = f.run;
-    let went = f.went;
-    let stage = after.stage;
-    to_front(buf, used, end);
-    Held {
-        run: after,
-        have: end - used,
-        more: went & !is_over(stage),
+    let have = h.have;
+    let to = h.to;
+    match read_behind(fd, have, buf) {
+        Got::Failed => held(run, have, to, Reading::Failed),
+        Got::Bytes(n) => {
+            if n == 0 {
+                return held(run, have, to, Reading::Done);
+            }
+            let end = have + n;
+            stream_feed::take_in(to, expected, run, buf, end, buys, sells)
+        }
     }
 }
 
-// Reads to the end of the input, or of the run.
-fn all(
+fn is_on(reading: Reading) -> bool
+    ensures { λ r. ⌜ r ≡ isOn reading ⌝ }
+{
+    match reading {
+        Reading::On => true,
+        Reading::Done => false,
+        Reading::Failed => false,
+    }
+}
+
+// Reads to the end of the input or of the run, or until a read fails.
+fn read_all(
     fd: i32,
     to: Sink,
+    expected: &[u8],
     buf: &mut [u8],
     buys: &mut [u64],
     sells: &mut [u64],
-    room: &mut [u64],
-    out: &mut [u8],
 ) -> Held
-    ensures { λ r. ⌜ r .have ≤ length (now (buf .entry)) ⌝ }
+    requires { ⌜ Tables (now buys) (now sells) ⌝ }
+    requires { ⌜ lineRoom < length (now buf) ⌝ }
+    ensures { λ r. ⌜ Hears (now (expected .entry)) (holding begun (now (buys .entry)) (now (sells .entry)) []) to (now (buf .exit)) (now (buys .exit)) (now (sells .exit)) r ⌝ }
 {
-    let mut h = Held {
-        run: feed::start(),
-        have: 0,
-        more: true,
-    };
+    let mut h = held(feed::start(), 0, to, Reading::On);
     let mut turns = u64::MAX;
     while turns > 0 {
-        h = read_on(fd, to, h, buf, buys, sells, room, out);
-        let more = h.more;
-        if !more {
+        h = read_on(fd, expected, h, buf, buys, sells);
+        let reading = h.reading;
+        if !is_on(reading) {
             return h;
         }
         turns -= 1;
@@ -180,24 +106,63 @@ fn all(
     h
 }
 
-// The end of the input: what it prints of the bytes that are left.
-fn ending(to: Sink, stage: Stage, rest: &[u8], out: &mut [u8]) -> bool {
-    match lines::take_end(stage, rest, out) {
-        Wrote::Written(n) => sink::send(to, out, n),
-        Wrote::Refused(_) => false,
+// ---- a whole run
+
+fn is_done(reading: Reading) -> bool
+    ensures { λ r. ⌜ r ≡ isDone reading ⌝ }
+{
+    match reading {
+        Reading::On => false,
+        Reading::Done => true,
+        Reading::Failed => false,
     }
 }
 
-// A whole run. Answers whether all that was printed went out.
-pub fn through(fd: i32, to: Sink) -> bool {
+// A whole run over what is lent.
+fn run_all(
+    fd: i32,
+    to: Sink,
+    expected: &[u8],
+    buf: &mut [u8],
+    buys: &mut [u64],
+    sells: &mut [u64],
+) -> Finish
+    requires { ⌜ Tables (now buys) (now sells) ⌝ }
+    requires { ⌜ lineRoom < length (now buf) ⌝ }
+    ensures { λ r. ⌜ ThroughAs (now (expected .entry)) to r ⌝ }
+{
+    let h = read_all(fd, to, expected, buf, buys, sells);
+    let run = h.run;
+    let have = h.have;
+    let sink = h.to;
+    let reading = h.reading;
+    if !is_done(reading) {
+        return Finish::Unread;
+    }
+    let last = stream_feed::ending(sink, expected, run, &buf[0..have], buys, sells);
+    stream_sink::finish(last, expected)
+}
+
+fn through(fd: i32, to: Sink, expected: &[u8]) -> Finish
+    ensures { λ r. ⌜ ThroughAs (now (expected .entry)) to r ⌝ }
+{
     let mut buf = io::large_buffer();
-    let mut out = [0u8; sink::OUT];
     let mut buys = [0u64; sizes::TABLE];
     let mut sells = [0u64; sizes::TABLE];
-    let mut room = [0u64; sizes::ROOM];
-    let h = all(fd, to, &mut buf, &mut buys, &mut sells, &mut room, &mut out);
-    let have = h.have;
-    let run = h.run;
-    let stage = run.stage;
-    ending(to, stage, &buf[0..have], &mut out)
+    run_all(fd, to, expected, &mut buf, &mut buys, &mut sells)
+}
+
+// Prints what a descriptor's bytes come to on standard output.
+pub fn print(fd: i32) -> Finish
+    ensures { λ r. ⌜ PrintedAs r ⌝ }
+{
+    let none = [0u8; 1];
+    through(fd, Sink::Print, &none[0..0])
+}
+
+// Holds what a descriptor's bytes come to against an expected output.
+pub fn compare(fd: i32, expected: &[u8]) -> Finish
+    ensures { λ r. ⌜ Compares (now (expected .entry)) r ⌝ }
+{
+    through(fd, Sink::Match(0), expected)
 }

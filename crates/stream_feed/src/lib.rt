@@ -6,7 +6,7 @@ use feed::lines;
 use feed_law::Run;
 use feed_law::Stage;
 use feed_law::Stop;
-use lines_writing_law::Wrote;
+use feed_prints::telling;
 use stream_law::Handed;
 use stream_law::Held;
 use stream_law::Reading;
@@ -203,10 +203,8 @@ fn end_with(to: Sink, expected: &[u8], stage: Stage, rest: &[u8], out: &mut [u8]
     requires { ⌜ lineRoom ≤ length (now out) ⌝ }
     ensures { λ r. ⌜ SentAs (now (expected .entry)) to (endText stage (length (now (rest .entry)))) r ⌝ }
 {
-    match lines::take_end(stage, rest, out) {
-        Wrote::Written(n) => stream_sink::send(to, expected, &out[0..n]),
-        Wrote::Refused(_) => to,
-    }
+    let n = telling::tell_end(stage, rest.len(), out);
+    stream_sink::send(to, expected, &out[0..n])
 }
 
 fn tell_end(to: Sink, expected: &[u8], stage: Stage, rest: &[u8]) -> Sink

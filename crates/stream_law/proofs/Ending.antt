@@ -1,22 +1,11 @@
 -- The end of the input. Assumes nothing.
-use Prim.Native.Nat.{ℕ, _-_, _≤_}
-use native.Mathlib.Omega.{arith}
-use mathlib.Core.Path.{_≡_, refl, sym, ap, _∙_, subst}
+use Prim.Native.Nat.{ℕ, _-_}
+use mathlib.Core.Path.{_≡_, refl, sym, subst}
 use mathlib.Core.Bool.{Bool, true, false, true≢false}
 use mathlib.Core.List.{List, [], _++_}
 use lib.ListN.{length, take, drop}
-use borrow.Author.Tests.{le-leb}
-use Rattle.terms.specs.declared.Verdict.{Verdict}
-use Rattle.terms.specs.declared.Verdict.the-variants.{Fine}
-use Rattle.terms.specs.declared.Refusal.{Refusal}
-use Rattle.terms.specs.Sizes.{lineRoom}
-use Rattle.terms.specs.Refusals.{firstFailed}
-use Rattle.lines_writing_law.specs.declared.Wrote.{Wrote}
-use Rattle.lines_writing_law.specs.Writes.{wroteOf, roomOf}
-use Rattle.feed_law.specs.declared.Stage.{Stage}
 use Rattle.feed_law.specs.Texts.{endText}
-use Rattle.feed_law.specs.Feeds.{Prints, endVerdict, EndedAs}
-use Rattle.feed_law.proofs.Prints.{prints-within}
+use Rattle.feed_law.specs.Feeds.{Prints}
 use Rattle.promises.specs.Printed.{Holding, toPrint}
 use Rattle.stream_law.specs.declared.Sink.{Sink}
 use Rattle.stream_law.specs.declared.Handed.{Handed}

@@ -24,7 +24,7 @@ use Rattle.feed_law.specs.declared.Taken.{Taken}
 use Rattle.feed_law.specs.Texts.{textMost, endText}
 use Rattle.feed_law.specs.Worlds.{Lent, lentOf, days, calls}
 use Rattle.feed_law.specs.Turns.{stopAt, Fed, fedIn, printedFrom}
-use Rattle.feed_law.specs.Feeds.{Prints, TakenAs, feedVerdict, fedBy, fedOf}
+use Rattle.feed_law.specs.Feeds.{Prints, TakenBy, feedVerdict, fedBy, fedOf}
 use Rattle.feed_law.proofs.Progress.{progress}
 use Rattle.feed_law.proofs.Pieces.{pieces, lines-rest, stands-there}
 use Rattle.feed_law.proofs.Starts.{starts-short}
@@ -78,20 +78,23 @@ room-text {out} {text} {out′} {n} p =
     let z : n - 0 ≡ n = omega arith in
     ap (λ (m : ℕ). take m out′) z ∙ (λ i. take (p .count i) (p .laid i)) ∙ take-append-seam text (drop (length text) out)
 
-pub handed : (expected bytes : List ℕ) (to s : Sink) {f : Fed Lent} {out buys′ sells′ room′ out′ : List ℕ} {t : Taken} {more : Bool} →
-    TakenAs f out buys′ sells′ room′ out′ t → t .used ≤ length bytes → SentAs expected to (take (t .wrote - 0) out′) s →
-    more ≡ moreAfter (t .stop) s →
-    HandedAs f expected to buys′ sells′ (record { run = t .run; used = t .used; to = s; more = more }) × (t .used ≤ length bytes)
-handed expected bytes to s {f} k within h e =
-    (record {
-      stage = k .stage;
-      session = ap (λ (l : Lent). l .session) (k .world);
-      buys = ap (λ (l : Lent). l .buys) (k .world);
-      sells = ap (λ (l : Lent). l .sells) (k .world);
-      used = k .used;
-      sent = subst (λ (x : List ℕ). SentAs expected to x s) (room-text (k .printed)) h;
-      more = e ∙ ap (λ (x : Stop). moreAfter x s) (k .stop);
-    }, within)
+pub handed : (expected bytes : List ℕ) (to s : Sink) {run : Run} {buys sells room out buys′ sells′ room′ out′ : List ℕ} {t : Taken} {more : Bool} →
+    TakenBy fedOf run buys sells room bytes out buys′ sells′ room′ out′ t → SentAs expected to (take (t .wrote - 0) out′) s → more ≡ moreAfter (t .stop) s →
+    HandedAs (fedOf run buys sells room bytes out) expected to buys′ sells′ (record { run = t .run; used = t .used; to = s; more = more })
+    × (t .used ≤ length bytes)
+handed expected bytes to s b h e =
+    let k = b .taken in (
+      record {
+        stage = k .stage;
+        session = ap (λ (l : Lent). l .session) (k .world);
+        buys = ap (λ (l : Lent). l .buys) (k .world);
+        sells = ap (λ (l : Lent). l .sells) (k .world);
+        used = k .used;
+        sent = subst (λ (x : List ℕ). SentAs expected to x s) (room-text (k .printed)) h;
+        more = e ∙ ap (λ (x : Stop). moreAfter x s) (k .stop);
+      },
+      b .used-there,
+    )
 
 -- ---- what is lent is long enough
 

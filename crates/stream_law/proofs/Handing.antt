@@ -2,26 +2,21 @@
 use Prim.Native.Nat.{ℕ, _+_, _-_, _≤_, _<_}
 use native.Mathlib.Omega.{arith}
 use mathlib.Core.Path.{_≡_, refl, sym, ap, _∙_, subst}
-use mathlib.Core.Bool.{Bool, true, false, not, cond, _&&_, true≢false, false≢true}
-use mathlib.Core.List.{List, [], _++_}
+use mathlib.Core.Bool.{Bool, true, false, not, cond}
+use mathlib.Core.List.{List, []}
 use lib.ListN.{length, take, drop, length-drop, drop-of-length-le}
 use lib.Seq.{drop-drop, length-take-le}
 use borrow.Author.Tests.{not-true, not-false}
-use Rattle.terms.specs.Sizes.{roomLength, lineRoom}
-use Rattle.terms.proofs.Logic.{split}
-use Rattle.soundness_law.specs.Sound.{dayIn}
+use Rattle.terms.specs.Sizes.{roomLength}
 use Rattle.feed_law.specs.declared.Run.{Run}
 use Rattle.feed_law.specs.declared.Stage.{Stage}
-use Rattle.feed_law.specs.declared.Stop.{Stop}
-use Rattle.feed_law.specs.Texts.{endText}
-use Rattle.feed_law.specs.Worlds.{Lent, days}
-use Rattle.feed_law.specs.Turns.{Fed, printedIn}
-use Rattle.promises.specs.Printed.{Holding, toPrint}
+use Rattle.feed_law.specs.Turns.{printedIn}
+use Rattle.promises.specs.Printed.{Holding}
 use Rattle.stream_law.specs.declared.Sink.{Sink}
 use Rattle.stream_law.specs.declared.Handed.{Handed}
 use Rattle.stream_law.specs.declared.Reading.{Reading}
 use Rattle.stream_law.specs.Sinks.{isOpen}
-use Rattle.stream_law.specs.Streams.{outRoom, zeros, fedHere, Tables, isFull, moreAfter, HandedAs, holding, Goes, NoLine, handedTo, handedOn, OverAs, readingAfter, Room, TakesIn}
+use Rattle.stream_law.specs.Streams.{outRoom, zeros, fedHere, Tables, HandedAs, holding, Goes, NoLine, handedTo, OverAs, readingAfter, TakesIn}
 use Rattle.stream_law.proofs.Beginnings.{rest-is, part-within}
 use Rattle.stream_law.proofs.Goes.{goes-none, goes-then, rooms-wide, out-wide, handed-goes, handed-none, handed-some}
 
@@ -104,10 +99,11 @@ on-if Stage.Awaiting to e = (open-if (isOpen to) e, λ p. let z : _≡_ {A = ℕ
 on-if Stage.Trading to e = (open-if (isOpen to) e, λ p. let z : _≡_ {A = ℕ} 0 1 = cc in omega arith)
 on-if Stage.Over to e = absurd (let z : _≡_ {A = ℕ} 0 1 = cc in omega arith)
 
-pub takes-in : (expected buf : List ℕ) (end : ℕ) (to : Sink) (run : Run) (buys sells : List ℕ) {buf′ buys′ sells′ : List ℕ} {h : Handed} {reading : Reading} →
-    end ≤ length buf → length buf′ ≡ length buf → OverAs expected (holding run buys sells (take (end - 0) buf)) to buys′ sells′ h →
+pub takes-in : (expected buf : List ℕ) (end : ℕ) (to : Sink) (run : Run) (buys sells : List ℕ) {buf′ buys′ sells′ : List ℕ} {h : Handed}
+    {reading : Reading} → end ≤ length buf → length buf′ ≡ length buf → OverAs expected (holding run buys sells (take (end - 0) buf)) to buys′ sells′ h →
     take (end - h .used) buf′ ≡ drop (h .used) (take end buf) → reading ≡ readingAfter (h .run .stage) (h .to) →
-    TakesIn expected (holding run buys sells (take end buf)) to buf′ buys′ sells′ (record { run = h .run; have = end - h .used; to = h .to; reading = reading })
+    TakesIn expected (holding run buys sells (take end buf)) to buf′ buys′ sells′
+    (record { run = h .run; have = end - h .used; to = h .to; reading = reading })
 takes-in expected buf end to run buys sells {buf′} {buys′} {sells′} {h} {reading} there same k moved e =
     let z : end - 0 ≡ end = omega arith in
     let k′ : OverAs expected (holding run buys sells (take end buf)) to buys′ sells′ h = rw z at k in
@@ -123,6 +119,7 @@ takes-in expected buf end to run buys sells {buf′} {buys′} {sells′} {h} {r
                 omega arith;
           };
       goes =
-          subst (λ (x : List ℕ). Goes expected (holding run buys sells (take end buf)) to [] (holding (h .run) buys′ sells′ x) (h .to)) (sym moved) (k′ .goes);
+          subst (λ (x : List ℕ). Goes expected (holding run buys sells (take end buf)) to [] (holding (h .run) buys′ sells′ x) (h .to))
+          (sym moved) (k′ .goes);
       reading = e;
     }

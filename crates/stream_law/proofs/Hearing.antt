@@ -2,7 +2,9 @@
 use Prim.Native.Nat.{ℕ, _+_, _≤_}
 use native.Mathlib.Omega.{arith}
 use mathlib.Core.Path.{_≡_, refl, sym, ap, _∙_, subst}
+use mathlib.Core.Bool.{Bool, true, false, not, false≢true}
 use mathlib.Core.List.{List, [], _++_}
+use borrow.Author.Tests.{not-false}
 use lib.ListN.{length, take, drop}
 use lib.Seq.{length-take-le, take-at}
 use Rattle.terms.specs.Sizes.{lineRoom}
@@ -12,7 +14,7 @@ use Rattle.promises.specs.Printed.{Holding}
 use Rattle.stream_law.specs.declared.Sink.{Sink}
 use Rattle.stream_law.specs.declared.Held.{Held}
 use Rattle.stream_law.specs.declared.Reading.{Reading}
-use Rattle.stream_law.specs.Streams.{holding, Goes, heldAs, heldOn, Room, TakesIn, FrontKept, Hears}
+use Rattle.stream_law.specs.Streams.{holding, Goes, isOn, heldAs, heldOn, TakesIn, FrontKept, Hears}
 use Rattle.stream_law.proofs.Goes.{goes-none, goes-then, goes-read}
 
 -- before the first read: nothing is kept
@@ -22,14 +24,18 @@ hears-start expected buf buys sells {h = h} e =
     let z = ap (λ (x : Held). x .have) e in
     record { room = record { within = omega arith; short = λ _. omega arith }; got = []; goes = goes-none expected _ (h .to) }
 
-pub hears-first : (buf : List ℕ) {expected buys sells buf′ buys′ sells′ : List ℕ} {run : Run} {to : Sink} {reading : Reading} {h r : Held} → run ≡ begun →
-    h ≡ heldAs run 0 to reading → Hears expected (heldOn buf buys sells h) (h .to) buf′ buys′ sells′ r →
+pub start-short : {run : Run} {to : Sink} {reading : Reading} {h : Held} → h ≡ heldAs run 0 to reading → h .have ≤ lineRoom
+start-short e = let z = ap (λ (x : Held). x .have) e in omega arith
+
+pub hears-first : (buf : List ℕ) {expected buys sells buf′ buys′ sells′ : List ℕ} {run : Run} {to : Sink} {reading : Reading} {h r : Held} →
+    run ≡ begun → h ≡ heldAs run 0 to reading → Hears expected (heldOn buf buys sells h) (h .to) buf′ buys′ sells′ r →
     Hears expected (holding begun buys sells []) to buf′ buys′ sells′ r
 hears-first buf {expected} {buys} {sells} {buf′} {buys′} {sells′} {run} {to} {reading} {h} {r} s e k =
     subst (λ (x : Held). Hears expected (heldOn buf buys sells x) (x .to) buf′ buys′ sells′ r) (e ∙ ap (λ (x : Run). heldAs x 0 to reading) s) k
 
 pub hears-then : {expected : List ℕ} {a : Holding} {to : Sink} {buf buys sells buf′ buys′ sells′ : List ℕ} {h r : Held} →
-    Hears expected a to buf buys sells h → Hears expected (heldOn buf buys sells h) (h .to) buf′ buys′ sells′ r → Hears expected a to buf′ buys′ sells′ r
+    Hears expected a to buf buys sells h → Hears expected (heldOn buf buys sells h) (h .to) buf′ buys′ sells′ r →
+    Hears expected a to buf′ buys′ sells′ r
 hears-then p q = record { room = q .room; got = p .got ++ q .got; goes = goes-then (p .goes) (q .goes) }
 
 -- whatever comes to stand behind what is kept
@@ -38,8 +44,8 @@ front-kept buf behind have h = take-at (take have buf) behind have (length-take-
 
 module _ (expected buys sells : List ℕ) (h : Held) {buf buf₁ : List ℕ} (kept : FrontKept (h .have) buf buf₁) where
   -- nothing came: the input is at its end, or the read failed
-  pub hears-none : {reading : Reading} {r : Held} → (reading ≡ Reading.On → ⊥) → h .have ≤ length buf → r ≡ heldAs (h .run) (h .have) (h .to) reading →
-      Hears expected (heldOn buf buys sells h) (h .to) buf₁ buys sells r
+  pub hears-none : {reading : Reading} {r : Held} → (reading ≡ Reading.On → ⊥) → h .have ≤ length buf →
+      r ≡ heldAs (h .run) (h .have) (h .to) reading → Hears expected (heldOn buf buys sells h) (h .to) buf₁ buys sells r
   hears-none {reading} {r} off fits e =
       subst (Hears expected (heldOn buf buys sells h) (h .to) buf₁ buys sells) (sym e)
       (record {
@@ -60,6 +66,16 @@ module _ (expected buys sells : List ℕ) (h : Held) {buf buf₁ : List ℕ} (ke
         got = take n (drop (h .have) buf₁) ++ [];
         goes = goes-then (goes-read expected (h .to) (h .run) buys sells buf buf₁ (h .have) n (kept .front)) (k .goes);
       }
+
+on-is : (reading : Reading) → isOn reading ≡ true → reading ≡ Reading.On
+on-is Reading.On e = refl
+on-is Reading.Done e = absurd (false≢true e)
+on-is Reading.Failed e = absurd (false≢true e)
+
+-- where more is to be read, what is kept is short
+pub hears-on : {expected : List ℕ} {a : Holding} {to : Sink} {buf buys sells : List ℕ} {r : Held} {on : Bool} → Hears expected a to buf buys sells r →
+    on ≡ isOn (r .reading) → not on ≡ false → r .have ≤ lineRoom
+hears-on {r = r} {on = on} k e n = k .room .short (on-is (r .reading) (sym e ∙ not-false on n))
 
 -- an input that is at its end, and a read that failed, are not read on
 pub off-done : Reading.Done ≡ Reading.On → ⊥

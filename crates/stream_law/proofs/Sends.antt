@@ -1,15 +1,14 @@
 -- What is sent in parts stands as what is sent whole. Assumes nothing.
-use Prim.Native.Nat.{ℕ, zero, suc, _+_, _≤_}
+use Prim.Native.Nat.{ℕ, _+_}
 use native.Mathlib.Omega.{arith}
 use native.Mathlib.Nat.{zero-add, add-assoc}
 use mathlib.Core.Path.{_≡_, refl, sym, ap, _∙_, subst}
-use mathlib.Core.Bool.{Bool, true, false, cond, false≢true, true≢false}
-use mathlib.Core.List.{List, [], _∷_, _++_, append-nil}
+use mathlib.Core.Bool.{Bool, true, false, false≢true}
+use mathlib.Core.List.{List, [], _++_, append-nil}
 use lib.ListN.{length, drop, length-append}
 use lib.Seq.{drop-drop, drop-length}
 use lib.Dec.{eqb}
 use borrow.Author.Tests.{eqb-true, eqb-false}
-use Rattle.terms.proofs.Logic.{cases}
 use Rattle.stream_law.specs.declared.Sink.{Sink}
 use Rattle.stream_law.specs.declared.Finish.{Finish}
 use Rattle.stream_law.specs.Sinks.{begins, matchedBy, matched, Takes, SentAs, comparedBy, finishOf}
@@ -23,7 +22,8 @@ module _ (expected : List ℕ) where
       Sink.Match (at + length text) ≡ matched expected at text
   matched-next at text e h = ap (λ (b : Bool). matchedBy b (at + length text)) (sym h ∙ e)
 
-  pub matched-not : (at : ℕ) (text : List ℕ) {found : Bool} → found ≡ begins text (drop at expected) → found ≡ false → Sink.Differs ≡ matched expected at text
+  pub matched-not : (at : ℕ) (text : List ℕ) {found : Bool} → found ≡ begins text (drop at expected) → found ≡ false →
+      Sink.Differs ≡ matched expected at text
   matched-not at text e h = ap (λ (b : Bool). matchedBy b (at + length text)) (sym h ∙ e)
 
   -- ---- a sink that is known

@@ -1,11 +1,9 @@
 -- A whole run, from the start to the end. Assumes nothing.
-use Prim.Native.Nat.{ℕ, _-_, _≤_}
+use Prim.Native.Nat.{ℕ, _-_}
 use native.Mathlib.Omega.{arith}
-use native.Mathlib.Nat.{le-of-eq}
 use mathlib.Core.Path.{_≡_, refl, sym, ap, _∙_, subst}
 use mathlib.Core.List.{List, [], _++_, append-nil}
-use lib.ListN.{length, take, length-replicate}
-use Rattle.terms.specs.Sizes.{tableLength}
+use lib.ListN.{take}
 use Rattle.tables.specs.Tables.{decode}
 use Rattle.state_law.specs.Opening.{fixedSession}
 use Rattle.feed_law.specs.Turns.{printed}
@@ -15,15 +13,9 @@ use Rattle.stream_law.specs.declared.Sink.{Sink}
 use Rattle.stream_law.specs.declared.Finish.{Finish}
 use Rattle.stream_law.specs.declared.Held.{Held}
 use Rattle.stream_law.specs.Sinks.{SentAs, finishOf}
-use Rattle.stream_law.specs.Streams.{zeros, Tables, holding, heldOn, Hears, EndsAs, Finished, ThroughAs, Tells, Compares, PrintedAs}
+use Rattle.stream_law.specs.Streams.{holding, heldOn, Hears, EndsAs, ThroughAs, Tells, Compares, PrintedAs}
 use Rattle.stream_law.specs.Streams.ThroughAs.{unread, whole}
 use Rattle.stream_law.proofs.Sends.{sent-then, finish-tells, finish-printed}
-
--- tables of zeros are long enough
-pub tables-long : Tables (zeros tableLength) (zeros tableLength)
-tables-long =
-    let e : tableLength ≤ length (zeros tableLength) = le-of-eq (sym (length-replicate {A = ℕ} tableLength 0)) in
-    record { buys-long = e; sells-long = e }
 
 -- before the first line, whatever the tables hold, all is still to be printed
 from-start : (buys sells input : List ℕ) → printed input ≡ toPrint (holding begun buys sells []) input
@@ -32,8 +24,8 @@ from-start buys sells input = refl
 
 -- all that was read, then the end
 pub run-whole : (expected buys sells : List ℕ) (to last : Sink) {buf′ buys′ sells′ : List ℕ} {h : Held} {r : Finish} →
-    Hears expected (holding begun buys sells []) to buf′ buys′ sells′ h → EndsAs expected (holding (h .run) buys′ sells′ (take (h .have - 0) buf′)) (h .to) last →
-    r ≡ finishOf expected last → ThroughAs expected to r
+    Hears expected (holding begun buys sells []) to buf′ buys′ sells′ h →
+    EndsAs expected (holding (h .run) buys′ sells′ (take (h .have - 0) buf′)) (h .to) last → r ≡ finishOf expected last → ThroughAs expected to r
 run-whole expected buys sells to last {buf′} {buys′} {sells′} {h} k e q =
     let b : Holding = heldOn buf′ buys′ sells′ h in
     let z : h .have - 0 ≡ h .have = omega arith in
@@ -43,7 +35,9 @@ run-whole expected buys sells to last {buf′} {buys′} {sells′} {h} k e q =
     whole (k .got)
     (record {
       sink = last;
-      sent = subst (λ (x : List ℕ). SentAs expected to x last) (sym p) (sent-then expected (k .goes .text) (toPrint b []) to (h .to) last (k .goes .sent) e′);
+      sent =
+          subst (λ (x : List ℕ). SentAs expected to x last) (sym p)
+          (sent-then expected (k .goes .text) (toPrint b []) to (h .to) last (k .goes .sent) e′);
       finish = q;
     })
 

@@ -9,9 +9,9 @@ use Rattle.feed_law.specs.declared.Run.{Run}
 use Rattle.feed_law.specs.declared.Stage.{Stage}
 use Rattle.feed_law.specs.declared.Stop.{Stop}
 use Rattle.feed_law.specs.Texts.{textMost, endText}
-use Rattle.feed_law.specs.Worlds.{Lent, days}
-use Rattle.feed_law.specs.Turns.{Fed, printedFrom, printed}
-use Rattle.feed_law.specs.Feeds.{begun, fedOf}
+use Rattle.feed_law.specs.Worlds.{Lent}
+use Rattle.feed_law.specs.Turns.{Fed, printed}
+use Rattle.feed_law.specs.Feeds.{fedOf}
 use Rattle.promises.specs.Printed.{Holding, toPrint}
 use Rattle.stream_law.specs.declared.Sink.{Sink}
 use Rattle.stream_law.specs.declared.Finish.{Finish}
@@ -89,6 +89,12 @@ pub record OverAs (expected : List ℕ) (a : Holding) (to : Sink) (buys′ sells
   pub lines : isOpen (r .to) ≡ true → NoLine (handedOn a buys′ sells′ r)
 
 -- ---- reads
+
+-- more is to be read
+abbrev pub isOn : Reading → Bool
+isOn Reading.On = true
+isOn Reading.Done = false
+isOn Reading.Failed = false
 
 -- after a call: nothing more is read where the run is over or the sink is shut
 abbrev pub readingAfter : Stage → Sink → Reading

@@ -5,7 +5,6 @@
 use descriptors::writing;
 use stream_law::Finish;
 use stream_law::Sink;
-ghost use Prim.Native.Nat.{_≤_};
 ghost use mathlib.Core.Path.{_≡_};
 ghost use lib.ListN.{length, drop};
 ghost use lib.Dec.{eqb};
@@ -43,7 +42,8 @@ fn hold(expected: &[u8], at: usize, bytes: &[u8]) -> Sink
     ensures { λ r. ⌜ r ≡ matched (now (expected .entry)) at (now (bytes .entry)) ⌝ }
 {
     if is_next(expected, at, bytes) {
-        return Sink::Match(at + bytes.len());
+        let next = at + bytes.len();
+        return Sink::Match(next);
     }
     Sink::Differs
 }

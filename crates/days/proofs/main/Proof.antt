@@ -5,10 +5,10 @@ use Rattle.days.proofs.main.Statement.{statement}
 use Rattle.days.proofs.main.Tie as tie
 
 abbrev Inv-loop : tie.InvT-loop
-Inv-loop n right₀ i₀ t5 right i = Unit {0}
+Inv-loop n count₀ i₀ count i = Unit {0}
 
 abbrev μ-loop : tie.MeasureT-loop
-μ-loop n right₀ i₀ t5 right i = n - i
+μ-loop n count₀ i₀ count i = n - i
 
 arg-count-requires : tie.Need-arg-count-requires Inv-loop μ-loop
 arg-count-requires c κs = search needs
@@ -19,9 +19,6 @@ loop-holds c = search needs
 day-requires : tie.Need-day-requires Inv-loop μ-loop
 day-requires c κs = search needs
 
-wrapping-add-u64-requires : tie.Need-wrapping-add-u64-requires Inv-loop μ-loop
-wrapping-add-u64-requires c κs = search needs
-
 add-i : tie.Need-add-i Inv-loop μ-loop
 add-i c = search needs
 
@@ -31,14 +28,8 @@ loop-less c = search needs
 loop-again : tie.Need-loop-again Inv-loop μ-loop
 loop-again c = search needs
 
-print-decimal-requires : tie.Need-print-decimal-requires Inv-loop μ-loop
-print-decimal-requires c κs = search needs
-
-slice-aggregate-write-all : tie.Need-slice-aggregate-write-all Inv-loop μ-loop
-slice-aggregate-write-all c = search needs
-
-write-all-requires : tie.Need-write-all-requires Inv-loop μ-loop
-write-all-requires c κs = search needs
+total-requires : tie.Need-total-requires Inv-loop μ-loop
+total-requires c κs = search needs
 
 returns : tie.Need-returns Inv-loop μ-loop
 returns c = search needs
@@ -52,11 +43,8 @@ main-spec =
     arg-count-requires
     loop-holds
     day-requires
-    wrapping-add-u64-requires
     add-i
     loop-less
     loop-again
-    print-decimal-requires
-    slice-aggregate-write-all
-    write-all-requires
+    total-requires
     returns)

@@ -9,8 +9,8 @@ use Rattle.stream_sink.proofs.hold.Tie as tie
 is-next-requires : tie.Need-is-next-requires
 is-next-requires c κs = search needs
 
-add-t6 : tie.Need-add-t6
-add-t6 c = record { fits = place-fits (now (c .before .before .before .before .args .bytes)) (now (c .before .before .before .before .args .expected)) (c .before .before .before .before .args .at) _ (sym (c .before .is-next .ensures) ∙ c .if1 .taken) (search needs) (search needs) }
+add-next : tie.Need-add-next
+add-next c = record { fits = place-fits (now (c .before .before .before .before .args .bytes)) (now (c .before .before .before .before .args .expected)) (c .before .before .before .before .args .at) _ (sym (c .before .is-next .ensures) ∙ c .if1 .taken) (search needs) (search needs) }
 
 returns : tie.Need-returns
 returns c = matched-next (now (c .before .before .before .before .args .expected)) (c .before .before .before .before .args .at) (now (c .before .before .before .before .args .bytes)) (c .before .is-next .ensures) (c .if1 .taken)
@@ -19,4 +19,4 @@ returns-2 : tie.Need-returns-2
 returns-2 c = matched-not (now (c .before .before .before .before .args .expected)) (c .before .before .before .before .args .at) (now (c .before .before .before .before .args .bytes)) (c .before .is-next .ensures) (c .if1 .left)
 
 pub hold-spec : {M : Type 1} → statement M
-hold-spec = tie.close (tie.spec is-next-requires add-t6 returns returns-2)
+hold-spec = tie.close (tie.spec is-next-requires add-next returns returns-2)

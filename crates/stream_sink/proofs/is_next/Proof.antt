@@ -1,7 +1,5 @@
 use borrow.Author.Needs.{needs}
 use mathlib.Core.Path.{_∙_, ap}
-use mathlib.Core.List.{List}
-use Prim.Native.Nat.{ℕ}
 use denote.Ref.{now}
 use Rattle.stream_law.specs.Sinks.{begins}
 use Rattle.stream_law.proofs.Beginnings.{rest-is, past-end}
