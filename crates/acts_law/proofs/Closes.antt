@@ -1,5 +1,5 @@
 -- The close: "Close applies no slab or reference step. It cancels all, buys then sells in priority order, why 5, then reports close price and
--- next base." A cancel: why 1. Assumes nothing.
+-- next base." A cancel: why 1.
 use Prim.Native.Nat.{ℕ}
 use mathlib.Core.Path.{_≡_, refl, sym, ap, _∙_}
 use mathlib.Core.Bool.{true, false}

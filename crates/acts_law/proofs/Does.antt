@@ -1,5 +1,5 @@
 -- A law of what events do, piece by piece: what comes before the act, then the act, which is an order, a cancel, a change of the
--- session alone, or the close. Assumes nothing.
+-- session alone, or the close.
 use Prim.Native.Nat.{ℕ}
 use mathlib.Core.Path.{_≡_, refl, ap}
 use mathlib.Core.Bool.{Bool, true, false}

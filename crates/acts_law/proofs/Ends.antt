@@ -1,4 +1,4 @@
--- A cancel and the close, from what their calls leave. Assumes nothing.
+-- A cancel and the close, from what their calls leave.
 use Prim.Native.Nat.{ℕ, _+_, _-_, _*_, _≤_}
 use native.Mathlib.Omega.{arith}
 use mathlib.Core.Path.{_≡_, sym}

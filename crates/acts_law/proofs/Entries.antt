@@ -1,4 +1,4 @@
--- The whole of an order: what its calls ask, and what they leave. Assumes nothing.
+-- The whole of an order: what its calls ask, and what they leave.
 use Prim.Native.Nat.{ℕ, _+_, _*_, _≤_}
 use native.Mathlib.Omega.{arith}
 use mathlib.Core.Path.{_≡_, refl, ap, _∙_}

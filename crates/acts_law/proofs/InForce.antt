@@ -1,5 +1,5 @@
 -- What an order is judged by, and from when on an underlying counts: its own limit and mark, the last trade or the previous settlement, the
--- band after the clock steps, the reference until the next boundary. Assumes nothing.
+-- band after the clock steps, the reference until the next boundary.
 use Prim.Native.Nat.{ℕ, _≤_}
 use mathlib.Core.Path.{_≡_, refl}
 use mathlib.Core.Bool.{true, false}

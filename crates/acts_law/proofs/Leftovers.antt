@@ -1,4 +1,4 @@
--- A remainder settled, in each of its four cases. Assumes nothing.
+-- A remainder settled, in each of its four cases.
 use Prim.Native.Nat.{ℕ}
 use mathlib.Core.Path.{_≡_, sym}
 use mathlib.Core.List.{List, [], _∷_}

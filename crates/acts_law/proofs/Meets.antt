@@ -1,4 +1,4 @@
--- An order accepted and matched: what its calls ask, and what they leave. Assumes nothing.
+-- An order accepted and matched: what its calls ask, and what they leave.
 use Prim.Native.Nat.{ℕ, _+_, _*_, _≤_}
 use native.Mathlib.Omega.{arith}
 use mathlib.Core.Path.{_≡_, ap, _∙_}

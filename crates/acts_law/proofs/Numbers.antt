@@ -1,5 +1,5 @@
 -- Order numbers are given in order: the numbers up to those given before an act, with those that its reports accept, are the numbers
--- up to those given after it. Assumes nothing.
+-- up to those given after it.
 use Prim.Native.Nat.{ℕ, _+_}
 use native.Mathlib.Numerals.{add-one}
 use mathlib.Core.Path.{_≡_, refl, sym, ap, _∙_}

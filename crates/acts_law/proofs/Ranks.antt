@@ -1,5 +1,5 @@
 -- "Order: slab (when the percent changed), ref (only if the value changed over the event), accept, trades, then convert or cancel"; at the
--- close the cancels, then the closing prices. So stand the reports of each event on any day. Assumes nothing.
+-- close the cancels, then the closing prices. So stand the reports of each event on any day.
 use Prim.Native.Nat.{ℕ, _+_, _≤_}
 use native.Mathlib.Omega.{arith}
 use mathlib.Core.Path.{_≡_, refl}

@@ -1,4 +1,4 @@
--- Trades read back from their records: one after the other into the session, and they are the fills that were reported. Assumes nothing.
+-- Trades read back from their records: one after the other into the session, and they are the fills that were reported.
 use Prim.Native.Nat.{ℕ, zero, suc, _+_, _-_, _*_, _≤_, _<_}
 use native.Mathlib.Omega.{arith}
 use mathlib.Core.Path.{_≡_, refl, sym, ap, _∙_}

@@ -1,4 +1,4 @@
--- Reports in the room, one behind the other. Assumes nothing.
+-- Reports in the room, one behind the other.
 use Prim.Native.Nat.{ℕ, _+_, _*_, _≤_, _<_}
 use native.Mathlib.Omega.{arith}
 use borrow.Author.Tests.{eq-eqb, ne-eqb}

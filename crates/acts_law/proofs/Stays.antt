@@ -1,4 +1,4 @@
--- An accepted event leaves a sound day: the clock steps and each act keep the numbers and the book sound. Assumes nothing.
+-- An accepted event leaves a sound day: the clock steps and each act keep the numbers and the book sound.
 use Prim.Native.Nat.{ℕ, _+_, _≤_, _<_}
 use native.Mathlib.Omega.{arith}
 use native.Mathlib.Nat.{le-refl}

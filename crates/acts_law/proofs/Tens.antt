@@ -1,4 +1,4 @@
--- The arrays of a session have ten numbers after every event that is accepted. Assumes nothing.
+-- The arrays of a session have ten numbers after every event that is accepted.
 use Prim.Native.Nat.{ℕ, _+_}
 use mathlib.Core.List.{List}
 use Rattle.terms.specs.declared.Act.{Act}

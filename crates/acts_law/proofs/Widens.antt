@@ -1,5 +1,5 @@
 -- "In the base it widens once": an event tells as many slab reports as it widens the band, and no event narrows it. A slab is told just where
--- the percent changed, a reference just where the value changed. Assumes nothing.
+-- the percent changed, a reference just where the value changed.
 use Prim.Native.Nat.{ℕ, _+_, _≤_}
 use native.Mathlib.Omega.{arith}
 use native.Mathlib.Nat.{le-refl}

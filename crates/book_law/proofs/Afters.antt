@@ -1,4 +1,4 @@
--- What a caller knows of a side's table after an insertion or a removal: how many orders it holds, and which. Assumes nothing.
+-- What a caller knows of a side's table after an insertion or a removal: how many orders it holds, and which.
 use Prim.Native.Nat.{ℕ, _+_, _-_, _<_}
 use native.Mathlib.Omega.{arith}
 use mathlib.Core.Path.{_≡_}

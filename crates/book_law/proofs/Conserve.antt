@@ -1,5 +1,5 @@
 -- A sweep makes and loses no lot: what traded and what is left is what came in, and for each resting order what traded and what rests is
--- what rested. Assumes nothing.
+-- what rested.
 use Prim.Native.Nat.{ℕ, suc, _+_, _-_, _≤_, _<_}
 use native.Mathlib.Omega.{arith}
 use mathlib.Core.Path.{_≡_, ap}

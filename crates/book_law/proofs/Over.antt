@@ -1,4 +1,4 @@
--- Insertion and removal: what each order keeps, what a sum over the orders becomes, how many there are. Assumes nothing.
+-- Insertion and removal: what each order keeps, what a sum over the orders becomes, how many there are.
 use Prim.Native.Nat.{ℕ, suc, _+_, _≤_}
 use native.Mathlib.Omega.{arith}
 use borrow.Author.Tests.{eqb-true, eq-eqb, ne-eqb}

@@ -1,4 +1,4 @@
--- The first order that passes a test: how a loop over a table finds it, and what insertion and removal are from there. Assumes nothing.
+-- The first order that passes a test: how a loop over a table finds it, and what insertion and removal are from there.
 use Prim.Native.Nat.{ℕ, suc, _+_, _≤_, _<_}
 use native.Mathlib.Omega.{arith}
 use native.Mathlib.Numerals.{add-one}

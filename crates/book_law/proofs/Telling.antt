@@ -1,4 +1,4 @@
--- A report carries the event's time and what it says; and what each kind of report tells, one kind after the other. Assumes nothing.
+-- A report carries the event's time and what it says; and what each kind of report tells, one kind after the other.
 use Prim.Native.Nat.{ℕ}
 use mathlib.Core.Path.{_≡_, refl}
 use mathlib.Core.List.{List, [], _∷_, _++_, map}

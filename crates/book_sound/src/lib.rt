@@ -1,5 +1,5 @@
 // book_sound: whether the book that a caller hands in is sound, judged on every call.
-// It may use terms, tables and audit_law. It promises: the answer IS document 01's condition on the orders that the tables hold, whatever
+// It may use terms, tables and book_sound_law. It promises: the answer IS document 01's condition on the orders that the tables hold, whatever
 // their numbers are and whatever lies behind them, by one pass over each table.
 
 pub mod marks;

@@ -42,7 +42,7 @@ fn key(side: Side, l: Limits, o: Order) -> u64
     }
 }
 
-// The orders of a side: each fine, its key above the key before, the low bits of its number not marked in the map before, and then.
+// The orders of a side: each is fine, its key is above the one before, and its number's mark was not in the map yet; then it is put there.
 fn side_by(t: &[u64], n: usize, side: Side, l: Limits, mask: u64, map: &mut [u64]) -> bool
     requires { ⌜ Room n (now t) × LimitsFit l × (wordsTo mask ≤ length (now map)) ⌝ }
     ensures { λ r. ⌜ (r ≡ passOf side l mask 0 (now (map .entry)) (decode n (now (t .entry))))
@@ -142,7 +142,7 @@ fn sides_least(buys: &[u64], nbuys: usize, sells: &[u64], nsells: usize, l: Limi
     sides_large(buys, nbuys, sells, nsells, l)
 }
 
-// Low bits that are distinct are of distinct numbers; that numbers are not distinct only the large map tells.
+// Different marks are of different numbers. Equal marks may be of different numbers too; only the largest map tells those apart.
 pub fn sides(buys: &[u64], nbuys: usize, sells: &[u64], nsells: usize, l: Limits) -> bool
     requires { ⌜ Room nbuys (now buys) × Room nsells (now sells) × LimitsFit l ⌝ }
     ensures { λ r. ⌜ r ≡ sidesSound l (decode nbuys (now (buys .entry))) (decode nsells (now (sells .entry))) ⌝ }

@@ -1,4 +1,4 @@
--- A number marked: it is marked, and no other. Assumes nothing.
+-- A number marked: it is marked, and no other.
 use Prim.Native.Nat.{ℕ, zero, suc, _+_, _*_, _/_, _%_, _^_, _<_}
 use native.Mathlib.Omega.{arith}
 use native.Mathlib.Nat.{mul-div-mul-left, pow-succ', div-self, div-eq-of-lt, mod-lt, div-one, mul-mod-right, one-mul, zero-div}

@@ -1,4 +1,4 @@
--- A sound book as facts, taken from the tests and made into them again. Assumes nothing.
+-- A sound book as facts, taken from the tests and made into them again.
 use Prim.Native.Nat.{ℕ, _≤_, _<_}
 use native.Mathlib.Omega.{arith}
 use borrow.Author.Tests.{leb-true, le-leb}

@@ -1,4 +1,4 @@
--- A run of marks, begun on an empty map, goes through just where the numbers are distinct. Assumes nothing.
+-- A run of marks, begun on an empty map, goes through just where the numbers are distinct.
 use Prim.Native.Nat.{ℕ, _<_}
 use mathlib.Core.Bool.{Bool, true, false, _&&_, _||_, not}
 use mathlib.Core.Path.{_≡_, refl, sym, ap, _∙_}

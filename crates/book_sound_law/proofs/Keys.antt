@@ -1,4 +1,4 @@
--- Keys stand in the order of priority, so a pass finds out whether a side is sound and its marks fresh. Assumes nothing.
+-- Keys stand in the order of priority, so a pass finds out whether a side is sound and its marks fresh.
 use Prim.Native.Nat.{ℕ, _+_, _-_, _*_, _≤_, _<_}
 use native.Mathlib.Omega.{arith}
 use mathlib.Core.Bool.{Bool, true, false, _&&_, _||_, not}

@@ -1,4 +1,4 @@
--- The low bits of numbers: where they are distinct the numbers are, and sixteen of them are the whole number. Assumes nothing.
+-- The low bits of numbers: where they are distinct the numbers are, and sixteen of them are the whole number.
 use Prim.Native.Nat.{ℕ, _≤_}
 use native.Mathlib.Omega.{arith}
 use native.Mathlib.Nat.{mod-eq-of-lt}

@@ -1,4 +1,4 @@
--- Distinct numbers: each number stands at most once. Assumes nothing.
+-- Distinct numbers: each number stands at most once.
 use Prim.Native.Nat.{ℕ, _+_, _≤_}
 use native.Mathlib.Omega.{arith}
 use borrow.Author.Tests.{eq-eqb, eqb-true, not-true}

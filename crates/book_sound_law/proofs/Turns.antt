@@ -1,4 +1,4 @@
--- What the functions of a pass answer, at each of their returns, and what a turn of its loop keeps. Assumes nothing.
+-- What the functions of a pass answer, at each of their returns, and what a turn of its loop keeps.
 use Prim.Native.Nat.{ℕ, _+_, _-_, _*_, _≤_, _<_}
 use native.Mathlib.Omega.{arith}
 use mathlib.Core.Bool.{Bool, true, false, _&&_, not}

@@ -1,4 +1,4 @@
--- The bytes that were read are there. Assumes nothing.
+-- The bytes that were read are there.
 use Prim.Native.Nat.{ℕ, _≤_}
 use mathlib.Core.Path.{_≡_, subst}
 use Rattle.descriptors.specs.declared.Got.{Got}

@@ -1,5 +1,5 @@
 -- WHAT A CALL LAYS INTO A RUN IS FOUND AGAIN BY THE NEXT: calls on runs of numbers are calls on sessions, events and settings. So every
--- promise on runs of calls of the engine holds of an app that keeps its numbers between calls. Assumes nothing.
+-- promise on runs of calls of the engine holds of an app that keeps its numbers between calls.
 use Prim.Native.Nat.{ℕ, _≤_}
 use mathlib.Core.Path.{_≡_, refl, sym, ap, _∙_}
 use mathlib.Core.List.{List}

@@ -1,4 +1,4 @@
--- What an app is told of an event is the paper's number and the count of what the engine answers to it. Assumes nothing.
+-- What an app is told of an event is the paper's number and the count of what the engine answers to it.
 use Prim.Native.Nat.{ℕ, _≤_}
 use borrow.Author.Tests.{le-ltb}
 use mathlib.Core.Path.{_≡_, refl, sym, ap, _∙_}

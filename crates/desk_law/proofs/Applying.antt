@@ -1,4 +1,4 @@
--- What an event on runs of numbers leaves, as code comes to it, by the engine's answer. Assumes nothing.
+-- What an event on runs of numbers leaves, as code comes to it, by the engine's answer.
 use Prim.Native.Nat.{ℕ, _≤_, _<_}
 use native.Mathlib.Omega.{arith}
 use mathlib.Core.Path.{_≡_, refl, sym, _∙_}

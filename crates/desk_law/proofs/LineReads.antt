@@ -1,4 +1,4 @@
--- What a reader's answer leaves, as code comes to it: the answer is the right one for the bytes, and no place is past a line. Assumes nothing.
+-- What a reader's answer leaves, as code comes to it: the answer is the right one for the bytes, and no place is past a line.
 use Prim.Native.Nat.{ℕ, _≤_, _<_}
 use native.Mathlib.Omega.{arith}
 use mathlib.Core.Path.{_≡_, ap, _∙_}

@@ -1,4 +1,4 @@
--- What a writer's answer leaves, as code comes to it, by what the numbers were. Assumes nothing.
+-- What a writer's answer leaves, as code comes to it, by what the numbers were.
 use Prim.Native.Nat.{ℕ, _≤_, _<_}
 use native.Mathlib.Omega.{arith}
 use mathlib.Core.Path.{_≡_, refl, ap, _∙_}

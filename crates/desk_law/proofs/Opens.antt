@@ -1,4 +1,4 @@
--- What an opening on runs of numbers leaves, as code comes to it. Assumes nothing.
+-- What an opening on runs of numbers leaves, as code comes to it.
 use Prim.Native.Nat.{ℕ, _≤_, _<_}
 use mathlib.Core.Path.{_≡_}
 use mathlib.Core.Bool.{Bool, true, false, not}

@@ -1,4 +1,4 @@
--- What text in and text out leaves, as code comes to it. Assumes nothing.
+-- What text in and text out leaves, as code comes to it.
 use Prim.Native.Nat.{ℕ, _≤_, _<_}
 use native.Mathlib.Omega.{arith}
 use mathlib.Core.Path.{_≡_, refl, sym, ap, _∙_}

@@ -1,4 +1,4 @@
--- PACKING AND UNPACKING ARE INVERSE, of events, whatever follows in the run. Assumes nothing.
+-- PACKING AND UNPACKING ARE INVERSE, of events, whatever follows in the run.
 use Prim.Native.Nat.{ℕ, _≤_}
 use mathlib.Core.Path.{_≡_, refl, sym, _∙_}
 use mathlib.Core.Bool.{Bool, true, false, _&&_}

@@ -1,4 +1,4 @@
--- PACKING AND UNPACKING ARE INVERSE, of settings and of sessions, whatever follows in the run. Assumes nothing.
+-- PACKING AND UNPACKING ARE INVERSE, of settings and of sessions, whatever follows in the run.
 use Prim.Native.Nat.{ℕ, zero, suc, _≤_}
 use native.Mathlib.Omega.{arith}
 use mathlib.Core.Path.{_≡_, refl, sym}

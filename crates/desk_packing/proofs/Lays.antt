@@ -1,4 +1,4 @@
--- A run laid into lent numbers: how its loop begins, a turn, and its end. Assumes nothing.
+-- A run laid into lent numbers: how its loop begins, a turn, and its end.
 use Prim.Native.Nat.{ℕ, _+_, _≤_, _<_}
 use native.Mathlib.Omega.{arith}
 use native.Mathlib.Nat.{zero-add}

@@ -1,4 +1,4 @@
--- The first numbers of a run, written out one by one. Assumes nothing.
+-- The first numbers of a run, written out one by one.
 use Prim.Native.Nat.{ℕ, zero, suc, _+_, _≤_}
 use native.Mathlib.Omega.{arith}
 use mathlib.Core.Path.{_≡_, refl, sym, ap, _∙_}

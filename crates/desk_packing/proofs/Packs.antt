@@ -1,4 +1,4 @@
--- Sessions and events packed and unpacked as code does it. Assumes nothing.
+-- Sessions and events packed and unpacked as code does it.
 use Prim.Native.Nat.{ℕ}
 use mathlib.Core.Path.{_≡_, refl, ap, _∙_}
 use mathlib.Core.Bool.{Bool, true, false, not}

@@ -1,5 +1,5 @@
 // desk_packing: settings, sessions and events as runs of numbers, for apps that keep and hand over nothing else.
-// It may use terms, rules_law, tables, state_law and records. It promises: packing and unpacking are the definitions of specs/, for any
+// It may use terms, rules_law, tables and state_law. It promises: packing and unpacking are the definitions of specs/, for any
 // numbers whatever, and inverse to each other; numbers that are no session's are the paper's fixed session, and numbers that are no
 // event's a clock that no session takes.
 

@@ -1,4 +1,4 @@
--- PACKING AND UNPACKING A RUN ARE INVERSE, whatever follows in the numbers; and numbers that are no run's do nothing. Assumes nothing.
+-- PACKING AND UNPACKING A RUN ARE INVERSE, whatever follows in the numbers; and numbers that are no run's do nothing.
 use Prim.Native.Nat.{ℕ, zero, suc, _≤_}
 use native.Mathlib.Omega.{arith}
 use mathlib.Core.Path.{_≡_, refl}

@@ -1,4 +1,4 @@
--- A run packed and unpacked as code does it. Assumes nothing.
+-- A run packed and unpacked as code does it.
 use Prim.Native.Nat.{ℕ, _-_, _≤_, _<_}
 use native.Mathlib.Omega.{arith}
 use native.Mathlib.Nat.{le-of-eq}

@@ -1,5 +1,5 @@
 // desk_runs: where a run of session lines stands, as 44 numbers, for apps that keep and hand over nothing else.
-// It may use feed_law and packing, and what these use. It promises: packing and unpacking are the definitions of specs/, for any numbers
+// It may use feed_law and desk_packing, and what these use. It promises: packing and unpacking are the definitions of specs/, for any numbers
 // whatever, and inverse to each other; numbers that are no run's are a run that is over, which takes no byte and prints none.
 use desk_packing::runs;
 use desk_packing::sessions;

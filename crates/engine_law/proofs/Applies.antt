@@ -1,5 +1,5 @@
 -- What a call comes to, by its verdict: a refused one answers its row and leaves everything as it was; an accepted one leaves what the
--- act leaves. Assumes nothing.
+-- act leaves.
 use Prim.Native.Nat.{ℕ, _≤_}
 use mathlib.Core.Path.{_≡_, sym, _∙_}
 use mathlib.Core.Bool.{Bool, true, false, not}

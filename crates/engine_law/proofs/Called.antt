@@ -1,4 +1,4 @@
--- The reports of a call are few, and one that is not refused has room for them. Assumes nothing.
+-- The reports of a call are few, and one that is not refused has room for them.
 use Prim.Native.Nat.{ℕ, _≤_}
 use native.Mathlib.Omega.{arith}
 use mathlib.Core.Path.{_≡_}

@@ -1,4 +1,4 @@
--- What each accepted event leaves, from what its calls left. Assumes nothing.
+-- What each accepted event leaves, from what its calls left.
 use Prim.Native.Nat.{ℕ, _+_, _*_, _/_, _≤_}
 use native.Mathlib.Omega.{arith}
 use mathlib.Core.Path.{_≡_, refl, sym, ap, _∙_}

@@ -1,4 +1,4 @@
--- An order on both tables: proved once, over its own side's table and the one across. Assumes nothing.
+-- An order on both tables: proved once, over its own side's table and the one across.
 use Prim.Native.Nat.{ℕ, _+_, _≤_, _<_}
 use native.Mathlib.Omega.{arith}
 use mathlib.Core.Path.{_≡_, refl, _∙_}
@@ -51,7 +51,7 @@ module _ (s : Session) (t : ℕ) (n : Entry) (buys sells room : List ℕ) (r : R
   unfolding hasPlace
   placed = accepts s t (Enter n) buys sells room r .placed
 
-  -- over the order's own side and the one across, be they which they may
+  -- over the order's own side and the one across, whichever of the two it is on
   module _ (s′ : Session) (e : s′ ≡ clockStep s t) (buys₁ sells₁ room₁ : List ℕ) (at : ℕ) (k : SteppedAs s s′ buys sells room buys₁ sells₁ room₁ at)
       (nmine ntheirs : ℕ) (mine theirs mine₁ theirs₁ : List ℕ) (p : After nmine (decode nmine mine) mine mine₁) (q : After ntheirs (decode ntheirs theirs) theirs theirs₁)
       (o : own (n .side) (dayIn s buys sells) ≡ decode nmine mine) (deal : Each Deals (decode ntheirs theirs)) where

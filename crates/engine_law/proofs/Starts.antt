@@ -1,5 +1,5 @@
 -- What an accepted event starts from: the session after the clock steps is within bounds, the tables are cleared, and the counter orders
--- can be traded. Assumes nothing.
+-- can be traded.
 use Prim.Native.Nat.{ℕ, _+_, _*_, _≤_}
 use native.Mathlib.Omega.{arith}
 use mathlib.Core.Path.{_≡_}

@@ -1,4 +1,4 @@
--- The loop over the lines: what has been printed so far, and what is left to be fed, make up the whole. Assumes nothing.
+-- The loop over the lines: what has been printed so far, and what is left to be fed, make up the whole.
 use Prim.Native.Nat.{ℕ, zero, suc, _+_, _-_, _≤_, _<_}
 use native.Mathlib.Omega.{arith}
 use native.Mathlib.Nat.{zero-add, add-assoc}

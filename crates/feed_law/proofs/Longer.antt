@@ -1,4 +1,4 @@
--- A right answer stays right when more bytes follow, but for "unfinished". Assumes nothing.
+-- A right answer stays right when more bytes follow, but for "unfinished".
 use Prim.Native.Nat.{ℕ, _+_, _-_, _≤_, _<_}
 use native.Mathlib.Omega.{arith}
 use mathlib.Core.Path.{_≡_, refl, sym, ap, _∙_, subst}

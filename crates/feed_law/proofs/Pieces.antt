@@ -1,4 +1,4 @@
--- Feeding bytes in pieces prints what feeding them whole prints. Assumes nothing.
+-- Feeding bytes in pieces prints what feeding them whole prints.
 use Prim.Native.Nat.{ℕ, zero, suc, _+_, _-_, _≤_, _<_}
 use native.Mathlib.Omega.{arith}
 use mathlib.Core.Path.{_≡_, refl, sym, ap, _∙_, subst}

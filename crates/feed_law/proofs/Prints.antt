@@ -1,4 +1,4 @@
--- What is printed into an output room: a writer's line, a record's, and one text behind another. Assumes nothing.
+-- What is printed into an output room: a writer's line, a record's, and one text behind another.
 use Prim.Native.Nat.{ℕ, zero, suc, _+_, _-_, _*_, _≤_}
 use native.Mathlib.Omega.{arith}
 use native.Mathlib.Nat.{le-of-eq}

@@ -1,5 +1,4 @@
 -- What the program says of refused events and bad lines is always said: the numbers can be written. (Reports: `promises`, `calls-writable`.)
--- Assumes nothing.
 use Prim.Native.Nat.{ℕ, _≤_}
 use native.Mathlib.Omega.{arith}
 use mathlib.Core.Path.{_≡_}

@@ -1,4 +1,4 @@
--- What a feed takes is there, and what it leaves is the start of a line, which is short. Assumes nothing.
+-- What a feed takes is there, and what it leaves is the start of a line, which is short.
 use Prim.Native.Nat.{ℕ, _+_, _≤_}
 use native.Mathlib.Omega.{arith}
 use mathlib.Core.Path.{_≡_, refl, sym, ap, _∙_}

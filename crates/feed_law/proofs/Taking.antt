@@ -1,4 +1,4 @@
--- What the functions of a line leave, by what the line was read as. Assumes nothing.
+-- What the functions of a line leave, by what the line was read as.
 use Prim.Native.Nat.{ℕ, _*_, _≤_}
 use native.Mathlib.Omega.{arith}
 use mathlib.Core.Path.{_≡_, refl, sym, ap, _∙_, subst}

@@ -1,4 +1,4 @@
--- The bytes from a place on, as the part of a slice, and what an answer there says of lines. Assumes nothing.
+-- The bytes from a place on, as the part of a slice, and what an answer there says of lines.
 use Prim.Native.Nat.{ℕ, _-_, _<_}
 use native.Mathlib.Nat.{le-of-eq, le-of-lt}
 use mathlib.Core.Path.{_≡_, sym, ap, _∙_}

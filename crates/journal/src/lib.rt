@@ -1,5 +1,5 @@
 // journal: saved bytes walked line by line.
-// It may use terms, text and reading. It promises, for any bytes and any place: what the reader of events answers on the bytes from that
+// It may use terms, lines_text and lines_reading. It promises, for any bytes and any place: what the reader of events answers on the bytes from that
 // place on, and on none where the place is past their end.
 
 use lines_reading_law::ReadEvent;

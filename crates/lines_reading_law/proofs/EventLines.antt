@@ -1,4 +1,4 @@
--- The grammar of events has the lines of events and no others, so the reader's answer is the right one. Assumes nothing.
+-- The grammar of events has the lines of events and no others, so the reader's answer is the right one.
 use Prim.Native.Nat.{ℕ, _≤_}
 use mathlib.Core.Path.{_≡_, refl}
 use mathlib.Core.Bool.{Bool, true, false}

@@ -1,4 +1,4 @@
--- The grammar of settings has the lines of settings and no others, so the reader's answer is the right one. Assumes nothing.
+-- The grammar of settings has the lines of settings and no others, so the reader's answer is the right one.
 use Prim.Native.Nat.{ℕ}
 use mathlib.Core.Path.{_≡_, refl, sym, _∙_}
 use mathlib.Core.List.{List, [], _++_}

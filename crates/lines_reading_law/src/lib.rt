@@ -1,5 +1,5 @@
 // lines_reading_law: the law of session lines: what the line of an event and of settings is, and the grammars that read them.
-// It has no code and may use terms and text_law. It promises: the grammars spell what is written, line by line.
+// It has no code and may use terms and lines_text_law. It promises: the grammars spell what is written, line by line.
 
 use terms::Event;
 use terms::Settings;

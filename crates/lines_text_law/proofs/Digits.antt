@@ -1,4 +1,4 @@
--- The laws of numerals: a numeral is read whole, whatever is read is one, and its length. Assumes nothing.
+-- The laws of numerals: a numeral is read whole, whatever is read is one, and its length.
 use Prim.Native.Nat.{ℕ, zero, suc, _+_, _-_, _*_, _/_, _%_, _^_, _≤_, _<_}
 use native.Mathlib.Nat.{pow-suc, pow-le-pow-right}
 use native.Mathlib.Omega.{arith}

@@ -1,4 +1,4 @@
--- The laws of forms and of the loops that put them. Assumes nothing.
+-- The laws of forms and of the loops that put them.
 use Prim.Native.Nat.{ℕ, zero, suc, _+_, _-_, _/_, _%_, _≤_, _<_}
 use native.Mathlib.Omega.{arith}
 use native.Mathlib.Nat.{add-zero}

@@ -1,4 +1,4 @@
--- The laws of grammars: a line that is spelled is read back, and every answer comes with its reason. Assumes nothing.
+-- The laws of grammars: a line that is spelled is read back, and every answer comes with its reason.
 use Prim.Native.Nat.{ℕ, suc, _+_, _≤_}
 use native.Mathlib.Nat.{add-zero, add-assoc}
 use native.Mathlib.Omega.{arith}

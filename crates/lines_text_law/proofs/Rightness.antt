@@ -1,4 +1,4 @@
--- The grammar's reader gives the right answer (specs/Reading), and it is the only right one. Assumes nothing.
+-- The grammar's reader gives the right answer (specs/Reading), and it is the only right one.
 use Prim.Native.Nat.{ℕ, suc, _+_, _-_, _≤_, _<_}
 use native.Mathlib.Nat.{zero-add}
 use native.Mathlib.Omega.{arith}

@@ -1,4 +1,4 @@
--- The laws of bytes put into a room. Assumes nothing.
+-- The laws of bytes put into a room.
 use Prim.Native.Nat.{ℕ, _+_, _-_, _≤_, _<_}
 use native.Mathlib.Omega.{arith}
 use native.Mathlib.Numerals.{add-one}

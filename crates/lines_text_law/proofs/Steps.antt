@@ -1,4 +1,4 @@
--- How the grammar's reader goes by the pieces that code reads, and the turns of the two loops over bytes. Assumes nothing.
+-- How the grammar's reader goes by the pieces that code reads, and the turns of the two loops over bytes.
 use Prim.Native.Nat.{ℕ, zero, suc, _+_, _-_, _*_, _^_, _≤_, _<_}
 use native.Mathlib.Nat.{pow-suc}
 use native.Mathlib.Numerals.{add-one}

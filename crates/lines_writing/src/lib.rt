@@ -1,5 +1,5 @@
 // lines_writing: session lines written into a lent line room: settings and events.
-// It may use terms, text and writing_law. It promises, for any value and room: 16 for a room under 128 bytes, then 17 for a number that is
+// It may use terms, lines_text and lines_writing_law. It promises, for any value and room: 16 for a room under 128 bytes, then 17 for a number that is
 // too long, with the room as it was; else the room starts with the value's line, its length is answered, and the rest is as it was.
 
 pub mod lines;

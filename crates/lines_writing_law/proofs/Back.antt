@@ -1,4 +1,4 @@
--- What is written is read back, and a writer's answer and room are determined. Assumes nothing.
+-- What is written is read back, and a writer's answer and room are determined.
 use Prim.Native.Nat.{ℕ, _≤_}
 use native.Mathlib.Omega.{arith}
 use mathlib.Core.Path.{_≡_, refl, sym, ap, _∙_}

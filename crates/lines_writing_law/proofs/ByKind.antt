@@ -1,4 +1,4 @@
--- The line of a value, by its kind: what code found the kind to be, and the line that it wrote for that kind. Assumes nothing.
+-- The line of a value, by its kind: what code found the kind to be, and the line that it wrote for that kind.
 use Prim.Native.Nat.{ℕ}
 use mathlib.Core.Path.{_≡_}
 use mathlib.Core.List.{List, [], _∷_, _++_}

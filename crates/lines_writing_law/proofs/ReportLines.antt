@@ -1,4 +1,4 @@
--- Two reports never share a line: report lines have a grammar too, which no code reads. Assumes nothing.
+-- Two reports never share a line: report lines have a grammar too, which no code reads.
 use Prim.Native.Nat.{ℕ, _≤_}
 use native.Mathlib.Omega.{arith}
 use mathlib.Core.Path.{_≡_, refl}

@@ -1,4 +1,4 @@
--- The lines of settings, events and reports are no longer than a line room. Assumes nothing.
+-- The lines of settings, events and reports are no longer than a line room.
 use Prim.Native.Nat.{_≤_}
 use native.Mathlib.Omega.{arith}
 use mathlib.Core.List.{_++_}

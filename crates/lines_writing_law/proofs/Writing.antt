@@ -1,4 +1,4 @@
--- The ways to answer of a writer, and that a form in two parts is one. Assumes nothing.
+-- The ways to answer of a writer, and that a form in two parts is one.
 use Prim.Native.Nat.{ℕ, _+_, _≤_, _<_}
 use native.Mathlib.Omega.{arith}
 use native.Mathlib.Nat.{zero-add}

@@ -1,5 +1,5 @@
 // lines_writing_reports: what is said, written into a lent line room: the line of a report, of a refused event, of a bad line.
-// It may use terms and writing, and writing_law. It promises, for any value and room: what writing promises of session lines.
+// It may use terms, lines_writing and lines_writing_law. It promises, for any value and room: what lines_writing promises of session lines.
 
 use lines_writing::lines;
 use lines_writing_law::Wrote;

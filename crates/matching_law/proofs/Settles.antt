@@ -1,4 +1,4 @@
--- The counter table settled after a sweep, and the sweep as a whole. Assumes nothing.
+-- The counter table settled after a sweep, and the sweep as a whole.
 use Prim.Native.Nat.{ℕ, _+_, _-_, _*_, _≤_, _<_}
 use native.Mathlib.Omega.{arith}
 use native.Mathlib.Nat.{zero-add, add-zero}

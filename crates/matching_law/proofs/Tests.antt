@@ -1,4 +1,4 @@
--- `sweep` by one test: a counter price at which the incoming order trades, and one at which it does not. Assumes nothing.
+-- `sweep` by one test: a counter price at which the incoming order trades, and one at which it does not.
 use Prim.Native.Nat.{ℕ, _-_, _≤_}
 use borrow.Author.Tests.{eq-eqb}
 use mathlib.Core.Path.{_≡_, refl}

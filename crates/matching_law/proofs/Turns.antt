@@ -1,4 +1,4 @@
--- The loop of `pass`: each way out of it, and a turn, from what the loop holds. Assumes nothing.
+-- The loop of `pass`: each way out of it, and a turn, from what the loop holds.
 use Prim.Native.Nat.{ℕ, _+_, _-_, _*_, _≤_, _<_}
 use native.Mathlib.Omega.{arith}
 use borrow.Author.Tests.{ne-eqb, lt-ltb, le-ltb, not-true, not-false}

@@ -1,4 +1,4 @@
--- The program's output by the calls is that by the days. Assumes nothing.
+-- The program's output by the calls is that by the days.
 use Prim.Native.Nat.{ℕ, zero, suc, _+_, _-_, _≤_}
 use native.Mathlib.Omega.{arith}
 use mathlib.Core.Path.{_≡_, refl, sym, ap, _∙_, subst}

@@ -1,4 +1,4 @@
--- A record tells its report: two lists of as many reports with the same records are one. Assumes nothing.
+-- A record tells its report: two lists of as many reports with the same records are one.
 use Prim.Native.Nat.{ℕ, zero, suc}
 use mathlib.Core.Path.{_≡_, refl, sym, ap, _∙_}
 use mathlib.Core.Bool.{cond}

@@ -1,4 +1,4 @@
--- The computed answer is the right one: each report is told back from its record, and what is told has that record. Assumes nothing.
+-- The computed answer is the right one: each report is told back from its record, and what is told has that record.
 use Prim.Native.Nat.{ℕ, _+_, _-_, _≤_, _<_}
 use native.Mathlib.Omega.{arith}
 use native.Mathlib.Numerals.{add-one}

@@ -1,4 +1,4 @@
--- What an accepted event has passed: every row of the table. Assumes nothing.
+-- What an accepted event has passed: every row of the table.
 use Prim.Native.Nat.{ℕ, _≤_, _<_}
 use native.Mathlib.Omega.{arith}
 use mathlib.Core.Path.{_≡_, refl}

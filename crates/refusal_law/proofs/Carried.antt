@@ -1,4 +1,4 @@
--- Tests of what may be there. Assumes nothing.
+-- Tests of what may be there.
 use Prim.Native.Nat.{ℕ}
 use mathlib.Core.Path.{_≡_, refl, sym, _∙_}
 use mathlib.Core.Bool.{Bool, true, false, _&&_}

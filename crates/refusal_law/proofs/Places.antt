@@ -1,4 +1,4 @@
--- Row 10 by the live counts: the orders that a table holds are as many as the session says. Assumes nothing.
+-- Row 10 by the live counts: the orders that a table holds are as many as the session says.
 use mathlib.Core.Path.{_≡_, sym, ap, _∙_}
 use Prim.Native.Nat.{ℕ}
 use mathlib.Core.Bool.{Bool}

@@ -1,4 +1,4 @@
--- The weighted average to the nearest tick means what document 01 says, and nothing wraps on the way. Assumes nothing.
+-- The weighted average to the nearest tick means what document 01 says, and nothing wraps on the way.
 use Prim.Native.Nat.{ℕ, _+_, _-_, _*_, _/_, _≤_, _<_}
 use native.Mathlib.Omega.{arith}
 use native.Mathlib.Nat.{mul-le-mul, mul-le-mul-left, mul-assoc, mul-comm, mul-mod-left, add-mul, one-mul, le-trans, div-mul-le-self, lt-div-mul-add, div-eq-of-lt-le}

@@ -1,5 +1,5 @@
 -- The ends of a band mean what document 01 says; both are inside, and so is the base; a greater percent gives a band that contains the
--- smaller one. Assumes nothing.
+-- smaller one.
 use Prim.Native.Nat.{ℕ, zero, suc, _+_, _-_, _*_, _/_, _%_, _≤_, _<_}
 use mathlib.Core.Path.{_≡_}
 use mathlib.Core.Bool.{true, false}

@@ -1,5 +1,5 @@
 -- The circulars' own numbers, computed from the definitions: the slabs and the cooling-off (001), the execution range (002), the mark (004),
--- the close (000); and the growth factors that document 01 prints. Assumes nothing.
+-- the close (000); and the growth factors that document 01 prints.
 use Prim.Native.Nat.{ℕ, zero, suc, _+_, _-_, _*_}
 use native.Mathlib.Omega.{arith}
 use mathlib.Core.Path.{_≡_, refl}

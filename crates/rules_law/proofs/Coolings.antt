@@ -1,4 +1,4 @@
--- The cooling-off: exactly what starts one, and from when on it is over. Assumes nothing.
+-- The cooling-off: exactly what starts one, and from when on it is over.
 use Prim.Native.Nat.{ℕ, _+_, _≤_, _<_}
 use native.Mathlib.Omega.{arith}
 use mathlib.Core.Path.{_≡_, refl}

@@ -1,5 +1,5 @@
 -- The growth factors, computed from their definition and tested once, entry by entry: each lies from 1,000,000,000 to 1,106,000,000,
--- so a theoretical price is 1 to 110,600,000. Factor and price are rounded down. Assumes nothing.
+-- so a theoretical price is 1 to 110,600,000. Factor and price are rounded down.
 use Prim.Native.Nat.{ℕ, zero, suc, _+_, _*_, _^_, _≤_, _<_}
 use native.Mathlib.Omega.{arith}
 use native.Mathlib.Nat.{mul-le-mul}

@@ -1,5 +1,5 @@
 -- The boundaries of minutes: what one makes of the reference, that two steps of time are one, and that a second boundary without trades
--- settles it. Assumes nothing.
+-- settles it.
 use Prim.Native.Nat.{ℕ, zero, suc, _+_, _-_, _*_, _/_, _≤_, _<_}
 use native.Mathlib.Omega.{arith}
 use native.Mathlib.Nat.{zero-add, suc-add, add-mul, one-mul, div-mul-le-self, lt-div-mul-add}

@@ -1,5 +1,5 @@
 -- The range on both sides of the reference; the range and the mark as code tests them, by whole paise: for any price, without a product
--- that could wrap. Assumes nothing.
+-- that could wrap.
 use Prim.Native.Nat.{ℕ, _+_, _-_, _*_, _/_, _≤_, _<_}
 use native.Mathlib.Omega.{arith}
 use native.Mathlib.Nat.{mul-le-mul}

@@ -1,4 +1,4 @@
--- The table of slabs: no percent is large. Assumes nothing.
+-- The table of slabs: no percent is large.
 use Prim.Native.Nat.{_+_, _≤_}
 use lib.Dec.{lit≤}
 use Rattle.terms.specs.declared.Category.{Category}

@@ -1,4 +1,4 @@
--- The tape: ten numbers as an array holds them, the last of them, and the last ten added up. Assumes nothing.
+-- The tape: ten numbers as an array holds them, the last of them, and the last ten added up.
 use Prim.Native.Nat.{ℕ, zero, suc, _+_, _-_, _*_, _≤_, _<_}
 use native.Mathlib.Omega.{arith}
 use native.Mathlib.Nat.{mul-le-mul-right, min-eq-left, min-eq-right}

@@ -1,5 +1,5 @@
 // soundness: whether a session that is handed in is sound, with the orders that its tables hold.
-// It may use audit, state and soundness_law, and what these use. It promises: the answer IS document 01's paragraph, of any numbers
+// It may use book_sound, state and soundness_law, and what these use. It promises: the answer IS document 01's paragraph, of any numbers
 // whatever and of any tables that are long enough; nothing is written.
 
 pub mod numbers;

@@ -1,4 +1,4 @@
--- The day that a session and two tables hold: its orders are as many as the session says. Assumes nothing.
+-- The day that a session and two tables hold: its orders are as many as the session says.
 use Prim.Native.Nat.{ℕ}
 use mathlib.Core.Path.{_≡_, sym}
 use mathlib.Core.Bool.{Bool, true, false, not}

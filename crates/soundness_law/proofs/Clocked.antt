@@ -1,4 +1,4 @@
--- A sound session as facts: what the engine's sums and products rely on. Assumes nothing.
+-- A sound session as facts: what the engine's sums and products rely on.
 use Prim.Native.Nat.{ℕ, _*_, _≤_, _<_}
 use native.Mathlib.Omega.{arith}
 use native.Mathlib.Nat.{min-eq-left}

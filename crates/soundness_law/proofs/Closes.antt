@@ -1,5 +1,5 @@
 -- The closing prices of a sound session are small: an average is no greater than the greatest price, but for the tick to which it is
--- rounded. The session's array holds ten prices, and a trade leaves it so. Assumes nothing.
+-- rounded. The session's array holds ten prices, and a trade leaves it so.
 use Prim.Native.Nat.{ℕ, zero, suc, _+_, _-_, _*_, _≤_}
 use native.Mathlib.Omega.{arith}
 use native.Mathlib.Nat.{zero-mul, div-zero, add-mul, mul-comm, mul-le-mul-right, le-of-mul-le-mul-right, min-eq-left}

@@ -1,4 +1,4 @@
--- A sound day taken apart and put together: the numbers of its session, the live counts, the book. Assumes nothing.
+-- A sound day taken apart and put together: the numbers of its session, the live counts, the book.
 use Prim.Native.Nat.{ℕ, _+_, _-_, _*_, _≤_}
 use native.Mathlib.Omega.{arith}
 use native.Mathlib.Nat.{mul-le-mul}

@@ -1,4 +1,4 @@
--- Clock steps, trades and the setting of a field keep the numbers of a session sound. Assumes nothing.
+-- Clock steps, trades and the setting of a field keep the numbers of a session sound.
 use Prim.Native.Nat.{ℕ, zero, suc, _+_, _-_, _*_, _/_, _%_, _≤_, _<_, min}
 use native.Mathlib.Omega.{arith}
 use native.Mathlib.Nat.{mul-le-mul-right, le-div-iff-mul-le, div-le-of-le-mul, mod-eq-of-lt, zero-mod}

@@ -1,4 +1,4 @@
--- A test of the numbers of an array, as loops make it: of the first n, left where one fails; of all, with no way out. Assumes nothing.
+-- A test of the numbers of an array, as loops make it: of the first n, left where one fails; of all, with no way out.
 use Prim.Native.Nat.{ℕ, zero, suc, _+_, _≤_, _<_}
 use native.Mathlib.Omega.{arith}
 use native.Mathlib.Numerals.{add-one}

@@ -1,5 +1,5 @@
 -- The numbers of a sound session as facts, taken from the tests and made into them again. Each part speaks of the plain values that it
--- is about, so that a change of other fields leaves it as it is. Assumes nothing.
+-- is about, so that a change of other fields leaves it as it is.
 use Prim.Native.Nat.{ℕ, _+_, _*_, _≤_}
 use mathlib.Core.Path.{_≡_}
 use mathlib.Core.Bool.{Bool, true, _||_}

@@ -1,4 +1,4 @@
--- What a day begins with: the promises of a run start from it; and what a refused opening leaves. Assumes nothing.
+-- What a day begins with: the promises of a run start from it; and what a refused opening leaves.
 use Prim.Native.Nat.{ℕ}
 use mathlib.Core.Path.{_≡_, refl}
 use mathlib.Core.Bool.{false}

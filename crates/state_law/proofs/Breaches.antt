@@ -1,5 +1,5 @@
 -- 001, paragraphs 6.3 and 7.2: "Once the initial slab limit is breached in any contract, then, after a cooling-off period of 15 minutes, this
--- limit shall be increased further by enhanced slab". A session that trades at an end of its band, and the clock steps after it. Assumes nothing.
+-- limit shall be increased further by enhanced slab". A session that trades at an end of its band, and the clock steps after it.
 use Prim.Native.Nat.{ℕ, _+_, _*_, _≤_, _<_}
 use native.Mathlib.Omega.{arith}
 use mathlib.Core.Path.{_≡_}

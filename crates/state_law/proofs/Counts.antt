@@ -1,4 +1,4 @@
--- What a trade adds to the session, and what a boundary of the minute makes of it: 002's reference and 000's half hour. Assumes nothing.
+-- What a trade adds to the session, and what a boundary of the minute makes of it: 002's reference and 000's half hour.
 use Prim.Native.Nat.{ℕ, _+_, _*_, _≤_, _<_}
 use native.Mathlib.Omega.{arith}
 use mathlib.Core.Path.{_≡_, refl, sym, ap}

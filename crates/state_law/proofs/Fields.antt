@@ -1,5 +1,5 @@
 -- A session with one field changed: that field, and no other. A day: its live counts, a side's own orders and those across. What is in force:
--- the range. Assumes nothing.
+-- the range.
 use mathlib.Core.Path.{_≡_, refl}
 use mathlib.Core.List.{List}
 use lib.ListN.{length}

@@ -1,4 +1,4 @@
--- A trade leaves room for one trade less, and the band as it was. Assumes nothing.
+-- A trade leaves room for one trade less, and the band as it was.
 use Prim.Native.Nat.{ℕ, _+_, _*_, _≤_}
 use native.Mathlib.Omega.{arith}
 use native.Mathlib.Nat.{mul-le-mul-right}

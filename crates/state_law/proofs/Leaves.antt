@@ -1,4 +1,4 @@
--- What the clock steps and trades leave as it was. Assumes nothing.
+-- What the clock steps and trades leave as it was.
 use Prim.Native.Nat.{ℕ, _+_}
 use borrow.Author.Tests.{eq-eqb, not-true}
 use mathlib.Core.Path.{_≡_, refl}

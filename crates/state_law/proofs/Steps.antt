@@ -1,4 +1,4 @@
--- The clock steps: two are one, and none of them narrows the band. Assumes nothing.
+-- The clock steps: two are one, and none of them narrows the band.
 use Prim.Native.Nat.{ℕ, _+_, _≤_}
 use native.Mathlib.Omega.{arith}
 use mathlib.Core.Path.{_≡_}

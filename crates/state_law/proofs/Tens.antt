@@ -1,4 +1,4 @@
--- The arrays of a session have ten numbers when it is opened, and after each trade. Assumes nothing.
+-- The arrays of a session have ten numbers when it is opened, and after each trade.
 use Prim.Native.Nat.{ℕ}
 use native.Mathlib.Omega.{arith}
 use mathlib.Core.Path.{_≡_, refl, _∙_}

@@ -1,4 +1,4 @@
--- A read behind what is kept. Assumes nothing.
+-- A read behind what is kept.
 use Prim.Native.Nat.{ℕ, _+_, _-_, _≤_}
 use native.Mathlib.Omega.{arith}
 use mathlib.Core.Path.{_≡_, ap, _∙_, subst}

@@ -1,4 +1,4 @@
--- Bytes that are the first of others. Assumes nothing.
+-- Bytes that are the first of others.
 use Prim.Native.Nat.{ℕ, suc, _+_, _-_, _≤_, _<_}
 use native.Mathlib.Omega.{arith}
 use native.Mathlib.Nat.{le-of-eq, le-of-lt}

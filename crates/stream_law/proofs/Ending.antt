@@ -1,4 +1,4 @@
--- The end of the input. Assumes nothing.
+-- The end of the input.
 use Prim.Native.Nat.{ℕ, _-_}
 use mathlib.Core.Path.{_≡_, refl, sym, subst}
 use mathlib.Core.Bool.{Bool, true, false, true≢false}

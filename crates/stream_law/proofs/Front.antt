@@ -1,4 +1,4 @@
--- Bytes of a buffer moved to its front. Assumes nothing.
+-- Bytes of a buffer moved to its front.
 use Prim.Native.Nat.{ℕ, zero, suc, _+_, _-_, _≤_, _<_}
 use native.Mathlib.Omega.{arith}
 use native.Mathlib.Nat.{add-comm}

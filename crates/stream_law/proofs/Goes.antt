@@ -1,4 +1,4 @@
--- From one standing to the next. Assumes nothing.
+-- From one standing to the next.
 use Prim.Native.Nat.{ℕ, _+_, _-_, _≤_, _<_}
 use native.Mathlib.Omega.{arith}
 use native.Mathlib.Nat.{le-of-eq}

@@ -1,4 +1,4 @@
--- The lines of some bytes, one call of feed after the other; and a buffer whose bytes are handed over. Assumes nothing.
+-- The lines of some bytes, one call of feed after the other; and a buffer whose bytes are handed over.
 use Prim.Native.Nat.{ℕ, _+_, _-_, _≤_, _<_}
 use native.Mathlib.Omega.{arith}
 use mathlib.Core.Path.{_≡_, refl, sym, ap, _∙_, subst}

@@ -1,4 +1,4 @@
--- Reads, one after the other, and what came of them. Assumes nothing.
+-- Reads, one after the other, and what came of them.
 use Prim.Native.Nat.{ℕ, _+_, _≤_}
 use native.Mathlib.Omega.{arith}
 use mathlib.Core.Path.{_≡_, refl, sym, ap, _∙_, subst}

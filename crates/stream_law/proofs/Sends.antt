@@ -1,4 +1,4 @@
--- What is sent in parts stands as what is sent whole. Assumes nothing.
+-- What is sent in parts stands as what is sent whole.
 use Prim.Native.Nat.{ℕ, _+_}
 use native.Mathlib.Omega.{arith}
 use native.Mathlib.Nat.{zero-add, add-assoc}

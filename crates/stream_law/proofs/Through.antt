@@ -1,4 +1,4 @@
--- A whole run, from the start to the end. Assumes nothing.
+-- A whole run, from the start to the end.
 use Prim.Native.Nat.{ℕ, _-_}
 use native.Mathlib.Omega.{arith}
 use mathlib.Core.Path.{_≡_, refl, sym, ap, _∙_, subst}

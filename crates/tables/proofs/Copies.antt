@@ -1,4 +1,4 @@
--- Loops that write a run number by number: how they begin, a turn, and their end. Assumes nothing.
+-- Loops that write a run number by number: how they begin, a turn, and their end.
 use Prim.Native.Nat.{ℕ, zero, suc, _+_, _-_, _≤_, _<_}
 use native.Mathlib.Omega.{arith}
 use native.Mathlib.Nat.{add-suc, add-zero, not-suc-le-zero, le-refl}

@@ -1,4 +1,4 @@
--- The laws of `put`, a run of numbers written over a part of a list. Assumes nothing.
+-- The laws of `put`, a run of numbers written over a part of a list.
 use Prim.Native.Nat.{ℕ, zero, suc, _+_, _≤_, _<_}
 use native.Mathlib.Omega.{arith}
 use native.Mathlib.Nat.{zero-add, suc-add, not-suc-le-zero, le-of-suc-le-suc}

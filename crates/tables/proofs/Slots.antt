@@ -1,4 +1,4 @@
--- Orders as numbers and back. Assumes nothing.
+-- Orders as numbers and back.
 use Prim.Native.Nat.{ℕ, zero, suc, _+_, _*_, _≤_, _<_}
 use native.Mathlib.Omega.{arith}
 use native.Mathlib.Nat.{not-suc-le-zero, le-of-suc-le-suc}

@@ -1,4 +1,4 @@
--- A side's whole table: what `tableOf` keeps, and orders taken out, put in and changed. Assumes nothing.
+-- A side's whole table: what `tableOf` keeps, and orders taken out, put in and changed.
 use Prim.Native.Nat.{ℕ, _+_, _-_, _*_, _≤_, _<_}
 use native.Mathlib.Omega.{arith}
 use native.Mathlib.Nat.{add-zero}

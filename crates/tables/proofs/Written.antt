@@ -1,4 +1,4 @@
--- Reports as records: written one behind the other, and six numbers written in two runs. Assumes nothing.
+-- Reports as records: written one behind the other, and six numbers written in two runs.
 use Prim.Native.Nat.{ℕ, _+_, _*_, _≤_}
 use native.Mathlib.Omega.{arith}
 use mathlib.Core.Path.{_≡_, refl, sym}

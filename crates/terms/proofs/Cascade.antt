@@ -1,4 +1,4 @@
--- A cascade of refusals, a `return` at a time: `search cascade depth 14` answers each. Assumes nothing.
+-- A cascade of refusals, a `return` at a time: `search cascade depth 14` answers each.
 use Prim.Native.Nat.{ℕ}
 use native.Mathlib.Omega.{arith}
 use mathlib.Core.Path.{_≡_, refl}

@@ -1,4 +1,4 @@
--- Laws of tests that every crate uses. Assumes nothing.
+-- Laws of tests that every crate uses.
 use Prim.Native.Nat.{ℕ, _≤_}
 use mathlib.Core.Path.{_≡_, refl, sym}
 use mathlib.Core.Bool.{Bool, true, false, cond, _&&_, _||_, not, false≢true, true≢false}

@@ -1,4 +1,4 @@
--- A price is a multiple of the tick just where the product with the factor, over the scale, comes back to it. Assumes nothing.
+-- A price is a multiple of the tick just where the product with the factor, over the scale, comes back to it.
 use Prim.Native.Nat.{ℕ, _+_, _-_, _*_, _/_, _%_, _≤_, _<_}
 use native.Mathlib.Omega.{arith}
 use native.Mathlib.Nat.{mul-le-mul, mul-le-mul-left, mul-mod-left, div-le-self, div-add-mod', mod-lt, add-mul, one-mul, mul-assoc, mul-comm, mul-add}

@@ -1,4 +1,4 @@
--- How long records are. Assumes nothing.
+-- How long records are.
 use Prim.Native.Nat.{_*_}
 use native.Mathlib.Omega.{arith}
 use mathlib.Core.Path.{_≡_, refl}

@@ -1,4 +1,4 @@
--- Every refusal has its number in the paper's table, so a verdict has number 0 only where nothing applies. Assumes nothing.
+-- Every refusal has its number in the paper's table, so a verdict has number 0 only where nothing applies.
 use Prim.Native.Nat.{_≤_}
 use native.Mathlib.Omega.{arith}
 use mathlib.Core.Path.{_≡_, refl}

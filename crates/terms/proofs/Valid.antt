@@ -1,4 +1,4 @@
--- Settings judged: what passes 12 and 13, and that 12 comes before 13. Assumes nothing.
+-- Settings judged: what passes 12 and 13, and that 12 comes before 13.
 use Prim.Native.Nat.{ℕ}
 use native.Mathlib.Omega.{arith}
 use mathlib.Core.Path.{_≡_}

@@ -1,5 +1,4 @@
 -- `journal::line_at` meets its contract: a walk of its MIR, by hand. A walker is made, moved to the place, and asked for its line.
--- Assumes nothing.
 use mathlib.Core.Path.{_≡_, refl, ap, _∙_}
 use Prim.Native.Nat.{ℕ, _<_, _^_}
 use mathlib.Core.List.{List, [], _∷_}
