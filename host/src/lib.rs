@@ -45,8 +45,9 @@ impl Session {
         Ok(day)
     }
 
-    /// Takes up a day that was kept as numbers. Whatever they are, the calls stay safe: numbers that are no sound session are
-    /// refused by 2.
+    /// Takes up a day that was kept as numbers, all three of one moment. Whatever they are, the calls stay safe: numbers that are no
+    /// sound session are refused by 2. But numbers of two moments can pass for sound, and then orders that have traded rest again:
+    /// after the system has killed the app, come back by the saved lines ([`Desk`]) and not by stored numbers.
     pub fn resume(session: [u64; SESSION], buys: [u64; TABLE], sells: [u64; TABLE]) -> Box<Session> {
         Box::new(Session { session, buys, sells, room: [0; ROOM] })
     }
