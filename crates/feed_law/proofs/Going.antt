@@ -112,14 +112,6 @@ module _ {W : Type 0} (on : World W) where
         (more left stage w xs _ z (fed-by n (left - length (t .text)) (t .stage) (t .world) (drop (t .used) xs) a)))))
         (λ e. let k = ltb-false 0 (length xs) e in subst (P left stage w xs) (sym (fed-none (suc n) left stage w xs k)) (none left stage w xs k))
 
--- a turn on lent numbers takes no more bytes than there are, and prints no more than there is room for
-pub bounded : (run : Run) (buys sells room bytes : List ℕ) {out buys′ sells′ room′ out′ : List ℕ} {r : Turned} →
-    TurnedAs (turnBy run buys sells room bytes) out buys′ sells′ room′ out′ r → length out′ ≡ length out →
-    TurnedAs (turnBy run buys sells room bytes) out buys′ sells′ room′ out′ r × (r .used ≤ length bytes) × (r .wrote ≤ length out)
-bounded run buys sells room bytes k kept =
-    let w = turn-within calls (run .stage) (lentOf (run .session) buys sells room) bytes in
-    (k, rw (k .used) w, prints-within (k .printed) kept)
-
 -- ---- the loop
 
 -- what was taken and printed before, and then the rest

@@ -33,8 +33,9 @@ use Rattle.feed_law.specs.declared.Turned.{Turned}
 use Rattle.feed_law.specs.Texts.{textMost, mostAt, recordsText, refusedText, eventText, badText}
 use Rattle.feed_law.specs.Worlds.{Lent, lentOf, calls}
 use Rattle.feed_law.specs.Turns.{Turn, stageBy, ends, openTurn, settingsTurn, eventTurn, turnOf}
-use Rattle.feed_law.specs.Feeds.{Prints, turnBy, turnedTo, TurnedAs, TablesAside}
-use Rattle.feed_law.proofs.Prints.{records-line}
+use Rattle.feed_law.specs.Feeds.{Prints, turnBy, turnedTo, TurnedAs, TablesAside, SettingsTurned, EventTurned, TurnTaken}
+use Rattle.feed_law.proofs.Prints.{records-line, prints-within}
+use Rattle.feed_law.proofs.Going.{turn-within}
 
 -- ---- a turn's parts, each as it has to be
 
@@ -82,51 +83,55 @@ module _ (g : Settings) (o : Opened) (used : ℕ) (opened : o ≡ openingOf g) w
   opens-refused q v p e buys sells room = turned-as e (sym (ap stageBy (judged v))) (kept buys sells room) refl (rw (judged v) p)
 
 -- what the reader answers decides
-module _ (session : Session) (bytes : List ℕ) (a : ReadSettings) (read : SettingsRead bytes a) where
-  abbrev First : List ℕ → List ℕ → Turned → Type 0
-  First out out′ r = TablesAside session (λ l. settingsTurn calls l (readSettings bytes)) out out′ r
-
+module _ {session : Session} {bytes : List ℕ} {a : ReadSettings} (read : SettingsRead bytes a) where
   by-settings : {out out′ : List ℕ} {r : Turned} (o : Answer Settings) → settingsAnswer a ≡ o →
-      TablesAside session (λ l. settingsTurn calls l o) out out′ r → First out out′ r
-  by-settings {out} {out′} {r} o e k buys sells room =
-      subst (λ (x : Answer Settings). TurnedAs (settingsTurn calls (lentOf session buys sells room) x) out buys sells room out′ r)
-      (sym e ∙ settings-told bytes a read) (k buys sells room)
+      TablesAside session (λ l. settingsTurn calls l o) out out′ r → SettingsTurned session bytes out out′ r
+  by-settings {out} {out′} {r} o e k =
+      record {
+        turned =
+            λ buys sells room.
+            subst (λ (x : Answer Settings). TurnedAs (settingsTurn calls (lentOf session buys sells room) x) out buys sells room out′ r)
+            (sym e ∙ settings-told bytes a read) (k buys sells room);
+      }
 
-  pub settings-whole : {out out′ : List ℕ} {r : Turned} (g : Settings) (n : ℕ) → a ≡ ReadSettings.Whole g n →
-      TablesAside fixedSession (λ l. openTurn calls l n (openingOf g)) out out′ r → First out out′ r
+  pub settings-whole : {out out′ : List ℕ} {r : Turned} {g : Settings} {n : ℕ} → a ≡ ReadSettings.Whole g n →
+      TablesAside fixedSession (λ l. openTurn calls l n (openingOf g)) out out′ r → SettingsTurned session bytes out out′ r
   unfolding calls
-  settings-whole g n e k = by-settings (whole g n) (ap settingsAnswer e) k
+  settings-whole {g = g} {n = n} e k = by-settings (whole g n) (ap settingsAnswer e) k
 
-  pub settings-unfinished : {out : List ℕ} {r : Turned} → a ≡ ReadSettings.Unfinished → r ≡ turnedTo Stage.Awaiting session 0 0 → First out out r
+  pub settings-unfinished : {out : List ℕ} {r : Turned} → a ≡ ReadSettings.Unfinished → r ≡ turnedTo Stage.Awaiting session 0 0 →
+      SettingsTurned session bytes out out r
   settings-unfinished {out} e q = by-settings unfinished (ap settingsAnswer e) (λ buys sells room. turned-as q refl refl refl (nothing out))
 
-  pub settings-wrong : {out out′ : List ℕ} {r : Turned} (n : ℕ) → a ≡ ReadSettings.Wrong n → TablesAside session (λ l. ends calls l n) out out′ r → First out out′ r
-  settings-wrong n e k = by-settings (wrong n) (ap settingsAnswer e) k
+  pub settings-wrong : {out out′ : List ℕ} {r : Turned} {n : ℕ} → a ≡ ReadSettings.Wrong n → TablesAside session (λ l. ends calls l n) out out′ r →
+      SettingsTurned session bytes out out′ r
+  settings-wrong {n = n} e k = by-settings (wrong n) (ap settingsAnswer e) k
 
 -- ---- events
 
-module _ (session : Session) (bytes buys sells room : List ℕ) (a : ReadEvent) (read : EventRead bytes a) where
-  abbrev l : Lent
-  l = lentOf session buys sells room
-
-  abbrev Later : List ℕ → List ℕ → List ℕ → List ℕ → List ℕ → Turned → Type 0
-  Later out buys′ sells′ room′ out′ r = TurnedAs (eventTurn calls l (readEvent bytes)) out buys′ sells′ room′ out′ r
-
+module _ {session : Session} {bytes buys sells room : List ℕ} {a : ReadEvent} (read : EventRead bytes a) where
   by-event : {out buys′ sells′ room′ out′ : List ℕ} {r : Turned} (o : Answer Event) → eventAnswer a ≡ o →
-      TurnedAs (eventTurn calls l o) out buys′ sells′ room′ out′ r → Later out buys′ sells′ room′ out′ r
+      TurnedAs (eventTurn calls (lentOf session buys sells room) o) out buys′ sells′ room′ out′ r →
+      EventTurned session bytes buys sells room out buys′ sells′ room′ out′ r
   by-event {out} {buys′} {sells′} {room′} {out′} {r} o e k =
-      subst (λ (x : Answer Event). TurnedAs (eventTurn calls l x) out buys′ sells′ room′ out′ r) (sym e ∙ event-told bytes a read) k
+      record {
+        turned =
+            subst (λ (x : Answer Event). TurnedAs (eventTurn calls (lentOf session buys sells room) x) out buys′ sells′ room′ out′ r)
+            (sym e ∙ event-told bytes a read) k;
+      }
 
-  pub event-whole : {out buys′ sells′ room′ out′ : List ℕ} {r : Turned} (e : Event) (n : ℕ) → a ≡ ReadEvent.Whole e n →
-      TurnedAs (eventTurn calls l (whole e n)) out buys′ sells′ room′ out′ r → Later out buys′ sells′ room′ out′ r
-  event-whole e n q k = by-event (whole e n) (ap eventAnswer q) k
+  pub event-whole : {out buys′ sells′ room′ out′ : List ℕ} {r : Turned} {e : Event} {n : ℕ} → a ≡ ReadEvent.Whole e n →
+      TurnedAs (eventTurn calls (lentOf session buys sells room) (whole e n)) out buys′ sells′ room′ out′ r →
+      EventTurned session bytes buys sells room out buys′ sells′ room′ out′ r
+  event-whole {e = e} {n = n} q k = by-event (whole e n) (ap eventAnswer q) k
 
-  pub event-unfinished : {out : List ℕ} {r : Turned} → a ≡ ReadEvent.Unfinished → r ≡ turnedTo Stage.Trading session 0 0 → Later out buys sells room out r
+  pub event-unfinished : {out : List ℕ} {r : Turned} → a ≡ ReadEvent.Unfinished → r ≡ turnedTo Stage.Trading session 0 0 →
+      EventTurned session bytes buys sells room out buys sells room out r
   event-unfinished {out} q e = by-event unfinished (ap eventAnswer q) (turned-as e refl refl refl (nothing out))
 
-  pub event-wrong : {out out′ : List ℕ} {r : Turned} (n : ℕ) → a ≡ ReadEvent.Wrong n → TablesAside session (λ l. ends calls l n) out out′ r →
-      Later out buys sells room out′ r
-  event-wrong n q k = by-event (wrong n) (ap eventAnswer q) (k buys sells room)
+  pub event-wrong : {out out′ : List ℕ} {r : Turned} {n : ℕ} → a ≡ ReadEvent.Wrong n → TablesAside session (λ l. ends calls l n) out out′ r →
+      EventTurned session bytes buys sells room out buys sells room out′ r
+  event-wrong {n = n} q k = by-event (wrong n) (ap eventAnswer q) (k buys sells room)
 
 -- ---- an event that a call answers
 
@@ -198,13 +203,26 @@ most-awaiting e h = rw e at h
 pub most-trading : {stage : Stage} {n : ℕ} → stage ≡ Stage.Trading → mostAt stage ≤ n → textMost ≤ n
 most-trading e h = rw e at h
 
-module _ (run : Run) (buys sells room bytes : List ℕ) where
-  pub in-stage : {out buys′ sells′ room′ out′ : List ℕ} {r : Turned} (stage : Stage) → run .stage ≡ stage →
-      TurnedAs (turnOf calls stage (lentOf (run .session) buys sells room) bytes) out buys′ sells′ room′ out′ r →
-      TurnedAs (turnBy run buys sells room bytes) out buys′ sells′ room′ out′ r
-  in-stage {out} {buys′} {sells′} {room′} {out′} {r} stage e k =
-      subst (λ (x : Stage). TurnedAs (turnOf calls x (lentOf (run .session) buys sells room) bytes) out buys′ sells′ room′ out′ r) (sym e) k
+module _ {run : Run} {buys sells room bytes : List ℕ} where
+  in-stage : {out buys′ sells′ room′ out′ : List ℕ} {r : Turned} (stage : Stage) → run .stage ≡ stage →
+      TurnedAs (turnOf calls stage (lentOf (run .session) buys sells room) bytes) out buys′ sells′ room′ out′ r → length out′ ≡ length out →
+      TurnTaken run buys sells room bytes out buys′ sells′ room′ out′ r
+  in-stage {out} {buys′} {sells′} {room′} {out′} {r} stage e k kept =
+      let t : TurnedAs (turnBy run buys sells room bytes) out buys′ sells′ room′ out′ r =
+      subst (λ (x : Stage). TurnedAs (turnOf calls x (lentOf (run .session) buys sells room) bytes) out buys′ sells′ room′ out′ r) (sym e) k in
+      let w = turn-within calls (run .stage) (lentOf (run .session) buys sells room) bytes in
+      record { turned = t; used-there = rw (t .used) w; wrote-there = prints-within (t .printed) kept }
 
-  pub stays-over : {out : List ℕ} {r : Turned} → run .stage ≡ Stage.Over → r ≡ turnedTo Stage.Over (run .session) 0 0 →
-      TurnedAs (turnBy run buys sells room bytes) out buys sells room out r
-  stays-over {out} e q = in-stage Stage.Over e (turned-as q refl refl refl (nothing out))
+  -- by the line that is due
+  pub turn-settings : {out out′ : List ℕ} {r : Turned} → run .stage ≡ Stage.Awaiting → SettingsTurned (run .session) bytes out out′ r →
+      length out′ ≡ length out → TurnTaken run buys sells room bytes out buys sells room out′ r
+  turn-settings e k kept = in-stage Stage.Awaiting e (k .turned buys sells room) kept
+
+  pub turn-event : {out buys′ sells′ room′ out′ : List ℕ} {r : Turned} → run .stage ≡ Stage.Trading →
+      EventTurned (run .session) bytes buys sells room out buys′ sells′ room′ out′ r → length out′ ≡ length out →
+      TurnTaken run buys sells room bytes out buys′ sells′ room′ out′ r
+  turn-event e k kept = in-stage Stage.Trading e (k .turned) kept
+
+  pub turn-over : {out : List ℕ} {r : Turned} → run .stage ≡ Stage.Over → r ≡ turnedTo Stage.Over (run .session) 0 0 →
+      TurnTaken run buys sells room bytes out buys sells room out r
+  turn-over {out} e q = in-stage Stage.Over e (turned-as q refl refl refl (nothing out)) refl

@@ -10,6 +10,7 @@ use Rattle.terms.specs.Refusals.{unless, firstFailed}
 use Rattle.state_law.specs.declared.Session.{Session}
 use Rattle.state_law.specs.Opening.{fixedSession}
 use Rattle.engine_law.specs.Calls.{roomy}
+use Rattle.lines_reading_law.specs.Answers.{readEvent, readSettings}
 use Rattle.lines_writing_law.specs.declared.Wrote.{Wrote}
 use Rattle.feed_law.specs.declared.Run.{Run}
 use Rattle.feed_law.specs.declared.Stage.{Stage}
@@ -17,7 +18,7 @@ use Rattle.feed_law.specs.declared.Stop.{Stop}
 use Rattle.feed_law.specs.declared.Turned.{Turned}
 use Rattle.feed_law.specs.declared.Taken.{Taken}
 use Rattle.feed_law.specs.Worlds.{Lent, lentOf, calls}
-use Rattle.feed_law.specs.Turns.{Turn, turnOf, Fed, halted, fedIn, endBehind}
+use Rattle.feed_law.specs.Turns.{Turn, settingsTurn, eventTurn, turnOf, Fed, halted, fedIn, endBehind}
 
 -- text at the start of an output room, the rest of which is untouched
 abbrev pub laid : List ℕ → List ℕ → List ℕ
@@ -55,6 +56,18 @@ pub record TurnedAs (t : Turn Lent) (out buys′ sells′ room′ out′ : List 
 -- a turn that touches no table: so it is whatever they hold
 abbrev pub TablesAside : Session → (Lent → Turn Lent) → List ℕ → List ℕ → Turned → Type 0
 TablesAside s t out out′ r = (buys sells room : List ℕ) → TurnedAs (t (lentOf s buys sells room)) out buys sells room out′ r
+
+-- THE CONTRACTS of a line of settings, of an event's line, and of either
+pub record SettingsTurned (session : Session) (bytes out out′ : List ℕ) (r : Turned) : Type 0 where
+  pub turned : TablesAside session (λ l. settingsTurn calls l (readSettings bytes)) out out′ r
+
+pub record EventTurned (session : Session) (bytes buys sells room out buys′ sells′ room′ out′ : List ℕ) (r : Turned) : Type 0 where
+  pub turned : TurnedAs (eventTurn calls (lentOf session buys sells room) (readEvent bytes)) out buys′ sells′ room′ out′ r
+
+pub record TurnTaken (run : Run) (buys sells room bytes out buys′ sells′ room′ out′ : List ℕ) (r : Turned) : Type 0 where
+  pub turned : TurnedAs (turnBy run buys sells room bytes) out buys′ sells′ room′ out′ r
+  pub used-there : r .used ≤ length bytes
+  pub wrote-there : r .wrote ≤ length out
 
 -- ---- all lines
 

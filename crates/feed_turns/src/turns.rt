@@ -18,12 +18,11 @@ ghost use mathlib.Core.Path.{_≡_};
 ghost use lib.ListN.{length};
 ghost use Rattle.terms.specs.Sizes.{lineRoom};
 ghost use Rattle.lines_text_law.specs.Grammar.{whole};
-ghost use Rattle.lines_reading_law.specs.Answers.{readSettings, readEvent};
 ghost use Rattle.state_law.specs.Opening.{openingOf, fixedSession};
 ghost use Rattle.feed_law.specs.Texts.{textMost, mostAt};
 ghost use Rattle.feed_law.specs.Worlds.{lentOf, calls};
-ghost use Rattle.feed_law.specs.Turns.{ends, openTurn, settingsTurn, eventTurn};
-ghost use Rattle.feed_law.specs.Feeds.{turnBy, turnedTo, TurnedAs, TablesAside};
+ghost use Rattle.feed_law.specs.Turns.{ends, openTurn, eventTurn};
+ghost use Rattle.feed_law.specs.Feeds.{turnedTo, TurnedAs, TablesAside, SettingsTurned, EventTurned, TurnTaken};
 
 // Where a run stands after a line.
 fn turned(stage: Stage, session: Session, used: usize, wrote: usize) -> Turned
@@ -68,7 +67,7 @@ fn opens(settings: Settings, used: usize, out: &mut [u8]) -> Turned
 // The line of settings that a run begins with.
 fn settings_line(session: Session, bytes: &[u8], out: &mut [u8]) -> Turned
     requires { ⌜ lineRoom ≤ length (now out) ⌝ }
-    ensures { λ r. ⌜ TablesAside session (λ l. settingsTurn calls l (readSettings (now (bytes .entry)))) (now (out .entry)) (now (out .exit)) r ⌝ }
+    ensures { λ r. ⌜ SettingsTurned session (now (bytes .entry)) (now (out .entry)) (now (out .exit)) r ⌝ }
 {
     match lines_reading::read_settings(bytes) {
         ReadSettings::Whole(settings, used) => opens(settings, used, out),
@@ -116,7 +115,7 @@ fn event_line(
     out: &mut [u8],
 ) -> Turned
     requires { ⌜ textMost ≤ length (now out) ⌝ }
-    ensures { λ r. ⌜ TurnedAs (eventTurn calls (lentOf session (now (buys .entry)) (now (sells .entry)) (now (room .entry))) (readEvent (now (bytes .entry)))) (now (out .entry)) (now (buys .exit)) (now (sells .exit)) (now (room .exit)) (now (out .exit)) r ⌝ }
+    ensures { λ r. ⌜ EventTurned session (now (bytes .entry)) (now (buys .entry)) (now (sells .entry)) (now (room .entry)) (now (out .entry)) (now (buys .exit)) (now (sells .exit)) (now (room .exit)) (now (out .exit)) r ⌝ }
 {
     match lines_reading::read_event(bytes) {
         ReadEvent::Whole(event, used) => goes(session, event, used, buys, sells, room, out),
@@ -135,7 +134,7 @@ pub fn turn(
     out: &mut [u8],
 ) -> Turned
     requires { ⌜ mostAt (run .stage) ≤ length (now out) ⌝ }
-    ensures { λ r. ⌜ TurnedAs (turnBy run (now (buys .entry)) (now (sells .entry)) (now (room .entry)) (now (bytes .entry))) (now (out .entry)) (now (buys .exit)) (now (sells .exit)) (now (room .exit)) (now (out .exit)) r × (r .used ≤ length (now (bytes .entry))) × (r .wrote ≤ length (now (out .entry))) ⌝ }
+    ensures { λ r. ⌜ TurnTaken run (now (buys .entry)) (now (sells .entry)) (now (room .entry)) (now (bytes .entry)) (now (out .entry)) (now (buys .exit)) (now (sells .exit)) (now (room .exit)) (now (out .exit)) r ⌝ }
 {
     let stage = run.stage;
     let session = run.session;

@@ -1,53 +1,54 @@
 use borrow.Author.Needs.{needs}
-use denote.Ref.{now}
 use Rattle.feed_law.proofs.Taking.{event-whole, event-unfinished, event-wrong}
 use Rattle.feed_turns.proofs.turns.event_line.Statement.{statement}
 use Rattle.feed_turns.proofs.turns.event_line.Tie as tie
 
+ruleset answers = (needs, event-whole, event-unfinished, event-wrong)
+
 read-event-requires : tie.Need-read-event-requires
-read-event-requires c κs = search needs
+read-event-requires c κs = search answers
 
 enum-known-event : tie.Need-enum-known-event
-enum-known-event c = search needs
+enum-known-event c = search answers
 
 goes-requires : tie.Need-goes-requires
-goes-requires c κs = search needs
+goes-requires c κs = search answers
 
 enum-told : tie.Need-enum-told
-enum-told c = search needs
+enum-told c = search answers
 
 turned-requires : tie.Need-turned-requires
-turned-requires c κs = search needs
+turned-requires c κs = search answers
 
 enum-known-place : tie.Need-enum-known-place
-enum-known-place c = search needs
+enum-known-place c = search answers
 
 bad-line-requires : tie.Need-bad-line-requires
-bad-line-requires c κs = search needs
+bad-line-requires c κs = search answers
 
 same-length : tie.Need-same-length
-same-length c = search needs
+same-length c = search answers
 
 same-length-2 : tie.Need-same-length-2
-same-length-2 c = search needs
+same-length-2 c = search answers
 
 same-length-3 : tie.Need-same-length-3
-same-length-3 c = search needs
+same-length-3 c = search answers
 
 same-length-4 : tie.Need-same-length-4
-same-length-4 c = search needs
+same-length-4 c = search answers
 
 returns : tie.Need-returns
-returns c = event-whole (c .before .before .before .before .before .before .before .before .before .before .before .before .before .before .before .before .before .before .before .before .before .before .args .session) (now (c .before .before .before .before .before .before .before .before .before .before .before .before .before .before .before .before .before .before .before .before .before .before .args .bytes)) (now (c .before .before .before .before .before .before .before .before .before .before .before .before .before .before .before .before .before .before .before .before .before .before .args .buys)) (now (c .before .before .before .before .before .before .before .before .before .before .before .before .before .before .before .before .before .before .before .before .before .before .args .sells)) (now (c .before .before .before .before .before .before .before .before .before .before .before .before .before .before .before .before .before .before .before .before .before .before .args .room)) _ (c .before .before .before .before .before .before .before .before .before .before .before .before .before .before .before .before .read-event .ensures) _ _ (c .before .before .before .before .before .before .before .before .before .before .before .before .before .before .event .given .1) (c .before .before .before .before .before .before .before .before .goes .ensures)
+returns c = search answers
 
 returns-2 : tie.Need-returns-2
-returns-2 c = event-unfinished (c .before .before .before .before .before .before .before .before .before .args .session) (now (c .before .before .before .before .before .before .before .before .before .args .bytes)) (now (c .before .before .before .before .before .before .before .before .before .args .buys)) (now (c .before .before .before .before .before .before .before .before .before .args .sells)) (now (c .before .before .before .before .before .before .before .before .before .args .room)) _ (c .before .before .before .read-event .ensures) (c .before .enum-told .given .1) (c .turned .ensures)
+returns-2 c = search answers
 
 same-length-5 : tie.Need-same-length-5
-same-length-5 c = search needs
+same-length-5 c = search answers
 
 returns-3 : tie.Need-returns-3
-returns-3 c = event-wrong (c .before .before .before .before .before .before .before .before .before .before .before .before .before .args .session) (now (c .before .before .before .before .before .before .before .before .before .before .before .before .before .args .bytes)) (now (c .before .before .before .before .before .before .before .before .before .before .before .before .before .args .buys)) (now (c .before .before .before .before .before .before .before .before .before .before .before .before .before .args .sells)) (now (c .before .before .before .before .before .before .before .before .before .before .before .before .before .args .room)) _ (c .before .before .before .before .before .before .before .read-event .ensures) _ (c .before .before .before .before .before .place .given .1) (c .before .before .bad-line .ensures)
+returns-3 c = search answers
 
 pub event-line-spec : {M : Type 1} → statement M
 event-line-spec =

@@ -1,44 +1,45 @@
 use borrow.Author.Needs.{needs}
-use denote.Ref.{now}
 use Rattle.feed_law.proofs.Taking.{settings-whole, settings-unfinished, settings-wrong}
 use Rattle.feed_turns.proofs.turns.settings_line.Statement.{statement}
 use Rattle.feed_turns.proofs.turns.settings_line.Tie as tie
 
+ruleset answers = (needs, settings-whole, settings-unfinished, settings-wrong)
+
 read-settings-requires : tie.Need-read-settings-requires
-read-settings-requires c κs = search needs
+read-settings-requires c κs = search answers
 
 enum-known-settings : tie.Need-enum-known-settings
-enum-known-settings c = search needs
+enum-known-settings c = search answers
 
 opens-requires : tie.Need-opens-requires
-opens-requires c κs = search needs
+opens-requires c κs = search answers
 
 enum-told : tie.Need-enum-told
-enum-told c = search needs
+enum-told c = search answers
 
 turned-requires : tie.Need-turned-requires
-turned-requires c κs = search needs
+turned-requires c κs = search answers
 
 enum-known-place : tie.Need-enum-known-place
-enum-known-place c = search needs
+enum-known-place c = search answers
 
 bad-line-requires : tie.Need-bad-line-requires
-bad-line-requires c κs = search needs
+bad-line-requires c κs = search answers
 
 same-length : tie.Need-same-length
-same-length c = search needs
+same-length c = search answers
 
 returns : tie.Need-returns
-returns c = settings-whole (c .before .before .before .before .before .before .before .before .before .before .args .session) (now (c .before .before .before .before .before .before .before .before .before .before .args .bytes)) _ (c .before .before .before .before .before .before .before .read-settings .ensures) _ _ (c .before .before .before .before .before .settings .given .1) (c .before .before .opens .ensures)
+returns c = search answers
 
 returns-2 : tie.Need-returns-2
-returns-2 c = settings-unfinished (c .before .before .before .before .before .before .args .session) (now (c .before .before .before .before .before .before .args .bytes)) _ (c .before .before .before .read-settings .ensures) (c .before .enum-told .given .1) (c .turned .ensures)
+returns-2 c = search answers
 
 same-length-2 : tie.Need-same-length-2
-same-length-2 c = search needs
+same-length-2 c = search answers
 
 returns-3 : tie.Need-returns-3
-returns-3 c = settings-wrong (c .before .before .before .before .before .before .before .before .before .before .args .session) (now (c .before .before .before .before .before .before .before .before .before .before .args .bytes)) _ (c .before .before .before .before .before .before .before .read-settings .ensures) _ (c .before .before .before .before .before .place .given .1) (c .before .before .bad-line .ensures)
+returns-3 c = search answers
 
 pub settings-line-spec : {M : Type 1} → statement M
 settings-line-spec =
