@@ -102,15 +102,15 @@ module _ (d : Day) (time settle : ℕ) where
 -- is, and so do the percent and the reference
 pub record Closed (d : Day) (time : ℕ) (d′ : Day) : Type 0 where
   pub orders : (d′ .buys ≡ []) × (d′ .sells ≡ [])
-  pub live : (d′ .session .buys ≡ 0) × (d′ .session .sells ≡ 0)
-  pub time-is : d′ .session .time ≡ time
-  pub closed : d′ .session .closed ≡ true
+  pub live : (d′ .session .live .buys ≡ 0) × (d′ .session .live .sells ≡ 0)
+  pub time-is : d′ .session .clock .time ≡ time
+  pub closed : d′ .session .clock .closed ≡ true
   pub settings : d′ .session .settings ≡ d .session .settings
-  pub widened : d′ .session .widened ≡ d .session .widened
-  pub cooling : d′ .session .cooling ≡ d .session .cooling
+  pub widened : d′ .session .clock .widened ≡ d .session .clock .widened
+  pub cooling : d′ .session .clock .cooling ≡ d .session .clock .cooling
   pub reckoning : d′ .session .reckoning ≡ d .session .reckoning
-  pub underlying : d′ .session .under ≡ d .session .under
-  pub given : d′ .session .given ≡ d .session .given
+  pub underlying : d′ .session .clock .under ≡ d .session .clock .under
+  pub given : d′ .session .live .given ≡ d .session .live .given
   pub tape : d′ .session .tape ≡ d .session .tape
 
 pub close-keeps : (d : Day) (time settle : ℕ) → Closed d time (act d (closeAt time settle) .day)

@@ -64,7 +64,7 @@ module _ (s : Session) (n : Entry) (nmine : ℕ) (mine : List ℕ) (ntheirs : �
   module _ (theirs′ room′ : List ℕ) (m : Met) (k : MetAs s n (decode ntheirs theirs) theirs room at theirs′ room′ m)
       (f : Remainder) (e : f ≡ remainderOf (fateFrom (n .life) (n .kind) band (m .last) (m .left) (m .out))) where
     abbrev accepted : List Report
-    accepted = reportAt (s .time) (Accept (s .given + 1)) ∷ tradeReports (s .time) (n .side) (s .given + 1) (sweepIn s n (decode ntheirs theirs) .fills)
+    accepted = reportAt (s .clock .time) (Accept (s .live .given + 1)) ∷ tradeReports (s .clock .time) (n .side) (s .live .given + 1) (sweepIn s n (decode ntheirs theirs) .fills)
 
     fate-is : fateBack f ≡ fateIn s n (sweepIn s n (decode ntheirs theirs))
     unfolding fateIn fateOf
@@ -84,7 +84,7 @@ module _ (s : Session) (n : Entry) (nmine : ℕ) (mine : List ℕ) (ntheirs : �
           place = λ p. g .place (places (n .life) (n .kind) band (m .last) (m .left) (m .out) (rw e at p));
         }
 
-    pub entered-as : (mine′ room″ : List ℕ) (p : Placed) → Settled (n .side) (s .time) (s .given + 1) (m .left) (fateBack f) (decode nmine mine) mine room′ (m .at) mine′ room″ p →
+    pub entered-as : (mine′ room″ : List ℕ) (p : Placed) → Settled (n .side) (s .clock .time) (s .live .given + 1) (m .left) (fateBack f) (decode nmine mine) mine room′ (m .at) mine′ room″ p →
         EnteredAs s n (decode nmine mine) (decode ntheirs theirs) mine theirs room at mine′ theirs′ room″ (record { session = m .session; mine = p .count; theirs = m .count; at = p .at })
     unfolding entered
     entered-as mine′ room″ p q =

@@ -81,7 +81,7 @@ pub record Known : Type 0 where
   pub cooling : ℕ
 
 abbrev pub knownOf : Session → Known
-knownOf s = record { band = bandNow s; reference = s .reckoning .reference; time = s .time; cooling = s .cooling }
+knownOf s = record { band = bandNow s; reference = s .reckoning .reference; time = s .clock .time; cooling = s .clock .cooling }
 
 -- the listener knows it
 pub record Knows (g : Settings) (l : Listener) (k : Known) : Type 0 where

@@ -85,13 +85,13 @@ closed-back (suc (suc n)) k = absurd (omega arith)
 -- the numbers of a session are a session's
 pub is-session : (s : Session) (rest : List ℕ) → isSession (sessionNumbers s ++ rest) ≡ true
 unfolding isSession sessionNumbers settingsNumbers
-is-session s rest = make (row-is (s .settings .category)) (flag-small (s .closed))
+is-session s rest = make (row-is (s .settings .category)) (flag-small (s .clock .closed))
 
 module _ (s : Session) (ten : Ten s) (rest : List ℕ) where
   same-session : sessionOf (sessionNumbers s ++ rest) ≡ s
   unfolding sessionOf sessionNumbers settingsFrom settingsNumbers
   same-session =
-      rw (category-back (s .settings .category), flag-back (s .closed), ten-all (s .tape .prices) (ten .prices), ten-all (s .tape .sizes) (ten .sizes))
+      rw (category-back (s .settings .category), flag-back (s .clock .closed), ten-all (s .tape .prices) (ten .prices), ten-all (s .tape .sizes) (ten .sizes))
 
   pub session-back : sessionFrom (sessionNumbers s ++ rest) ≡ s
   unfolding sessionFrom

@@ -46,21 +46,21 @@ packed s row closed =
     ∷ s .settings .length
     ∷ s .settings .days
     ∷ s .settings .under
-    ∷ s .time
+    ∷ s .clock .time
     ∷ closed
-    ∷ s .buys
-    ∷ s .sells
-    ∷ s .widened
-    ∷ s .cooling
+    ∷ s .live .buys
+    ∷ s .live .sells
+    ∷ s .clock .widened
+    ∷ s .clock .cooling
     ∷ s .reckoning .reference
     ∷ s .reckoning .minute .count
     ∷ s .reckoning .minute .sum
-    ∷ s .under
-    ∷ s .given
+    ∷ s .clock .under
+    ∷ s .live .given
     ∷ s .tape .trades
     ∷ (tenAt (s .tape .prices) 0 ++ (tenAt (s .tape .sizes) 0 ++ halfNumbers s))
 
-pub packed-right : (s : Session) (row closed : ℕ) → row ≡ rowOf (s .settings .category) → closed ≡ flag (s .closed) → packed s row closed ≡ sessionNumbers s
+pub packed-right : (s : Session) (row closed : ℕ) → row ≡ rowOf (s .settings .category) → closed ≡ flag (s .clock .closed) → packed s row closed ≡ sessionNumbers s
 unfolding sessionNumbers settingsNumbers
 packed-right s row closed e f = ap (λ (r : ℕ). packed s r closed) e ∙ ap (packed s (rowOf (s .settings .category))) f
 

@@ -19,17 +19,17 @@ flag false = 0
 -- from the time to the trades
 abbrev pub middleNumbers : Session → List ℕ
 middleNumbers s =
-    s .time
-    ∷ flag (s .closed)
-    ∷ s .buys
-    ∷ s .sells
-    ∷ s .widened
-    ∷ s .cooling
+    s .clock .time
+    ∷ flag (s .clock .closed)
+    ∷ s .live .buys
+    ∷ s .live .sells
+    ∷ s .clock .widened
+    ∷ s .clock .cooling
     ∷ s .reckoning .reference
     ∷ s .reckoning .minute .count
     ∷ s .reckoning .minute .sum
-    ∷ s .under
-    ∷ s .given
+    ∷ s .clock .under
+    ∷ s .live .given
     ∷ s .tape .trades
     ∷ []
 

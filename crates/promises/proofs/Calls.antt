@@ -48,7 +48,7 @@ calls-keep-orders g before later rs own rest h t n k =
     let e : Event = eventAt t (Enter n) in
     let d : Day = begins g in
     let x : Cut d before later e rs own rest h = cut-from g before later e rs own rest h k in
-    let id : ℕ = after d before .session .given + 1 in
+    let id : ℕ = after d before .session .live .given + 1 in
     record {
       number = id;
       given = ap accepts (x .told-own) ∙ accepted-number (after d before) t n (x .accepted);
@@ -60,7 +60,7 @@ calls-keep-orders g before later rs own rest h t n k =
 pub calls-give-in-order : CallsGiveInOrder
 calls-give-in-order g es rs h r =
     let f = run-from g es rs h r in
-    ap accepts (f .reports) ∙ counts-from (begins g) es (none-given g) ∙ ap (λ (d : Day). numbersTo (d .session .given)) (sym (f .day))
+    ap accepts (f .reports) ∙ counts-from (begins g) es (none-given g) ∙ ap (λ (d : Day). numbersTo (d .session .live .given)) (sym (f .day))
 
 -- ---- soundness
 

@@ -49,12 +49,12 @@ lots-kept g es id = empty-kept id (openedSession g) es
 pub order-kept : OrderKept
 order-kept g before later t n h =
     sym (run-asked (opened g) before later t n h)
-    ∙ lots-kept g (before ++ (record { time = t; act = Enter n } ∷ later)) (after (opened g) before .session .given + 1)
+    ∙ lots-kept g (before ++ (record { time = t; act = Enter n } ∷ later)) (after (opened g) before .session .live .given + 1)
 
 -- where no number is given yet
-pub counts-from : (d : Day) (es : List Event) → d .session .given ≡ 0 → accepts (told d es) ≡ numbersTo (after d es .session .given)
+pub counts-from : (d : Day) (es : List Event) → d .session .live .given ≡ 0 → accepts (told d es) ≡ numbersTo (after d es .session .live .given)
 unfolding numbersTo
-counts-from d es e = subst (λ (n : ℕ). numbersTo n ++ accepts (told d es) ≡ numbersTo (after d es .session .given)) e (run-counts d es)
+counts-from d es e = subst (λ (n : ℕ). numbersTo n ++ accepts (told d es) ≡ numbersTo (after d es .session .live .given)) e (run-counts d es)
 
 pub given-in-order : GivenInOrder
 given-in-order g es = counts-from (opened g) es (opened-begun g .none-given)
@@ -114,7 +114,7 @@ or-false true e = refl
 or-false false e = e
 
 -- no cooling-off runs
-first-cooled : (g : Settings) → Cooled g (openedSession g .cooling) []
+first-cooled : (g : Settings) → Cooled g (openedSession g .clock .cooling) []
 first-cooled g = rw (opened-begun g .not-cooling)
 
 all-fine : (g : Settings) (es : List Event) → EachFine g (first g) (told (opened g) es)

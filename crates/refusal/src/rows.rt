@@ -141,8 +141,8 @@ fn finds_it(s: Session, act: Act, buys: &[u64], sells: &[u64]) -> bool
 {
     match act {
         Act::Withdraw(number) => {
-            let nbuys = s.buys as usize;
-            let nsells = s.sells as usize;
+            let nbuys = s.live.buys as usize;
+            let nsells = s.live.sells as usize;
             if book::side::is_resting(buys, nbuys, number) {
                 return true;
             }
@@ -160,8 +160,8 @@ fn held(s: Session, side: Side) -> u64
     ensures { λ r. ⌜ r ≡ liveOn side s ⌝ }
 {
     match side {
-        Side::Buy => s.buys,
-        Side::Sell => s.sells,
+        Side::Buy => s.live.buys,
+        Side::Sell => s.live.sells,
     }
 }
 
@@ -219,7 +219,7 @@ fn book_rows(s: Session, e: Event, buys: &[u64], sells: &[u64]) -> Verdict
     if !has_place(s, act) {
         return Verdict::Refused(Refusal::SideFull);
     }
-    if !has_numbers(s.given, s.tape.trades, act) {
+    if !has_numbers(s.live.given, s.tape.trades, act) {
         return Verdict::Refused(Refusal::DayFull);
     }
     Verdict::Fine
@@ -232,14 +232,14 @@ fn event_rows(s: Session, e: Event, buys: &[u64], sells: &[u64]) -> Verdict
 {
     let act = e.act;
     let t = e.time;
-    let running = !s.closed;
+    let running = !s.clock.closed;
     if !running {
         return Verdict::Refused(Refusal::Closed);
     }
     if !event_right(e) {
         return Verdict::Refused(Refusal::NumberRange);
     }
-    let forward = s.time <= t;
+    let forward = s.clock.time <= t;
     if !forward {
         return Verdict::Refused(Refusal::TimeBack);
     }

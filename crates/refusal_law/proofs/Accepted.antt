@@ -46,15 +46,15 @@ row-holds (r ∷ rs) e n =
 -- rows 2 to 11, none of which applies
 pub record Accepted (d : Day) (e : Event) : Type 0 where
   pub whole : sound d ≡ true
-  pub running : not (d .session .closed) ≡ true
+  pub running : not (d .session .clock .closed) ≡ true
   pub ranged : (isTime (e .time) ⊓ numbersRight (e .act)) ≡ true
-  pub forward : leb (d .session .time) (e .time) ≡ true
+  pub forward : leb (d .session .clock .time) (e .time) ≡ true
   pub timely : inHours (e .act) (e .time) (d .session .settings .length) ≡ true
   pub ticked : ticksRight (d .session .settings .tick) (e .act) ≡ true
   pub banded : bandRight (bandNow (clockStep (d .session) (e .time))) (e .act) ≡ true
   pub found : finds d (e .act) ≡ true
   pub placed : hasPlace d (e .act) ≡ true
-  pub numbered : hasNumbers (d .session .given) (d .session .tape .trades) (e .act) ≡ true
+  pub numbered : hasNumbers (d .session .live .given) (d .session .tape .trades) (e .act) ≡ true
 
 pub accepted : (d : Day) (e : Event) → refusalOf d e ≡ Fine → Accepted d e
 unfolding refusalOf rowOf
@@ -101,11 +101,11 @@ module _ (d : Day) (e : Event) (k : Accepted d e) where
   in-day c = rw c at (k .timely)
 
   -- an order finds its number and room for its trades
-  pub numbers-left : (n : Entry) → carries (e .act) .entry ≡ some n → (d .session .given < numbersMost) × (d .session .tape .trades ≤ tradesBefore)
+  pub numbers-left : (n : Entry) → carries (e .act) .entry ≡ some n → (d .session .live .given < numbersMost) × (d .session .tape .trades ≤ tradesBefore)
   unfolding hasNumbers
   numbers-left n c =
-      let q = both (any-some (λ (x : Entry). ltb (d .session .given) numbersMost ⊓ leb (d .session .tape .trades) tradesBefore) (carries (e .act) .entry) n (k .numbered) c) in
-      (ltb-true (d .session .given) numbersMost (q .0), leb-true (d .session .tape .trades) tradesBefore (q .1))
+      let q = both (any-some (λ (x : Entry). ltb (d .session .live .given) numbersMost ⊓ leb (d .session .tape .trades) tradesBefore) (carries (e .act) .entry) n (k .numbered) c) in
+      (ltb-true (d .session .live .given) numbersMost (q .0), leb-true (d .session .tape .trades) tradesBefore (q .1))
 
   -- a limit or settlement is a multiple of the tick, a limit is in the band after the clock steps
   pub tick-right : (p : ℕ) → carries (e .act) .ticked ≡ some p → onTick (d .session .settings .tick) p ≡ true
@@ -152,6 +152,6 @@ unfolding refusalOf firstFailed
 unsound-refused d e h = rw h
 
 -- on a closed day every event is refused 3
-pub closed-refused : (d : Day) (e : Event) → sound d ≡ true → d .session .closed ≡ true → refusalOf d e ≡ Refused Closed
+pub closed-refused : (d : Day) (e : Event) → sound d ≡ true → d .session .clock .closed ≡ true → refusalOf d e ≡ Refused Closed
 unfolding refusalOf firstFailed
 closed-refused d e h c = rw (h, c)

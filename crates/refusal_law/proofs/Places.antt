@@ -17,8 +17,8 @@ use Rattle.refusal_law.specs.Tabled.{liveOn, placeFor}
 use Rattle.refusal_law.proofs.Carried.{any-same}
 
 live-is : (side : Side) (s : Session) (buys sells : List ℕ) → liveOn side s ≡ length (own side (dayIn s buys sells))
-live-is Buy s buys sells = sym (length-decode (s .buys) buys)
-live-is Sell s buys sells = sym (length-decode (s .sells) sells)
+live-is Buy s buys sells = sym (length-decode (s .live .buys) buys)
+live-is Sell s buys sells = sym (length-decode (s .live .sells) sells)
 
 place-same : (s : Session) (buys sells : List ℕ) (act : Act) → placeFor s act ≡ hasPlace (dayIn s buys sells) act
 unfolding placeFor hasPlace

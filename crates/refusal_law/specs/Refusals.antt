@@ -66,15 +66,15 @@ bookRules d e =
     unless OutsideBand (bandRight (bandNow (clockStep (d .session) (e .time))) (e .act))
     ∷ unless NotResting (finds d (e .act))
     ∷ unless SideFull (hasPlace d (e .act))
-    ∷ unless DayFull (hasNumbers (d .session .given) (d .session .tape .trades) (e .act))
+    ∷ unless DayFull (hasNumbers (d .session .live .given) (d .session .tape .trades) (e .act))
     ∷ []
 
 -- rows 3 to 11
 abbrev pub laterRules : Day → Event → List Rule
 laterRules d e =
-    unless Closed (not (d .session .closed))
+    unless Closed (not (d .session .clock .closed))
     ∷ unless NumberRange (isTime (e .time) ⊓ numbersRight (e .act))
-    ∷ unless TimeBack (leb (d .session .time) (e .time))
+    ∷ unless TimeBack (leb (d .session .clock .time) (e .time))
     ∷ unless OutOfHours (inHours (e .act) (e .time) (d .session .settings .length))
     ∷ unless OffTick (ticksRight (d .session .settings .tick) (e .act))
     ∷ bookRules d e

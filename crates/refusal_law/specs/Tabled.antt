@@ -13,15 +13,15 @@ use Rattle.refusal_law.specs.Refusals.{lifeHasPlace}
 
 -- the tables are long enough, and the live counts are no more than they have slots for
 pub record Tabled (s : Session) (buys sells : List ℕ) : Type 0 where
-  pub buys-few : s .buys ≤ slots
-  pub sells-few : s .sells ≤ slots
+  pub buys-few : s .live .buys ≤ slots
+  pub sells-few : s .live .sells ≤ slots
   pub buys-long : tableLength ≤ length buys
   pub sells-long : tableLength ≤ length sells
 
 -- the live count of a side
 abbrev pub liveOn : Side → Session → ℕ
-liveOn Buy s = s .buys
-liveOn Sell s = s .sells
+liveOn Buy s = s .live .buys
+liveOn Sell s = s .live .sells
 
 -- row 10, by the live counts
 unfoldable pub placeFor : Session → Act → Bool

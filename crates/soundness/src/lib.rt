@@ -78,8 +78,8 @@ pub fn is_sound(s: Session, buys: &[u64], sells: &[u64]) -> bool
     if !session_sound(s, factor) {
         return false;
     }
-    let nbuys = s.buys as usize;
-    let nsells = s.sells as usize;
+    let nbuys = s.live.buys as usize;
+    let nsells = s.live.sells as usize;
     let band = force::band_now(s);
-    book_sound::book_sound(buys, nbuys, sells, nsells, s.given, tick, factor, band)
+    book_sound::book_sound(buys, nbuys, sells, nsells, s.live.given, tick, factor, band)
 }

@@ -17,7 +17,7 @@ use Rattle.soundness_law.specs.Sound.{sessionSound, counted, sound, dayI
 
 pub counted-in : (s : Session) (buys sells : List ℕ) → counted (dayIn s buys sells) ≡ true
 unfolding counted
-counted-in s buys sells = make (eq-eqb _ _ (sym (length-decode (s .buys) buys))) (eq-eqb _ _ (sym (length-decode (s .sells) sells)))
+counted-in s buys sells = make (eq-eqb _ _ (sym (length-decode (s .live .buys) buys))) (eq-eqb _ _ (sym (length-decode (s .live .sells) sells)))
 
 -- the code's answers
 module _ (s : Session) (buys sells : List ℕ) (found : Bool) (f : found ≡ sessionSound s) where
@@ -25,7 +25,7 @@ module _ (s : Session) (buys sells : List ℕ) (found : Bool) (f : found ≡ ses
   unfolding sound _⊓_
   numbers-unsound e = rw (← f, not-true found e)
 
-  pub book-decides : (band : Band) (b : Bool) → not found ≡ false → band ≡ bandNow s → b ≡ bookSound (s .given) (s .settings .tick) band (decode (s .buys) buys) (decode (s .sells) sells) → b ≡ sound (dayIn s buys sells)
+  pub book-decides : (band : Band) (b : Bool) → not found ≡ false → band ≡ bandNow s → b ≡ bookSound (s .live .given) (s .settings .tick) band (decode (s .live .buys) buys) (decode (s .live .sells) sells) → b ≡ sound (dayIn s buys sells)
   unfolding sound _⊓_
   book-decides band b e n h = rw (← f, not-false found e, counted-in s buys sells, ← n) h
 

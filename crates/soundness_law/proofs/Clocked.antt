@@ -22,9 +22,9 @@ use Rattle.state_law.specs.Now.{Clocked, Steady}
 use Rattle.soundness_law.specs.Sound.{timeSound, countsSound, slabSound, numbersSound, every, priceSound, rememberedSound, halfSound, minuteSound, clockSound, tapeSound, sessionSound}
 use Rattle.soundness_law.proofs.Lists.{at-place}
 
-pub time-small : (s : Session) → timeSound s ≡ true → s .time ≤ timeMost
+pub time-small : (s : Session) → timeSound s ≡ true → s .clock .time ≤ timeMost
 unfolding timeSound
-time-small s e = leb-true (s .time) timeMost (both e .0)
+time-small s e = leb-true (s .clock .time) timeMost (both e .0)
 
 pub clocked : (s : Session) → clockSound s ≡ true → Clocked s
 unfolding clockSound countsSound slabSound numbersSound

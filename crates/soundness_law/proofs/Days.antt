@@ -42,12 +42,12 @@ use Rattle.soundness_law.proofs.Kept.{Tradable, counted-kept}
 -- ---- taken apart
 
 abbrev pub BookOf : Session → List Order → List Order → Type 0
-BookOf s buys sells = bookSound (s .given) (s .settings .tick) (bandNow s) buys sells ≡ true
+BookOf s buys sells = bookSound (s .live .given) (s .settings .tick) (bandNow s) buys sells ≡ true
 
 pub record SoundDay (d : Day) : Type 0 where
   pub parts : Parts (d .session)
-  pub buys-counted : d .session .buys ≡ length (d .buys)
-  pub sells-counted : d .session .sells ≡ length (d .sells)
+  pub buys-counted : d .session .live .buys ≡ length (d .buys)
+  pub sells-counted : d .session .live .sells ≡ length (d .sells)
   pub book : BookOf (d .session) (d .buys) (d .sells)
 
 pub sound-day : (d : Day) → sound d ≡ true → SoundDay d
@@ -58,8 +58,8 @@ sound-day d h =
     let counts = both (numbers .1) in
     record {
       parts = parts-of (d .session) (numbers .0);
-      buys-counted = eqb-true (d .session .buys) (length (d .buys)) (counts .0);
-      sells-counted = eqb-true (d .session .sells) (length (d .sells)) (counts .1);
+      buys-counted = eqb-true (d .session .live .buys) (length (d .buys)) (counts .0);
+      sells-counted = eqb-true (d .session .live .sells) (length (d .sells)) (counts .1);
       book = whole .1;
     }
 
@@ -72,7 +72,7 @@ BookWith side s own across = BookOf s (onSide side own across) (onSide (otherSid
 counted-with : (s : Session) (buys sells : List Order) → Parts s → BookOf s buys sells → sound (dayWith Buy s buys sells) ≡ true
 unfolding sound counted
 counted-with s buys sells p b =
-    let f : BookFits (s .given) (s .settings .tick) (bandNow s) buys sells = book-fits (s .given) (s .settings .tick) (bandNow s) buys sells b in
+    let f : BookFits (s .live .given) (s .settings .tick) (bandNow s) buys sells = book-fits (s .live .given) (s .settings .tick) (bandNow s) buys sells b in
     make (make
     (parts-made (dayWith Buy s buys sells .session) (counted-kept s (length buys) (length sells) p) (f .few-buys) (f .few-sells))
     (make (eq-eqb (length buys) (length buys) refl) (eq-eqb (length sells) (length sells) refl)))
@@ -103,10 +103,10 @@ now-priced s v =
       base-small = v .base-small;
       tick-some = v .tick-some;
       tick-small = v .tick-small;
-      percent-small = percent-small (slabOf (s .settings .category)) (s .widened) (row-small (s .settings .category));
+      percent-small = percent-small (slabOf (s .settings .category)) (s .clock .widened) (row-small (s .settings .category));
     }
 
-pub each-tradable : (s : Session) (fs : List Order) → Valid (s .settings) → Each (OrderFits (s .given) (s .settings .tick) (bandNow s)) fs →
+pub each-tradable : (s : Session) (fs : List Order) → Valid (s .settings) → Each (OrderFits (s .live .given) (s .settings .tick) (bandNow s)) fs →
     Each (Tradable (s .settings .tick)) fs
 each-tradable s fs v e =
     let g : Settings = s .settings in
@@ -114,7 +114,7 @@ each-tradable s fs v e =
     let fits : Priced (g .base) (g .tick) p = now-priced s v in
     let low : 1 ≤ lowAt (g .base) (g .tick) p = low-some (g .base) (g .tick) p (v .base-some) (v .tick-some) (fits .percent-small) in
     let high : highAt (g .base) (g .tick) p ≤ priceMost = omega (arith, high-small fits) in
-    each-map (OrderFits (s .given) (g .tick) (bandNow s)) (Tradable (g .tick))
+    each-map (OrderFits (s .live .given) (g .tick) (bandNow s)) (Tradable (g .tick))
     (λ o f. let i = between-facts (lowAt (g .base) (g .tick) p) (o .price) (highAt (g .base) (g .tick) p) (f .banded) in record {
       price-some = omega (arith, i .0, low);
       price-small = omega (arith, i .1, high);

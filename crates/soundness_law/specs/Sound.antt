@@ -22,22 +22,22 @@ use Rattle.state_law.specs.Day.{Day}
 
 -- "its time is at most 86,400,000, and below the length until closed"
 unfoldable pub timeSound : Session → Bool
-timeSound s = isTime (s .time) ⊓ (s .closed || ltb (s .time) (s .settings .length))
+timeSound s = isTime (s .clock .time) ⊓ (s .clock .closed || ltb (s .clock .time) (s .settings .length))
 
 -- "live counts are at most 256"
 unfoldable pub countsSound : Session → Bool
-countsSound s = leb (s .buys) slots ⊓ leb (s .sells) slots
+countsSound s = leb (s .live .buys) slots ⊓ leb (s .live .sells) slots
 
 -- "the slab is initial or enhanced, with a cooling-off only in the initial, its end at most 900,000 after the session's time"
 unfoldable pub slabSound : Session → Bool
-slabSound s = leb (s .widened) 1 ⊓ (eqb (s .widened) 0 || eqb (s .cooling) 0) ⊓ leb (s .cooling) (s .time + coolingLength)
+slabSound s = leb (s .clock .widened) 1 ⊓ (eqb (s .clock .widened) 0 || eqb (s .clock .cooling) 0) ⊓ leb (s .clock .cooling) (s .clock .time + coolingLength)
 
 -- "reference is 1 to 110,600,000, underlying 0 to 100,000,000; orders given and trades at most 60,000"
 unfoldable pub numbersSound : Session → Bool
 numbersSound s =
     between 1 (s .reckoning .reference) referenceMost
-    ⊓ leb (s .under) priceMost
-    ⊓ leb (s .given) numbersMost
+    ⊓ leb (s .clock .under) priceMost
+    ⊓ leb (s .live .given) numbersMost
     ⊓ leb (s .tape .trades) tradesMost
 
 -- each passes a test
@@ -83,16 +83,16 @@ sessionSound s = clockSound s ⊓ tapeSound s
 
 -- the live counts are those of the orders
 unfoldable pub counted : Day → Bool
-counted d = eqb (d .session .buys) (length (d .buys)) ⊓ eqb (d .session .sells) (length (d .sells))
+counted d = eqb (d .session .live .buys) (length (d .buys)) ⊓ eqb (d .session .live .sells) (length (d .sells))
 
 -- A SESSION IS SOUND, with its orders
 unfoldable pub sound : Day → Bool
 sound d =
     sessionSound (d .session)
     ⊓ counted d
-    ⊓ bookSound (d .session .given) (d .session .settings .tick) (bandNow (d .session)) (d .buys) (d .sells)
+    ⊓ bookSound (d .session .live .given) (d .session .settings .tick) (bandNow (d .session)) (d .buys) (d .sells)
 
 -- ---- the day that a session and two tables hold: as many orders of each table as the session has live
 
 abbrev pub dayIn : Session → List ℕ → List ℕ → Day
-dayIn s buys sells = record { session = s; buys = decode (s .buys) buys; sells = decode (s .sells) sells }
+dayIn s buys sells = record { session = s; buys = decode (s .live .buys) buys; sells = decode (s .live .sells) sells }

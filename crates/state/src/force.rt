@@ -25,7 +25,7 @@ pub fn band_now(s: Session) -> Band
     ensures { λ r. ⌜ (r ≡ bandNow s) × (r .high ≤ bandMost) ⌝ }
 {
     let slab = slab_in(s);
-    let percent = slabs::percent_of(slab, s.widened);
+    let percent = slabs::percent_of(slab, s.clock.widened);
     slabs::band_at(s.settings.base, s.settings.tick, percent)
 }
 
@@ -34,7 +34,7 @@ pub fn percent_now(s: Session) -> u64
     ensures { λ r. ⌜ r ≡ percentNow s ⌝ }
 {
     let slab = slab_in(s);
-    slabs::percent_of(slab, s.widened)
+    slabs::percent_of(slab, s.clock.widened)
 }
 
 // The range that trades must be in.

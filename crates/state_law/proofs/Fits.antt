@@ -24,7 +24,7 @@ half-after false h more price lots f c p l m = omega arith
 pub fits-after : (s : Session) (more price lots : ℕ) → TradesFit s (more + 1) → price ≤ priceMost → 1 ≤ lots → lots ≤ lotsMost → TradesFit (withTrade s price lots) more
 unfolding withTrade tapeAfter minuteAfter
 fits-after s more price lots f p l m =
-    let h = half-after (inHalfHour (s .settings .length) (s .time)) (s .tape .half) more price lots (f .half-fits) (f .half-few) p l m in
+    let h = half-after (inHalfHour (s .settings .length) (s .clock .time)) (s .tape .half) more price lots (f .half-fits) (f .half-few) p l m in
     omega arith
 
 pub band-kept : (s : Session) (price lots : ℕ) → bandNow (withTrade s price lots) ≡ bandNow s
