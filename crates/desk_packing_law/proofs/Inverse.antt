@@ -1,10 +1,10 @@
 -- PACKING AND UNPACKING ARE INVERSE, of settings and of sessions, whatever follows in the run.
-use Prim.Native.Nat.{ℕ, zero, suc, _≤_}
+use Prim.Native.Nat.{ℕ, zero, suc, _+_, _≤_}
 use native.Mathlib.Omega.{arith}
 use mathlib.Core.Path.{_≡_, refl, sym}
 use mathlib.Core.Bool.{Bool, true, false}
 use mathlib.Core.List.{List, _++_}
-use borrow.Author.Tests.{leb-true}
+use borrow.Author.Tests.{leb-true, eqb-true}
 use lib.Dec.{leb, eqb}
 use lib.ListN.{length, getD, take, drop}
 use Rattle.terms.specs.declared.Category.{Category}
@@ -15,11 +15,11 @@ use Rattle.terms.proofs.Logic.{by, both, make}
 use Rattle.tables.specs.Put.{put}
 use Rattle.state_law.specs.declared.Session.{Session}
 use Rattle.state_law.specs.Opening.{fixedSession}
-use Rattle.desk_packing.specs.Runs.{settingsLength, sessionLength}
-use Rattle.desk_packing.specs.Settings.{settingsNumbers, isCategory, categoryFrom, settingsFrom}
+use Rattle.desk_packing_law.specs.Runs.{settingsLength, sessionLength, layout, settingsBase, clockBase}
+use Rattle.desk_packing_law.specs.Settings.{settingsNumbers, isCategory, categoryFrom, settingsFrom, settingsAt}
 use Rattle.state_law.specs.Tens.{Ten}
-use Rattle.desk_packing.specs.Sessions.{flag, sessionNumbers, isSession, sessionOf, sessionFrom}
-use Rattle.desk_packing.proofs.Listed.{first-listed, ten-all}
+use Rattle.desk_packing_law.specs.Sessions.{flag, sessionNumbers, isSession, sessionOf, sessionFrom}
+use Rattle.desk_packing_law.proofs.Listed.{first-listed, ten-all}
 
 -- ---- a category and its row
 
@@ -60,11 +60,11 @@ row-back n h = go n (leb-true n 7 h)
 -- ---- settings
 
 pub settings-back : (g : Settings) (rest : List ℕ) → settingsFrom (settingsNumbers g ++ rest) ≡ g
-unfolding settingsFrom settingsNumbers
+unfolding settingsAt settingsNumbers
 settings-back g rest = rw (category-back (g .category))
 
 pub settings-numbers : (ns : List ℕ) → settingsLength ≤ length ns → isCategory (getD ns 0 0) ≡ true → settingsNumbers (settingsFrom ns) ≡ take settingsLength ns
-unfolding settingsFrom settingsNumbers
+unfolding settingsAt settingsNumbers
 settings-numbers ns h k = rw (row-back (getD ns 0 0) k) (sym (first-listed ns 8 h))
 
 -- ---- a session
@@ -85,11 +85,11 @@ closed-back (suc (suc n)) k = absurd (omega arith)
 -- the numbers of a session are a session's
 pub is-session : (s : Session) (rest : List ℕ) → isSession (sessionNumbers s ++ rest) ≡ true
 unfolding isSession sessionNumbers settingsNumbers
-is-session s rest = make (row-is (s .settings .category)) (flag-small (s .clock .closed))
+is-session s rest = make (make refl (row-is (s .settings .category))) (flag-small (s .clock .closed))
 
 module _ (s : Session) (ten : Ten s) (rest : List ℕ) where
   same-session : sessionOf (sessionNumbers s ++ rest) ≡ s
-  unfolding sessionOf sessionNumbers settingsFrom settingsNumbers
+  unfolding sessionOf sessionNumbers settingsAt settingsNumbers
   same-session =
       rw (category-back (s .settings .category), flag-back (s .clock .closed), ten-all (s .tape .prices) (ten .prices), ten-all (s .tape .sizes) (ten .sizes))
 
@@ -98,10 +98,12 @@ module _ (s : Session) (ten : Ten s) (rest : List ℕ) where
   session-back = rw (is-session s rest) same-session
 
 pub session-numbers : (ns : List ℕ) → sessionLength ≤ length ns → isSession ns ≡ true → sessionNumbers (sessionFrom ns) ≡ take sessionLength ns
-unfolding sessionFrom sessionOf sessionNumbers settingsFrom settingsNumbers isSession
+unfolding sessionFrom sessionOf sessionNumbers settingsAt settingsNumbers isSession
 session-numbers ns h k =
     let p = both k in
-    rw (k, row-back (getD ns 0 0) (p .0), closed-back (getD ns 9 0) (leb-true (getD ns 9 0) 1 (p .1))) (sym (first-listed ns 43 h))
+    let q = both (p .0) in
+    rw (k, row-back (getD ns settingsBase 0) (q .1), closed-back (getD ns (clockBase + 1) 0) (leb-true (getD ns (clockBase + 1) 0) 1 (p .1)))
+    (rw (eqb-true (getD ns 0 0) layout (q .0)) at (sym (first-listed ns sessionLength h)))
 
 -- every run is of a session whose arrays have ten numbers
 pub from-ten : (ns : List ℕ) → Ten (sessionFrom ns)

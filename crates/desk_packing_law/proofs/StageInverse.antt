@@ -12,8 +12,8 @@ use Rattle.tables.specs.Put.{put}
 use Rattle.feed_law.specs.declared.Run.{Run}
 use Rattle.feed_law.specs.declared.Stage.{Stage}
 use Rattle.state_law.specs.Tens.{Ten}
-use Rattle.desk_packing.proofs.Inverse.{is-session, session-back, session-numbers}
-use Rattle.desk_runs.specs.Runs.{runLength, stageNumber, runNumbers, isRun, stageFrom, runFrom, overRun}
+use Rattle.desk_packing_law.proofs.Inverse.{is-session, session-back, session-numbers}
+use Rattle.desk_packing_law.specs.Stages.{runLength, stageNumber, runNumbers, isRun, stageFrom, runFrom, overRun}
 
 -- ---- a stage and its number
 

@@ -1,4 +1,4 @@
--- WHERE A RUN STANDS as 44 numbers: its stage (0 awaiting settings, 1 trading, 2 over), then the 43 of its session.
+-- WHERE A RUN STANDS as 45 numbers: its stage (0 awaiting settings, 1 trading, 2 over), then the 44 of its session.
 use Prim.Native.Nat.{ℕ}
 use mathlib.Core.Bool.{Bool, cond}
 use mathlib.Core.List.{List, _∷_}
@@ -8,10 +8,10 @@ use Rattle.terms.specs.Truth.{_⊓_}
 use Rattle.state_law.specs.Opening.{fixedSession}
 use Rattle.feed_law.specs.declared.Run.{Run}
 use Rattle.feed_law.specs.declared.Stage.{Stage}
-use Rattle.desk_packing.specs.Sessions.{sessionNumbers, isSession, sessionFrom}
+use Rattle.desk_packing_law.specs.Sessions.{sessionNumbers, isSession, sessionFrom}
 
 abbrev pub runLength : ℕ
-runLength = 44
+runLength = 45
 
 abbrev pub stageNumber : Stage → ℕ
 stageNumber Stage.Awaiting = 0

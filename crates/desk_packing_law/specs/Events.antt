@@ -14,7 +14,7 @@ use Rattle.terms.specs.declared.Life.{Life}
 use Rattle.terms.specs.declared.Life.the-variants.{AllDay, Ioc}
 use Rattle.terms.specs.declared.Side.{Side}
 use Rattle.terms.specs.declared.Side.the-variants.{Buy, Sell}
-use Rattle.desk_packing.specs.declared.events.FoundEvent.{FoundEvent}
+use Rattle.desk_packing_law.specs.declared.FoundEvent.{FoundEvent}
 
 abbrev pub sideNumber : Side → ℕ
 sideNumber Buy = 1

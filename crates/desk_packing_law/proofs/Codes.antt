@@ -5,7 +5,7 @@ use mathlib.Core.Path.{_≡_}
 use Rattle.terms.specs.declared.Refusal.{Refusal}
 use Rattle.terms.specs.Refusals.{numberOf}
 use Rattle.terms.proofs.Refusals.{refusal-number}
-use Rattle.desk_answers.specs.Answers.{codes, countMost, answerNumber}
+use Rattle.desk_packing_law.specs.Answers.{codes, countMost, answerNumber}
 
 pub code-back : (code count : ℕ) → code < codes → answerNumber code count % codes ≡ code
 code-back code count h = omega arith

@@ -16,8 +16,8 @@ use Rattle.state_law.specs.declared.Session.{Session}
 use Rattle.state_law.specs.Opening.{fixedSession}
 use Rattle.feed_law.specs.declared.Run.{Run}
 use Rattle.feed_law.specs.declared.Stage.{Stage}
-use Rattle.desk_packing.specs.Sessions.{sessionNumbers, isSession, sessionFrom}
-use Rattle.desk_runs.specs.Runs.{stageNumber, runNumbers, isRun, stageFrom, runFrom}
+use Rattle.desk_packing_law.specs.Sessions.{sessionNumbers, isSession, sessionFrom}
+use Rattle.desk_packing_law.specs.Stages.{stageNumber, runNumbers, isRun, stageFrom, runFrom}
 
 -- the part of a slice behind its first number
 behind : (ns : List ℕ) → take (length ns - 1) (drop 1 ns) ≡ drop 1 ns

@@ -16,10 +16,10 @@ use Rattle.terms.specs.declared.Life.the-variants.{AllDay, Ioc}
 use Rattle.terms.specs.declared.Side.{Side}
 use Rattle.terms.specs.declared.Side.the-variants.{Buy, Sell}
 use Rattle.terms.proofs.Logic.{by, split}
-use Rattle.desk_packing.specs.declared.events.FoundEvent.{FoundEvent}
-use Rattle.desk_packing.specs.Runs.{eventLength}
-use Rattle.desk_packing.specs.Events.{sideNumber, kindNumber, lifeNumber, limitOf, actNumbers, eventNumbers, toldIf, orderFrom, entryFrom, foundFrom, foundIn, eventFrom}
-use Rattle.desk_packing.proofs.Listed.{first-listed}
+use Rattle.desk_packing_law.specs.declared.FoundEvent.{FoundEvent}
+use Rattle.desk_packing_law.specs.Runs.{eventLength}
+use Rattle.desk_packing_law.specs.Events.{sideNumber, kindNumber, lifeNumber, limitOf, actNumbers, eventNumbers, toldIf, orderFrom, entryFrom, foundFrom, foundIn, eventFrom}
+use Rattle.desk_packing_law.proofs.Listed.{first-listed}
 
 -- ---- an event is told back from its numbers
 

@@ -1,5 +1,5 @@
 -- SETTINGS as a run of eight numbers: category, base, close, settle, tick, length, days, under.
-use Prim.Native.Nat.{ℕ}
+use Prim.Native.Nat.{ℕ, _+_}
 use mathlib.Core.Bool.{Bool, cond}
 use mathlib.Core.List.{List, [], _∷_}
 use lib.Dec.{leb, eqb}
@@ -28,16 +28,20 @@ categoryFrom n =
     (cond (eqb n 5) Precious
     (cond (eqb n 6) Gems Other))))))
 
--- the settings that a run is of, where its category is one
-unfoldable pub settingsFrom : List ℕ → Settings
-settingsFrom ns =
+-- the settings that numbers are of from a place on, where their category is one
+unfoldable pub settingsAt : List ℕ → ℕ → Settings
+settingsAt ns at =
     record {
-      category = categoryFrom (getD ns 0 0);
-      base = getD ns 1 0;
-      close = getD ns 2 0;
-      settle = getD ns 3 0;
-      tick = getD ns 4 0;
-      length = getD ns 5 0;
-      days = getD ns 6 0;
-      under = getD ns 7 0;
+      category = categoryFrom (getD ns at 0);
+      base = getD ns (at + 1) 0;
+      close = getD ns (at + 2) 0;
+      settle = getD ns (at + 3) 0;
+      tick = getD ns (at + 4) 0;
+      length = getD ns (at + 5) 0;
+      days = getD ns (at + 6) 0;
+      under = getD ns (at + 7) 0;
     }
+
+-- the settings that a run is of
+abbrev pub settingsFrom : List ℕ → Settings
+settingsFrom ns = settingsAt ns 0

@@ -5,7 +5,7 @@ use mathlib.Core.Path.{_≡_, refl, sym, ap, _∙_}
 use mathlib.Core.List.{List, [], _∷_}
 use lib.ListN.{length, getD, take, drop}
 use lib.Seq.{drop-cons, take-all}
-use Rattle.desk_packing.specs.Runs.{tenAt}
+use Rattle.desk_packing_law.specs.Runs.{tenAt}
 
 -- n numbers from i on
 abbrev listed : List ℕ → ℕ → ℕ → List ℕ
