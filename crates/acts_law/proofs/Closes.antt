@@ -12,10 +12,11 @@ use Rattle.terms.specs.declared.Said.{Said}
 use Rattle.terms.specs.declared.Said.the-variants.{Close}
 use Rattle.terms.specs.declared.Why.the-variants.{DayEnd}
 use Rattle.terms.specs.Reports.{whyOf}
+use Rattle.terms.specs.Options.{maybe}
 use Rattle.rules_law.specs.Close.{closingOf}
 use Rattle.book_law.specs.Matching.{reportAt}
 use Rattle.book_law.specs.Priority.{rests, removed, leftOf}
-use Rattle.book_law.specs.Tells.{maybe, tells}
+use Rattle.book_law.specs.Tells.{tells}
 use Rattle.state_law.specs.Day.{Day}
 use Rattle.acts_law.specs.Acts.{Acted, dropped, cancelReports, closeReport, finished, does, act}
 

@@ -24,10 +24,10 @@ use Rattle.book_sound_law.proofs.Facts.{book-fits}
 use Rattle.state_law.specs.declared.Session.{Session}
 use Rattle.state_law.specs.Now.{bandNow}
 use Rattle.state_law.specs.Clock.{clockStep}
-use Rattle.state_law.specs.Day.{Day, own, across}
+use Rattle.state_law.specs.Day.{Day, own, across, dayBy}
 use Rattle.soundness_law.specs.Sound.{sound}
 use Rattle.soundness_law.proofs.Days.{sound-day}
-use Rattle.acts_law.specs.Acts.{Acted, only, slabMoved, slabReport, refMoved, refReport, clockReports, sweepIn, fateIn, entered, dropped, cancelReports, closeReport, finished, dayBy, timed, does, act}
+use Rattle.acts_law.specs.Acts.{Acted, only, slabMoved, slabReport, refMoved, refReport, clockReports, sweepIn, fateIn, entered, dropped, cancelReports, closeReport, finished, timed, does, act}
 use Rattle.acts_law.proofs.Does.{ends, does-by, begun-by}
 
 pub only-few : (b : Bool) (r : Report) → length (only b r) ≤ 1

@@ -16,10 +16,11 @@ use Rattle.terms.specs.declared.Report.{Report}
 use Rattle.terms.specs.declared.Said.{Said}
 use Rattle.terms.specs.declared.Said.the-variants.{Trade}
 use Rattle.terms.proofs.Logic.{by, cases, split, join, or-left, or-last}
+use Rattle.terms.specs.Options.{maybe, If}
 use Rattle.rules_law.specs.Slabs.{slabOf, percentOf, bandAt, inBand, touches, coolingLength, coolingAfter}
 use Rattle.rules_law.specs.Reference.{rangeOf, inRange}
 use Rattle.book_law.specs.Matching.{reportAt}
-use Rattle.book_law.specs.Tells.{maybe, If, tells}
+use Rattle.book_law.specs.Tells.{tells}
 use Rattle.state_law.specs.declared.Session.{Session}
 use Rattle.state_law.specs.Now.{bandNow}
 use Rattle.acts_law.proofs.Pieces.{EachTold}

@@ -14,6 +14,7 @@ use Rattle.terms.specs.declared.Report.{Report}
 use Rattle.terms.specs.declared.Said.{Said}
 use Rattle.terms.specs.declared.Why.{Why}
 use Rattle.terms.specs.declared.Why.the-variants.{Asked, DayEnd}
+use Rattle.terms.specs.Options.{maybe}
 use Rattle.book_law.specs.Priority.{removed}
 use Rattle.book_law.specs.Matching.{taker, Swept, tradeReports, settled, fateReports}
 use Rattle.book_law.specs.Over.{tally, mine, lotsOf}
@@ -22,9 +23,8 @@ use Rattle.book_law.proofs.Over.{mine-zero, lots-removed}
 use Rattle.book_law.proofs.Remainder.{total-append, Balanced, entered-balanced}
 use Rattle.state_law.specs.declared.Session.{Session}
 use Rattle.state_law.specs.Clock.{clockStep}
-use Rattle.state_law.specs.Day.{Day, own, across, dayWith}
-use Rattle.book_law.specs.Tells.{maybe}
-use Rattle.acts_law.specs.Acts.{Acted, clockReports, sweepIn, fateIn, entered, dropped, sideOf, cancelReports, closeReport, finished, dayBy, stepped, timed, does, act}
+use Rattle.state_law.specs.Day.{Day, own, across, dayWith, dayBy}
+use Rattle.acts_law.specs.Acts.{Acted, clockReports, sweepIn, fateIn, entered, dropped, sideOf, cancelReports, closeReport, finished, stepped, timed, does, act}
 use Rattle.acts_law.specs.Asked.{wanted, askedIn, askedBy, resting}
 use Rattle.acts_law.proofs.Does.{sets-alike, enters, ends, does-by, Chains, begun-by, act-by}
 use Rattle.acts_law.proofs.Pieces.{each-append, clock-each, trades-each, fate-each, cancels-each, finished-each, total-none}

@@ -12,6 +12,7 @@ use Rattle.terms.specs.declared.Act.{Act}
 use Rattle.terms.specs.declared.Side.{Side}
 use Rattle.terms.specs.declared.Side.the-variants.{Buy, Sell}
 use Rattle.terms.specs.declared.Report.{Report}
+use Rattle.terms.specs.Options.{maybe}
 use Rattle.book_law.specs.Matching.{Swept, tradeReports, Fate, settled, fateReports}
 use Rattle.state_law.specs.declared.Session.{Session}
 use Rattle.state_law.specs.Set.{setGiven}
@@ -19,7 +20,6 @@ use Rattle.state_law.specs.Clock.{clockStep}
 use Rattle.state_law.specs.Trades.{withTrades}
 use Rattle.state_law.specs.Day.{Day, own, across, dayWith}
 use Rattle.state_law.proofs.Leaves.{trades-leave}
-use Rattle.book_law.specs.Tells.{maybe}
 use Rattle.refusal_law.specs.Carried.{carries}
 use Rattle.acts_law.specs.Acts.{Acted, sweepIn, fateIn, entered, dropped, sideOf, withdrawn, silent, finished, stepped, timed, does, act}
 use Rattle.acts_law.specs.Asked.{acceptsIn, accepts, numbersTo}

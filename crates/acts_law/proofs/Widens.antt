@@ -16,9 +16,10 @@ use Rattle.terms.specs.declared.Said.{Said}
 use Rattle.terms.specs.declared.Side.{Side}
 use Rattle.terms.specs.declared.Side.the-variants.{Buy, Sell}
 use Rattle.terms.proofs.Logic.{by, cases}
+use Rattle.terms.specs.Options.{maybe}
 use Rattle.rules_law.specs.Slabs.{overBy}
 use Rattle.book_law.specs.Matching.{Swept}
-use Rattle.book_law.specs.Tells.{maybe, tells}
+use Rattle.book_law.specs.Tells.{tells}
 use Rattle.book_law.specs.Told.{total}
 use Rattle.book_law.proofs.Remainder.{total-append}
 use Rattle.state_law.specs.declared.Session.{Session}

@@ -22,7 +22,7 @@ use Rattle.state_law.specs.Set.{setTime, setClosed, setUnder, setGiven}
 use Rattle.state_law.specs.Now.{percentNow, bandNow, rangeNow}
 use Rattle.state_law.specs.Clock.{clockStep}
 use Rattle.state_law.specs.Trades.{withTrades}
-use Rattle.state_law.specs.Day.{Day, dayOf, own, across, dayWith}
+use Rattle.state_law.specs.Day.{Day, dayOf, dayBy, steppedDay, own, across, dayWith}
 use Rattle.refusal_law.specs.Carried.{carries}
 
 -- what an act leaves and tells
@@ -131,13 +131,9 @@ finished s time settle buys sells =
 abbrev pub andThen : Acted → Acted → Acted
 andThen a b = record { day = b .day; reports = a .reports ++ b .reports }
 
--- a day with another session
-abbrev pub dayBy : Session → Day → Day
-dayBy s d = record { session = s; buys = d .buys; sells = d .sells }
-
 -- the clock steps
 abbrev pub stepped : Day → ℕ → Acted
-stepped d t = record { day = dayBy (clockStep (d .session) t) d; reports = clockReports (d .session) (clockStep (d .session) t) }
+stepped d t = record { day = steppedDay d t; reports = clockReports (d .session) (clockStep (d .session) t) }
 
 -- the time alone
 abbrev pub timed : Day → ℕ → Acted

@@ -19,6 +19,7 @@ use Rattle.terms.specs.declared.Refusal.the-variants.{Unsound}
 use Rattle.terms.specs.declared.Verdict.{Verdict}
 use Rattle.terms.specs.declared.Verdict.the-variants.{Fine, Refused}
 use Rattle.terms.specs.Sizes.{reportsMost}
+use Rattle.terms.specs.Options.{maybe}
 use Rattle.book_law.specs.Over.{mine}
 use Rattle.book_law.proofs.Over.{mine-zero, mine-own, mine-other}
 use Rattle.book_law.specs.Told.{total, traded, cancelled}
@@ -26,7 +27,6 @@ use Rattle.state_law.specs.Tens.{Ten}
 use Rattle.state_law.specs.Day.{Day}
 use Rattle.soundness_law.specs.Sound.{sound}
 use Rattle.soundness_law.proofs.Days.{sound-day}
-use Rattle.book_law.specs.Tells.{maybe}
 use Rattle.refusal_law.specs.Carried.{carries}
 use Rattle.refusal_law.specs.Refusals.{refusalOf}
 use Rattle.refusal_law.proofs.Accepted.{Accepted, accepted, unsound-refused}

@@ -13,7 +13,7 @@ use Rattle.terms.specs.declared.Life.{Life}
 use Rattle.terms.specs.declared.Life.the-variants.{AllDay}
 use Rattle.terms.specs.declared.Order.{Order}
 use Rattle.terms.specs.declared.Side.the-variants.{Buy, Sell}
-use Rattle.terms.specs.Sizes.{slots, numbersMost, tradesBefore}
+use Rattle.terms.specs.Sizes.{slots, numbersMost, tradesBefore, sizes}
 use Rattle.tables.specs.Tables.{decode, tableOf}
 use Rattle.tables.proofs.Slots.{length-decode}
 use Rattle.tables.proofs.Whole.{After}
@@ -37,7 +37,7 @@ use Rattle.engine_law.specs.Steps.{doneAt, SteppedAs}
 use Rattle.engine_law.proofs.Starts.{accepts, clocked-after, trades-fit, buys-deal, sells-deal, after-buys, after-sells, same-room, behind-clock, clock-space}
 use Rattle.engine_law.proofs.Dones.{done-as}
 
-has-place : (life : Life) (held : ℕ) → lifeHasPlace life held ≡ true → life ≡ AllDay → held < slots
+has-place : (life : Life) (held : ℕ) → lifeHasPlace sizes life held ≡ true → life ≡ AllDay → held < slots
 has-place life held h e = ltb-true held slots (rw e at h)
 
 module _ (s : Session) (t : ℕ) (n : Entry) (buys sells room : List ℕ) (r : Ready s t (Enter n) buys sells room) where
@@ -47,7 +47,7 @@ module _ (s : Session) (t : ℕ) (n : Entry) (buys sells room : List ℕ) (r : R
   numbered : (s .live .given < numbersMost) × (s .tape .trades ≤ tradesBefore)
   numbered = numbers-left (dayIn s buys sells) (eventAt t (Enter n)) (accepts s t (Enter n) buys sells room r) n refl
 
-  placed : lifeHasPlace (n .life) (length (own (n .side) (dayIn s buys sells))) ≡ true
+  placed : lifeHasPlace sizes (n .life) (length (own (n .side) (dayIn s buys sells))) ≡ true
   unfolding hasPlace
   placed = accepts s t (Enter n) buys sells room r .placed
 

@@ -81,7 +81,7 @@ module _ (s : Session) (t : ℕ) (a : Act) (buys sells room : List ℕ) (r : Rea
         let p = start .parts in
         let c = clocked-after in
         record {
-          long = c .valid .length-long;
+          long = c .valid .in-range .length-long;
           time-small = c .time-small;
           trades-few = omega arith;
           half-few = omega (arith, p .halved .few);

@@ -20,11 +20,12 @@ use Rattle.terms.specs.Truth.{_⊓_}
 use Rattle.terms.specs.Numbers.{isTime}
 use Rattle.terms.specs.Refusals.{unless, firstFailed}
 use Rattle.terms.proofs.Logic.{cases}
+use Rattle.terms.specs.Sizes.{sizes}
 use Rattle.state_law.specs.declared.Session.{Session}
 use Rattle.state_law.specs.Set.{setBuys, setSells}
 use Rattle.state_law.specs.Now.{bandNow}
 use Rattle.state_law.specs.Clock.{clockStep}
-use Rattle.state_law.specs.Day.{Day, opened}
+use Rattle.state_law.specs.Day.{Day, opened, dayBy}
 use Rattle.state_law.proofs.Steps.{clock-twice}
 use Rattle.soundness_law.specs.Sound.{sound}
 use Rattle.soundness_law.proofs.Days.{SoundDay, sound-day}
@@ -32,7 +33,7 @@ use Rattle.refusal_law.specs.Carried.{carries}
 use Rattle.refusal_law.specs.Refusals.{numbersRight, inHours, ticksRight, bandRight, finds, lifeHasPlace, hasPlace, hasNumbers, refusalOf}
 use Rattle.refusal_law.proofs.Carried.{any-same}
 use Rattle.refusal_law.proofs.Accepted.{Accepted, accepted, closed-refused}
-use Rattle.acts_law.specs.Acts.{Acted, slabReport, clockReports, silent, finished, andThen, dayBy, stepped, timed, does, act}
+use Rattle.acts_law.specs.Acts.{Acted, slabReport, clockReports, silent, finished, andThen, stepped, timed, does, act}
 use Rattle.acts_law.proofs.Does.{ends, own-by, act-closes, act-goes, closing}
 use Rattle.acts_law.proofs.Pieces.{EachTold, clock-each}
 use Rattle.acts_law.proofs.Stays.{act-stays}
@@ -93,9 +94,9 @@ after-plain d t a =
 
 -- ---- one event, on a day and on the same day ticked
 
-place-ticked : (d : Day) (t : ℕ) (a : Act) → hasPlace (ticked d t) a ≡ hasPlace d a
+place-ticked : (d : Day) (t : ℕ) (a : Act) → hasPlace sizes (ticked d t) a ≡ hasPlace sizes d a
 unfolding hasPlace
-place-ticked d t a = any-same _ _ (λ n. ap (λ (l : List Order). lifeHasPlace (n .life) (length l)) (own-by (n .side) (clockStep (d .session) t) d)) (carries a .entry)
+place-ticked d t a = any-same _ _ (λ n. ap (λ (l : List Order). lifeHasPlace sizes (n .life) (length l)) (own-by (n .side) (clockStep (d .session) t) d)) (carries a .entry)
 
 -- what the accepted clock event gives: both days are sound, and it is not before the last accepted time
 record Ticks (d : Day) (t : ℕ) : Type 0 where
@@ -126,7 +127,7 @@ refusal-ticked d t e k h =
     ∷ unless OutsideBand (bandRight (bandNow (clock-twice (d .session) t (e .time) (k .forward) h i)) (e .act))
     ∷ unless NotResting (finds d (e .act))
     ∷ unless SideFull (place-ticked d t (e .act) i)
-    ∷ unless DayFull (hasNumbers (d .session .live .given) (d .session .tape .trades) (e .act))
+    ∷ unless DayFull (hasNumbers sizes (d .session .live .given) (d .session .tape .trades) (e .act))
     ∷ [])
 
 -- ---- what the act does

@@ -27,7 +27,7 @@ use Rattle.lines_text_law.specs.Grammar.{Answer, whole, unfinished, wrong}
 use Rattle.lines_reading_law.specs.Answers.{readEvent, readSettings}
 use Rattle.state_law.specs.Opening.{openedBy, openingOf, openedSession, fixedSession}
 use Rattle.state_law.specs.Day.{Day}
-use Rattle.soundness_law.specs.Sound.{sound, dayIn}
+use Rattle.soundness_law.specs.Sound.{sound, dayIn, soundBy}
 use Rattle.soundness_law.proofs.Clocked.{session-clocked}
 use Rattle.soundness_law.proofs.Days.{sound-day}
 use Rattle.engine_law.specs.Outcome.{Outcome, outcome}
@@ -112,7 +112,7 @@ module _ (l : Lent) (e : Event) (long : Long l) where
   table-kept (Refused r) os t f h = refl
 
   sides-few : o .verdict ≡ Fine → (length (o .day .buys) ≤ slots) × (length (o .day .sells) ≤ slots)
-  unfolding sound
+  unfolding soundBy
   sides-few v =
       let s = accepted-sound (dayLent l) e v in
       let d = sound-day (o .day) s in

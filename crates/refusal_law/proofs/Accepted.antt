@@ -14,17 +14,18 @@ use Rattle.terms.specs.declared.Refusal.{Refusal}
 use Rattle.terms.specs.declared.Refusal.the-variants.{Unsound, Closed, NumberRange, TimeBack, OutOfHours, OffTick, OutsideBand, NotResting, SideFull, DayFull}
 use Rattle.terms.specs.declared.Verdict.the-variants.{Fine, Refused}
 use Rattle.terms.specs.Truth.{_⊓_}
-use Rattle.terms.specs.Sizes.{timeMost, lotsMost, priceMost, numbersMost, tradesBefore}
+use Rattle.terms.specs.Sizes.{timeMost, lotsMost, priceMost, numbersMost, tradesBefore, sizes}
 use Rattle.terms.specs.Numbers.{isTime, isLots, isPrice, isNumber, onTick}
 use Rattle.terms.specs.Refusals.{numberOf, Rule, firstFailed, codeOf}
 use Rattle.terms.proofs.Logic.{by, cases, split, both, between-facts}
+use Rattle.terms.specs.Options.{ofAny}
 use Rattle.rules_law.specs.Slabs.{inBand}
 use Rattle.book_law.specs.Priority.{rests}
 use Rattle.state_law.specs.Now.{bandNow}
 use Rattle.state_law.specs.Clock.{clockStep}
 use Rattle.state_law.specs.Day.{Day, own}
 use Rattle.soundness_law.specs.Sound.{sound}
-use Rattle.refusal_law.specs.Carried.{ofAny, carries}
+use Rattle.refusal_law.specs.Carried.{carries}
 use Rattle.refusal_law.specs.Refusals.{numbersRight, inHours, ticksRight, bandRight, finds, lifeHasPlace, hasPlace, hasNumbers, laterRules, rules, refusalOf}
 
 -- what the row with that number tests
@@ -53,8 +54,8 @@ pub record Accepted (d : Day) (e : Event) : Type 0 where
   pub ticked : ticksRight (d .session .settings .tick) (e .act) ≡ true
   pub banded : bandRight (bandNow (clockStep (d .session) (e .time))) (e .act) ≡ true
   pub found : finds d (e .act) ≡ true
-  pub placed : hasPlace d (e .act) ≡ true
-  pub numbered : hasNumbers (d .session .live .given) (d .session .tape .trades) (e .act) ≡ true
+  pub placed : hasPlace sizes d (e .act) ≡ true
+  pub numbered : hasNumbers sizes (d .session .live .given) (d .session .tape .trades) (e .act) ≡ true
 
 pub accepted : (d : Day) (e : Event) → refusalOf d e ≡ Fine → Accepted d e
 unfolding refusalOf rowOf
@@ -121,9 +122,9 @@ module _ (d : Day) (e : Event) (k : Accepted d e) where
   unfolding finds
   rests-right number c = any-some (λ n. rests n (d .buys) || rests n (d .sells)) (carries (e .act) .number) number (k .found) c
 
-  pub place-right : (n : Entry) → carries (e .act) .entry ≡ some n → lifeHasPlace (n .life) (length (own (n .side) d)) ≡ true
+  pub place-right : (n : Entry) → carries (e .act) .entry ≡ some n → lifeHasPlace sizes (n .life) (length (own (n .side) d)) ≡ true
   unfolding hasPlace
-  place-right n c = any-some (λ n. lifeHasPlace (n .life) (length (own (n .side) d))) (carries (e .act) .entry) n (k .placed) c
+  place-right n c = any-some (λ n. lifeHasPlace sizes (n .life) (length (own (n .side) d))) (carries (e .act) .entry) n (k .placed) c
 
 -- ---- rows 2 and 3
 
@@ -144,7 +145,7 @@ not-among n (r ∷ rs) z o e =
 -- refusal 2 is of days that are not sound, and of no other
 pub sound-not-two : (d : Day) (e : Event) → sound d ≡ true → codeOf (refusalOf d e) ≡ 2 → ⊥
 unfolding refusalOf firstFailed
-sound-not-two d e h r = not-among 2 (laterRules d e) (λ z. omega arith) refl (rw h at r)
+sound-not-two d e h r = not-among 2 (laterRules sizes d e) (λ z. omega arith) refl (rw h at r)
 
 -- and on a day that is not sound every event is refused 2
 pub unsound-refused : (d : Day) (e : Event) → sound d ≡ false → refusalOf d e ≡ Refused Unsound

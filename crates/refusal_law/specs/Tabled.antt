@@ -6,9 +6,10 @@ use lib.ListN.{length}
 use Rattle.terms.specs.declared.Side.{Side}
 use Rattle.terms.specs.declared.Side.the-variants.{Buy, Sell}
 use Rattle.terms.specs.declared.Act.{Act}
-use Rattle.terms.specs.Sizes.{slots, tableLength}
+use Rattle.terms.specs.Sizes.{slots, tableLength, sizes}
+use Rattle.terms.specs.Options.{ofAny}
 use Rattle.state_law.specs.declared.Session.{Session}
-use Rattle.refusal_law.specs.Carried.{ofAny, carries}
+use Rattle.refusal_law.specs.Carried.{carries}
 use Rattle.refusal_law.specs.Refusals.{lifeHasPlace}
 
 -- the tables are long enough, and the live counts are no more than they have slots for
@@ -25,4 +26,4 @@ liveOn Sell s = s .live .sells
 
 -- row 10, by the live counts
 unfoldable pub placeFor : Session → Act → Bool
-placeFor s a = ofAny (λ n. lifeHasPlace (n .life) (liveOn (n .side) s)) (carries a .entry)
+placeFor s a = ofAny (λ n. lifeHasPlace sizes (n .life) (liveOn (n .side) s)) (carries a .entry)

@@ -8,7 +8,7 @@ ghost use mathlib.Core.Path.{_≡_};
 ghost use mathlib.Core.Bool.{true};
 ghost use Prim.Native.Nat.{_*_, _≤_};
 ghost use lib.ListN.{take};
-ghost use Rattle.terms.specs.Sizes.{priceMost, lotsMost, tradesMost, timeMost, tickMost};
+ghost use Rattle.terms.specs.Sizes.{priceMost, lotsMost, tradesMost, timeMost, tickMost, sizes};
 ghost use Rattle.terms.specs.Truth.{_⊓_, between};
 ghost use Rattle.terms.specs.Numbers.{isPrice, isLots, onTick};
 ghost use Rattle.terms.specs.Ticks.{Dividing};
@@ -24,7 +24,7 @@ pub fn time_sound(s: Session) -> bool
 }
 
 pub fn counts_sound(s: Session) -> bool
-    ensures { λ r. ⌜ r ≡ countsSound s ⌝ }
+    ensures { λ r. ⌜ r ≡ countsSound sizes s ⌝ }
 {
     let most = sizes::SLOTS as u64;
     (s.live.buys <= most) & (s.live.sells <= most)
@@ -42,7 +42,7 @@ pub fn slab_sound(s: Session) -> bool
 }
 
 pub fn numbers_sound(s: Session) -> bool
-    ensures { λ r. ⌜ r ≡ numbersSound s ⌝ }
+    ensures { λ r. ⌜ r ≡ numbersSound sizes s ⌝ }
 {
     let reference = (1 <= s.reckoning.reference)
         & (s.reckoning.reference <= rules::reference::MOST);
@@ -170,7 +170,7 @@ fn times(lots: u64, x: u64) -> u64
 
 pub fn half_sound(tick: u64, trades: u64, h: Tally) -> bool
     requires { ⌜ (tick ≤ tickMost) × (trades ≤ tradesMost) ⌝ }
-    ensures { λ r. ⌜ r ≡ halfSound tick trades h ⌝ }
+    ensures { λ r. ⌜ r ≡ halfSound tick priceMost trades h ⌝ }
 {
     let count = h.count;
     let lots = h.lots;

@@ -84,7 +84,7 @@ unfolding clockStep reckoned
 clock-kept s t h m u p =
     let n = p .numbered in
     let r : Reckoned (s .tape .trades) (reckoned (s .reckoning) (s .clock .under) (s .settings .days) (s .clock .time) t) =
-    boundaries-kept (s .tape .trades) (s .clock .under) (s .settings .days) (n .under-small) (valid-facts (s .settings) (p .valid) .days-small)
+    boundaries-kept (s .tape .trades) (s .clock .under) (s .settings .days) (n .under-small) (valid-facts (s .settings) (p .valid) .in-range .days-small)
     (crossed (s .clock .time) t) (s .reckoning) (record { some = n .reference-some; small = n .reference-small; minuted = p .minuted }) in
     record {
       valid = p .valid;

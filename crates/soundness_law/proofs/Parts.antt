@@ -7,7 +7,7 @@ use mathlib.Core.List.{List}
 use borrow.Author.Tests.{leb-true, le-leb}
 use lib.Dec.{ltb, eqb}
 use lib.ListN.{take}
-use Rattle.terms.specs.Sizes.{slots, priceMost, lotsMost, numbersMost, tradesMost, timeMost}
+use Rattle.terms.specs.Sizes.{slots, priceMost, lotsMost, numbersMost, tradesMost, timeMost, sizes}
 use Rattle.terms.specs.Numbers.{isLots}
 use Rattle.terms.specs.Settings.{settingsValid}
 use Rattle.terms.proofs.Logic.{both, make, between-facts, between-make}
@@ -76,7 +76,7 @@ clock-timed s t h =
       ends = leb-true (s .clock .cooling) (s .clock .time + coolingLength) (slab .1);
     }
 
-clock-numbered : (s : Session) → numbersSound s ≡ true → Numbered (s .reckoning .reference) (s .clock .under) (s .live .given) (s .tape .trades)
+clock-numbered : (s : Session) → numbersSound sizes s ≡ true → Numbered (s .reckoning .reference) (s .clock .under) (s .live .given) (s .tape .trades)
 unfolding numbersSound
 clock-numbered s h =
     let trades = both h in
@@ -91,7 +91,7 @@ clock-numbered s h =
       trades-small = leb-true (s .tape .trades) tradesMost (trades .1);
     }
 
-tape-halved : (tick trades : ℕ) (h : Tally) → halfSound tick trades h ≡ true → Halved tick trades h
+tape-halved : (tick trades : ℕ) (h : Tally) → halfSound tick priceMost trades h ≡ true → Halved tick trades h
 unfolding halfSound
 tape-halved tick trades h e =
     let value = both e in
@@ -113,7 +113,7 @@ tape-minuted trades m e =
     let s = between-facts (m .count) (m .sum) (priceMost * m .count) (sum .1) in
     record { few = leb-true (m .count) trades (sum .0); sum-some = s .0; sum-small = s .1 }
 
-pub parts-of : (s : Session) → sessionSound s ≡ true → Parts s
+pub parts-of : (s : Session) → sessionSound sizes s ≡ true → Parts s
 unfolding sessionSound clockSound tapeSound rememberedSound
 parts-of s h =
     let whole = both h in
@@ -135,7 +135,7 @@ parts-of s h =
 
 -- ---- and into them
 
-clock-made : (s : Session) → Parts s → s .live .buys ≤ slots → s .live .sells ≤ slots → clockSound s ≡ true
+clock-made : (s : Session) → Parts s → s .live .buys ≤ slots → s .live .sells ≤ slots → clockSound sizes s ≡ true
 unfolding clockSound timeSound countsSound slabSound numbersSound
 clock-made s p buys sells =
     let t = p .timed in
@@ -168,6 +168,6 @@ tape-made s p =
     (between-make (minute .count) (minute .sum) (priceMost * minute .count) (m .sum-some) (m .sum-small))))
     (make (p .remembered .priced) (p .remembered .sized))
 
-pub parts-made : (s : Session) → Parts s → s .live .buys ≤ slots → s .live .sells ≤ slots → sessionSound s ≡ true
+pub parts-made : (s : Session) → Parts s → s .live .buys ≤ slots → s .live .sells ≤ slots → sessionSound sizes s ≡ true
 unfolding sessionSound
 parts-made s p buys sells = make (clock-made s p buys sells) (tape-made s p)
