@@ -1,11 +1,12 @@
 -- Where a session stands: what is shown is what orders are judged by.
 use Prim.Native.Nat.{ℕ, _≤_, _<_}
-use mathlib.Core.Path.{_≡_, refl, ap, sym}
-use mathlib.Core.Bool.{true, false, _&&_}
+use mathlib.Core.Path.{_≡_, refl, ap, sym, _∙_}
+use mathlib.Core.Bool.{Bool, true, false, not, _&&_}
 use mathlib.Core.List.{List}
-use borrow.Author.Tests.{le-leb, lt-leb}
-use lib.Dec.{leb}
+use borrow.Author.Tests.{le-leb, lt-leb, not-true, not-false}
+use lib.Dec.{leb, eqb}
 use lib.ListN.{length}
+use Rattle.terms.specs.declared.Band.{Band}
 use Rattle.terms.specs.declared.Settings.{Settings}
 use Rattle.terms.specs.declared.Side.{Side}
 use Rattle.terms.specs.declared.Life.{Life}
@@ -23,12 +24,14 @@ use Rattle.rules_law.specs.Close.{lastOr, lastLots}
 use Rattle.rules_law.proofs.Ranges.{range-between}
 use Rattle.rules_law.proofs.Tapes.{last-newest, lots-newest}
 use Rattle.state_law.specs.declared.Session.{Session}
-use Rattle.state_law.specs.Now.{bandNow, rangeNow}
+use Rattle.state_law.specs.Now.{Clocked, percentNow, bandNow, rangeNow}
 use Rattle.state_law.specs.Opening.{openedSession}
 use Rattle.state_law.specs.Clock.{widenedBy, clockStep}
 use Rattle.state_law.specs.Trades.{withTrade}
 use Rattle.state_law.specs.Tens.{Ten}
 use Rattle.soundness_law.specs.Sound.{sound, dayIn}
+use Rattle.soundness_law.proofs.Clocked.{session-clocked}
+use Rattle.soundness_law.proofs.Border.{sound-session}
 use Rattle.refusal_law.specs.Refusals.{bandRight}
 use Rattle.acts_law.specs.Heard.{initialBand, enhancedBand}
 use Rattle.engine_law.specs.declared.Standing.{Standing}
@@ -60,6 +63,26 @@ module _ (s : Session) (buys sells : List ℕ) where
   unfolding standingCall standingVerdict firstFailed _⊓_
   stands-unsound b t e = rw (le-leb tableLength (length buys) b, le-leb tableLength (length sells) t, e)
 
+  -- code tests the lengths, then `found`, which is whether the session is sound, and has `a` or `st` of a call
+
+  pub short-bought : (a : Stood) → length buys < tableLength → a ≡ record { verdict = Refused SmallRoom; standing = noStanding } → a ≡ standingCall s buys sells
+  short-bought a b e = e ∙ sym (short-buys b)
+
+  pub short-sold : (a : Stood) → tableLength ≤ length buys → length sells < tableLength → a ≡ record { verdict = Refused SmallRoom; standing = noStanding } →
+      a ≡ standingCall s buys sells
+  short-sold a b t e = e ∙ sym (short-sells b t)
+
+  pub found-unsound : (found : Bool) (a : Stood) → tableLength ≤ length buys → tableLength ≤ length sells → found ≡ sound (dayIn s buys sells) →
+      not found ≡ true → a ≡ record { verdict = Refused Unsound; standing = noStanding } → a ≡ standingCall s buys sells
+  found-unsound found a b t k n e = e ∙ sym (stands-unsound b t (sym k ∙ not-true found n))
+
+  pub found-clocked : (found : Bool) → found ≡ sound (dayIn s buys sells) → not found ≡ false → Clocked s
+  found-clocked found k n = session-clocked s (sound-session (dayIn s buys sells) (sym k ∙ not-false found n))
+
+  pub found-sound : (found : Bool) (st : Standing) → tableLength ≤ length buys → tableLength ≤ length sells → found ≡ sound (dayIn s buys sells) →
+      not found ≡ false → st ≡ standingNow s → record { verdict = Fine; standing = st } ≡ standingCall s buys sells
+  found-sound found st b t k n e = rw e (sym (stands-fine b t (sym k ∙ not-false found n)))
+
   -- what is shown of a session that is not refused is what is in force in it
   by-verdict : (v : Verdict) (st : Standing) → stoodBy v s ≡ record { verdict = Fine; standing = st } → st ≡ standingNow s
   by-verdict Fine st e = ap (λ (x : Stood). x .standing) (sym e)
@@ -84,6 +107,27 @@ module _ (s : Session) (buys sells : List ℕ) where
       inRange (rangeNow s) x ≡ inBand (st .range) x
   unfolding standingNow
   counter-shown st x e = rw (fine-shows st e) (range-between (rangeNow s) x)
+
+-- its parts, as code computes them
+pub stands-by : (s : Session) (percent price lots : ℕ) (band range : Band) → percent ≡ percentNow s → band ≡ bandNow s → range ≡ rangeEnds (rangeNow s) →
+    price ≡ lastOr 0 (s .tape) → lots ≡ lastLots (s .tape) →
+    record {
+      percent = percent;
+      band = band;
+      range = range;
+      reference = s .reckoning .reference;
+      cooling = not (eqb (s .cooling) 0);
+      ends = s .cooling;
+      price = price;
+      lots = lots;
+      buys = s .buys;
+      sells = s .sells;
+      given = s .given;
+      trades = s .tape .trades;
+    }
+    ≡ standingNow s
+unfolding standingNow
+stands-by s percent price lots band range p b r q l = rw (p, b, r, q, l)
 
 -- ---- what is in force
 
