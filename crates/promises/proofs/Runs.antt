@@ -18,7 +18,7 @@ use Rattle.soundness_law.specs.Sound.{sound}
 use Rattle.acts_law.specs.Asked.{resting, accepts, numbersTo}
 use Rattle.acts_law.specs.Heard.{slabIn, slabsTold}
 use Rattle.acts_law.proofs.Numbers.{accepts-append}
-use Rattle.acts_law.proofs.Hears.{Listener, listenAll, EachFine, KnowsOf, TellsOf, fine-append}
+use Rattle.acts_law.proofs.Hears.{Listener, listenAll, knownOf, KnowsOf, TellsOf, none-tells, append-tells}
 use Rattle.engine_law.specs.Outcome.{outcome, after, told}
 use Rattle.engine_law.proofs.Kept.{outcome-sound, outcome-kept, outcome-counts, outcome-tells, outcome-widens, outcome-once, outcome-settings, outcome-forward, outcome-given, accepted-asks, asks-old, asks-new}
 use Rattle.promises.specs.Lots.{asked}
@@ -73,16 +73,23 @@ run-counts d (e ∷ es) =
     ∙ ap (λ (l : List ℕ). l ++ accepts (told d′ es)) (outcome-counts d e)
     ∙ run-counts d′ es
 
-pub run-fine : (g : Settings) (l : Listener) (d : Day) (es : List Event) → d .session .settings ≡ g → KnowsOf g l (d .session) →
-    EachFine g l (told d es)
-unfolding told EachFine
-run-fine g l d [] k m = tt
-run-fine g l d (e ∷ es) k m =
+pub run-settings : (d : Day) (es : List Event) → after d es .session .settings ≡ d .session .settings
+unfolding after
+run-settings d [] = refl
+run-settings d (e ∷ es) = run-settings (outcome d e .day) es ∙ outcome-settings d e
+
+-- every report is fine, and a listener knows at the end what is in force then
+pub run-tells : (g : Settings) (l : Listener) (d : Day) (es : List Event) → d .session .settings ≡ g → KnowsOf g l (d .session) →
+    TellsOf g l (told d es) (after d es .session)
+unfolding told after
+run-tells g l d [] k m = none-tells g (knownOf (d .session)) l m
+run-tells g l d (e ∷ es) k m =
     let rs : List Report = outcome d e .reports in
     let d′ : Day = outcome d e .day in
     let p : TellsOf g l rs (d′ .session) =
     subst (λ (x : Settings). KnowsOf x l (d .session) → TellsOf x l rs (d′ .session)) k (outcome-tells d e l) m in
-    fine-append g l rs (told d′ es) (p .fine) (run-fine g (listenAll l rs) d′ es (outcome-settings d e ∙ k) (p .known))
+    append-tells g (knownOf (d′ .session)) (knownOf (after d′ es .session)) l rs (told d′ es) p
+    (λ q. run-tells g (listenAll l rs) d′ es (outcome-settings d e ∙ k) q)
 
 pub run-widens : (d : Day) (es : List Event) → slabsTold (told d es) + d .session .clock .widened ≤ after d es .session .clock .widened
 unfolding told after total
