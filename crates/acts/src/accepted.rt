@@ -16,7 +16,7 @@ ghost use mathlib.Core.Path.{_≡_};
 ghost use Rattle.acts_law.specs.Acts.{act};
 ghost use Rattle.soundness_law.specs.Sound.{dayIn};
 ghost use Rattle.engine_law.specs.Calls.{eventAt, Ready, ActedAs};
-ghost use Rattle.engine_law.specs.Steps.{Stepping, SteppedAs, Quiet};
+ghost use Rattle.engine_law.specs.code.Steps.{Stepping, SteppedAs, Quiet};
 
 // What every event but the close begins with: the tables' tails are cleared, and the clock steps are reported.
 fn step_in(old: Session, s: Session, buys: &mut [u64], sells: &mut [u64], room: &mut [u64]) -> usize

@@ -5,10 +5,11 @@ use state_law::Session;
 use terms::Said;
 ghost use Prim.Native.Nat.{_+_, _*_, _≤_};
 ghost use lib.ListN.{length};
-ghost use Rattle.terms.specs.Sizes.{slots, tableLength, recordLength};
+ghost use Rattle.terms.specs.Sizes.{slots};
+ghost use Rattle.tables.specs.Lengths.{tableLength, recordLength};
 ghost use Rattle.tables.specs.Tables.{decode};
 ghost use Rattle.state_law.specs.Now.{Steady};
-ghost use Rattle.acts_law.specs.Written.{Finished};
+ghost use Rattle.acts_law.specs.code.Written.{Finished};
 
 // The cancels of both sides and the close report; both tables are empty then. The place behind the reports is the answer.
 pub fn finish(

@@ -4,9 +4,9 @@ use acts_reports::telling;
 use terms::Why;
 ghost use Prim.Native.Nat.{_+_, _≤_};
 ghost use lib.ListN.{length};
-ghost use Rattle.terms.specs.Sizes.{recordLength};
+ghost use Rattle.tables.specs.Lengths.{recordLength};
 ghost use Rattle.tables.specs.Tables.{decode, Holds};
-ghost use Rattle.acts_law.specs.Written.{RestsIn, WithdrawnAs};
+ghost use Rattle.acts_law.specs.code.Written.{RestsIn, WithdrawnAs};
 
 // The order of that number goes from the buys, or else from the sells; it rests on one of the two.
 pub fn withdraw(

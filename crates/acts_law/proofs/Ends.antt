@@ -9,7 +9,8 @@ use Rattle.terms.specs.declared.Closing.{Closing}
 use Rattle.terms.specs.declared.Order.{Order}
 use Rattle.terms.specs.declared.Said.the-variants.{Close}
 use Rattle.terms.specs.declared.Why.the-variants.{Asked, DayEnd}
-use Rattle.terms.specs.Sizes.{recordLength, slots}
+use Rattle.terms.specs.Sizes.{slots}
+use Rattle.tables.specs.Lengths.{recordLength}
 use Rattle.rules_law.specs.Close.{closingOf}
 use Rattle.tables.specs.Tables.{decode, tableOf, Holds}
 use Rattle.tables.proofs.Slots.{length-decode}
@@ -18,7 +19,7 @@ use Rattle.book_law.specs.Matching.{reportAt}
 use Rattle.book_law.proofs.Over.{length-removed}
 use Rattle.state_law.specs.declared.Session.{Session}
 use Rattle.acts_law.specs.Acts.{ended, cancelReports, closeReport, finished}
-use Rattle.acts_law.specs.Written.{Written, RestsIn, WithdrawnAs, Finished}
+use Rattle.acts_law.specs.code.Written.{Written, RestsIn, WithdrawnAs, Finished}
 use Rattle.acts_law.proofs.Reports.{written-length, written-then, length-cancels}
 
 -- ---- a cancel

@@ -13,7 +13,7 @@ use Rattle.terms.specs.declared.Life.{Life}
 use Rattle.terms.specs.declared.Life.the-variants.{AllDay, Ioc}
 use Rattle.terms.specs.declared.Kind.{Kind}
 use Rattle.terms.specs.declared.Said.the-variants.{Accept}
-use Rattle.terms.specs.Sizes.{recordLength}
+use Rattle.tables.specs.Lengths.{recordLength}
 use Rattle.terms.proofs.Logic.{cases}
 use Rattle.tables.specs.Tables.{decode}
 use Rattle.tables.proofs.Slots.{length-decode}
@@ -25,8 +25,8 @@ use Rattle.acts_law.specs.declared.Remainder.{Remainder}
 use Rattle.acts_law.specs.declared.Met.{Met}
 use Rattle.acts_law.specs.declared.Placed.{Placed}
 use Rattle.acts_law.specs.Acts.{sweepIn, fateIn, entered}
-use Rattle.acts_law.specs.Written.{fateFrom, remainderOf, fateBack, takesPlace, Settling, Settled}
-use Rattle.acts_law.specs.Entering.{Meeting, MetAs, Entering, EnteredAs}
+use Rattle.acts_law.specs.code.Written.{fateFrom, remainderOf, fateBack, takesPlace, Settling, Settled}
+use Rattle.acts_law.specs.code.Entering.{Meeting, MetAs, Entering, EnteredAs}
 use Rattle.acts_law.proofs.Reports.{written-length, written-then}
 
 back : (f : Fate) → fateBack (remainderOf f) ≡ f

@@ -22,7 +22,7 @@ use Rattle.state_law.specs.declared.Session.{Session}
 use Rattle.state_law.specs.Now.{bandNow}
 use Rattle.state_law.specs.Clock.{clockStep}
 use Rattle.state_law.specs.Trades.{withTrade}
-use Rattle.state_law.specs.Tens.{Ten}
+use Rattle.state_law.specs.code.Tens.{Ten}
 use Rattle.state_law.specs.Day.{Day, dayOf}
 use Rattle.state_law.proofs.Counts.{last-traded}
 use Rattle.acts_law.specs.Acts.{clockReports, sweepIn, lastIn, fateIn, act}

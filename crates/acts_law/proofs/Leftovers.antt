@@ -12,7 +12,7 @@ use Rattle.tables.proofs.Slots.{length-decode}
 use Rattle.book_law.specs.Priority.{insert}
 use Rattle.book_law.specs.Matching.{Done, Rests, Turns, Ends, reportAt}
 use Rattle.acts_law.specs.Acts.{ended}
-use Rattle.acts_law.specs.Written.{Written, Settled}
+use Rattle.acts_law.specs.code.Written.{Written, Settled}
 use Rattle.acts_law.proofs.Reports.{written-none}
 
 module _ (side : Side) (time number left n : ℕ) (t room : List ℕ) (at : ℕ) where

@@ -10,17 +10,18 @@ use Rattle.terms.specs.declared.Entry.{Entry}
 use Rattle.terms.specs.declared.Order.{Order}
 use Rattle.terms.specs.declared.Report.{Report}
 use Rattle.terms.specs.declared.Said.the-variants.{Accept}
-use Rattle.terms.specs.Sizes.{recordLength, slots}
-use Rattle.terms.specs.Records.{recordsOf}
+use Rattle.terms.specs.Sizes.{slots}
+use Rattle.tables.specs.Lengths.{recordLength}
+use Rattle.tables.specs.Records.{recordsOf}
 use Rattle.rules_law.specs.Reference.{RangeFits}
 use Rattle.tables.specs.Put.{put}
 use Rattle.tables.specs.Tables.{decode, tableOf, Holds}
 use Rattle.tables.proofs.Slots.{length-decode}
 use Rattle.tables.proofs.Puts.{length-put}
-use Rattle.terms.proofs.Records.{length-records}
+use Rattle.tables.proofs.Records.{length-records}
 use Rattle.matching_law.specs.declared.Incoming.{Incoming}
 use Rattle.matching_law.specs.declared.Matched.{Matched}
-use Rattle.matching_law.specs.Sweeps.{sweptOf, SweptInto}
+use Rattle.matching_law.specs.code.Sweeps.{sweptOf, SweptInto}
 use Rattle.book_law.specs.Over.{Each}
 use Rattle.book_law.specs.Matching.{Swept, part, reportAt, tradeReports, ownLastOr}
 use Rattle.book_law.proofs.Conserve.{Fewer, sweep-fewer}
@@ -31,8 +32,8 @@ use Rattle.state_law.specs.Set.{setGiven}
 use Rattle.state_law.specs.Now.{bandNow}
 use Rattle.state_law.specs.Trades.{withTrades, TradesFit}
 use Rattle.acts_law.specs.Acts.{lastIn, sweepIn}
-use Rattle.acts_law.specs.Written.{Written, fillsAt, Deals, EachDeals}
-use Rattle.acts_law.specs.Entering.{incomingIn, Meeting, MetAs}
+use Rattle.acts_law.specs.code.Written.{Written, fillsAt, Deals, EachDeals}
+use Rattle.acts_law.specs.code.Entering.{incomingIn, Meeting, MetAs}
 use Rattle.acts_law.proofs.Reports.{written-length, written-then}
 use Rattle.acts_law.proofs.Recalled.{recalls, deals-each}
 

@@ -9,8 +9,8 @@ use Rattle.terms.specs.declared.Order.{Order}
 use Rattle.terms.specs.declared.Band.{Band}
 use Rattle.terms.specs.declared.Side.{Side}
 use Rattle.terms.specs.declared.Side.the-variants.{Buy, Sell}
-use Rattle.terms.specs.Sizes.{recordLength}
-use Rattle.terms.specs.Records.{recordOf, recordsOf}
+use Rattle.tables.specs.Lengths.{recordLength}
+use Rattle.tables.specs.Records.{recordOf, recordsOf}
 use Rattle.terms.specs.declared.Report.{Report}
 use Rattle.terms.specs.declared.Said.the-variants.{Trade}
 use Rattle.book_law.specs.Over.{Each}
@@ -19,7 +19,7 @@ use Rattle.state_law.specs.declared.Session.{Session}
 use Rattle.state_law.specs.Now.{bandNow}
 use Rattle.state_law.specs.Trades.{withTrade, withTrades, TradesFit}
 use Rattle.state_law.proofs.Fits.{fits-after, band-kept}
-use Rattle.acts_law.specs.Written.{fillAt, fillsAt, Deals, EachDeals}
+use Rattle.acts_law.specs.code.Written.{fillAt, fillsAt, Deals, EachDeals}
 
 -- ---- in the code's loop
 

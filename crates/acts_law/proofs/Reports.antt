@@ -14,17 +14,17 @@ use Rattle.terms.specs.declared.Report.{Report}
 use Rattle.terms.specs.declared.Said.{Said}
 use Rattle.terms.specs.declared.Said.the-variants.{Slab}
 use Rattle.terms.specs.declared.Why.{Why}
-use Rattle.terms.specs.Sizes.{recordLength}
-use Rattle.terms.specs.Records.{recordOf, recordsOf}
+use Rattle.tables.specs.Lengths.{recordLength}
+use Rattle.tables.specs.Records.{recordOf, recordsOf}
 use Rattle.tables.specs.Put.{put}
 use Rattle.tables.specs.Tables.{orderAt, decode}
 use Rattle.tables.proofs.Puts.{put-none, length-put}
 use Rattle.tables.proofs.Slots.{length-decode, decode-read}
-use Rattle.terms.proofs.Records.{length-records}
+use Rattle.tables.proofs.Records.{length-records}
 use Rattle.tables.proofs.Written.{put-records}
 use Rattle.book_law.specs.Matching.{reportAt}
 use Rattle.acts_law.specs.Acts.{only, ended, cancelReports}
-use Rattle.acts_law.specs.Written.{Written}
+use Rattle.acts_law.specs.code.Written.{Written}
 use Rattle.acts_law.proofs.Few.{only-few}
 
 pub written-none : (room : List ℕ) (at : ℕ) → Written room at [] room at

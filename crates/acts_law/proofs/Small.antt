@@ -25,9 +25,10 @@ use Rattle.terms.specs.declared.Why.{Why}
 use Rattle.terms.specs.declared.Why.the-variants.{Asked, Immediate, OutOfRange, OutsideBand, DayEnd}
 use Rattle.terms.specs.Sizes.{lotsMost, priceMost, timeMost, numbersMost, writtenMost}
 use Rattle.terms.specs.Reports.{kindOf, whyOf}
-use Rattle.terms.specs.Records.{fieldsOf, recordOf}
+use Rattle.tables.specs.Records.{fieldsOf, recordOf}
 use Rattle.terms.proofs.Logic.{by, between-facts}
 use Rattle.terms.proofs.Valid.{valid-facts}
+use Rattle.terms.specs.Numbers.{Writable}
 use Rattle.rules_law.specs.Slabs.{inBand}
 use Rattle.rules_law.proofs.Bands.{low-small, high-small}
 use Rattle.book_law.specs.Priority.{leftOf}
@@ -47,7 +48,7 @@ use Rattle.soundness_law.proofs.Closes.{close-small, base-small}
 use Rattle.refusal_law.specs.Carried.{carries}
 use Rattle.refusal_law.proofs.Accepted.{Accepted, time-right, price-right, number-right}
 use Rattle.acts_law.specs.Acts.{Acted, only, slabMoved, slabReport, refMoved, refReport, clockReports, sweepIn, fateIn, entered, ended, dropped, sideOf, withdrawn, silent, cancelReports, closeReport, finished, andThen, stepped, timed, act}
-use Rattle.acts_law.specs.Small.{AllSmall, SmallReport, SmallReports}
+use Rattle.acts_law.specs.Small.{SmallReport, SmallReports}
 use Rattle.acts_law.proofs.Does.{sets-alike, enters, ends, event-by}
 use Rattle.acts_law.proofs.Stays.{Ready, fills-fit, Let, begins, lets}
 
@@ -70,10 +71,10 @@ why-small OutsideBand = omega arith
 why-small DayEnd = omega arith
 
 -- four fields that are small
-four : (a b c d : ℕ) → a ≤ writtenMost → b ≤ writtenMost → c ≤ writtenMost → d ≤ writtenMost → AllSmall (a ∷ b ∷ c ∷ d ∷ [])
+four : (a b c d : ℕ) → a ≤ writtenMost → b ≤ writtenMost → c ≤ writtenMost → d ≤ writtenMost → Writable (a ∷ b ∷ c ∷ d ∷ [])
 four a b c d h k l m = (h, (k, (l, (m, tt))))
 
-said-small : (t : ℕ) (x : Said) → t ≤ timeMost → AllSmall (fieldsOf x) → SmallReport (reportAt t x)
+said-small : (t : ℕ) (x : Said) → t ≤ timeMost → Writable (fieldsOf x) → SmallReport (reportAt t x)
 unfolding recordOf
 said-small t x h k = (kind-small x, (omega arith, k))
 

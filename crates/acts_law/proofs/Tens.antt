@@ -10,7 +10,7 @@ use Rattle.state_law.specs.declared.Session.{Session}
 use Rattle.state_law.specs.Set.{setGiven}
 use Rattle.state_law.specs.Clock.{clockStep}
 use Rattle.state_law.specs.Day.{Day, dayWith}
-use Rattle.state_law.specs.Tens.{Ten}
+use Rattle.state_law.specs.code.Tens.{Ten}
 use Rattle.state_law.proofs.Tens.{trades-ten}
 use Rattle.acts_law.specs.Acts.{Acted, entered, dropped, sideOf, finished, stepped, timed, does, act}
 use Rattle.acts_law.proofs.Does.{sets-alike, does-by, begun-by}

@@ -15,7 +15,7 @@ use terms::Said;
 ghost use mathlib.Core.Path.{_≡_};
 ghost use Prim.Native.Nat.{_+_};
 ghost use Rattle.tables.specs.Tables.{decode};
-ghost use Rattle.acts_law.specs.Entering.{incomingIn, Meeting, MetAs, Entering, EnteredAs};
+ghost use Rattle.acts_law.specs.code.Entering.{incomingIn, Meeting, MetAs, Entering, EnteredAs};
 
 // The order as it meets the counter side: with the next number, the range, and the price that stands for its last trade.
 fn incoming(s: Session, n: Entry, number: u64) -> Incoming

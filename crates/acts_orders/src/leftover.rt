@@ -17,7 +17,7 @@ ghost use Rattle.terms.specs.Sizes.{slots};
 ghost use Rattle.tables.specs.Tables.{decode, tableOf, Holds};
 ghost use Rattle.book_law.specs.Priority.{insert};
 ghost use Rattle.book_law.specs.Matching.{fateOfLeft};
-ghost use Rattle.acts_law.specs.Written.{remainderOf, fateFrom, fateBack, Settling, Settled};
+ghost use Rattle.acts_law.specs.code.Written.{remainderOf, fateFrom, fateBack, Settling, Settled};
 
 // A market order that lives all day turns into a limit at its last price, if that is in the band.
 fn turned(band: Band, last: u64) -> Remainder

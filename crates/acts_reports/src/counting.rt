@@ -2,9 +2,9 @@
 use engine_law::Answer;
 use engine_law::Applied;
 use state_law::Session;
-use terms::sizes;
+use tables::lengths;
 ghost use mathlib.Core.Path.{_≡_};
-ghost use Rattle.engine_law.specs.Steps.{doneAt};
+ghost use Rattle.engine_law.specs.code.Steps.{doneAt};
 
 // The session with its live counts, and the count of the reports that end at a place of the room.
 pub fn done(s: Session, nbuys: usize, nsells: usize, at: usize) -> Applied
@@ -13,7 +13,7 @@ pub fn done(s: Session, nbuys: usize, nsells: usize, at: usize) -> Applied
     let mut r = s;
     r.live.buys = nbuys as u64;
     r.live.sells = nsells as u64;
-    let count = (at / sizes::RECORD) as u64;
+    let count = (at / lengths::RECORD) as u64;
     Applied {
         answer: Answer::Reported(count),
         session: r,

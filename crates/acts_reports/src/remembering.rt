@@ -1,15 +1,16 @@
 // The trades of a sweep, read back from their records and remembered in the session.
 use state::trades;
 use state_law::Session;
+use tables::lengths;
 use terms::Band;
-use terms::sizes;
 ghost use mathlib.Core.Path.{_≡_};
 ghost use Prim.Native.Nat.{_+_, _*_, _≤_};
 ghost use lib.ListN.{length, drop};
-ghost use Rattle.terms.specs.Sizes.{slots, recordLength};
+ghost use Rattle.terms.specs.Sizes.{slots};
+ghost use Rattle.tables.specs.Lengths.{recordLength};
 ghost use Rattle.state_law.specs.Now.{bandNow};
 ghost use Rattle.state_law.specs.Trades.{withTrades, TradesFit};
-ghost use Rattle.acts_law.specs.Written.{fillsAt, EachDeals};
+ghost use Rattle.acts_law.specs.code.Written.{fillsAt, EachDeals};
 
 // The session after the n trades whose records stand in the room from `at` on; band is the band in force.
 pub fn remember(s0: Session, band: Band, room: &[u64], at: usize, n: usize) -> Session
@@ -19,7 +20,7 @@ pub fn remember(s0: Session, band: Band, room: &[u64], at: usize, n: usize) -> S
     let mut s = s0;
     let mut i: usize = 0;
     while i < n {
-        let place = at + sizes::RECORD * i;
+        let place = at + lengths::RECORD * i;
         let lots = room[place + 4];
         let price = room[place + 5];
         s = trades::with_trade(s, band, price, lots);

@@ -1,29 +1,30 @@
 // Reports into the room, one behind the other.
 use state::force;
 use state_law::Session;
+use tables::lengths;
 use terms::Ended;
 use terms::Report;
 use terms::Said;
 use terms::Why;
-use terms::sizes;
 ghost use mathlib.Core.Bool.{not};
 ghost use mathlib.Core.List.{[], _∷_};
 ghost use Prim.Native.Nat.{_+_, _*_, _≤_};
 ghost use lib.Dec.{eqb};
 ghost use lib.ListN.{length};
-ghost use Rattle.terms.specs.Sizes.{recordLength, slots, tableLength};
+ghost use Rattle.terms.specs.Sizes.{slots};
+ghost use Rattle.tables.specs.Lengths.{recordLength, tableLength};
 ghost use Rattle.tables.specs.Tables.{decode};
 ghost use Rattle.book_law.specs.Matching.{reportAt};
 ghost use Rattle.state_law.specs.Now.{Clocked};
 ghost use Rattle.acts_law.specs.Acts.{only, slabMoved, slabReport, clockReports, ended, cancelReports};
-ghost use Rattle.acts_law.specs.Written.{Written};
+ghost use Rattle.acts_law.specs.code.Written.{Written};
 
 // One report; the place behind it is the answer.
 pub fn tell(room: &mut [u64], at: usize, time: u64, said: Said) -> usize
     requires { ⌜ at + recordLength ≤ length (now room) ⌝ }
     ensures { λ r. ⌜ Written (now (room .entry)) at (reportAt time said ∷ []) (now (room .exit)) r ⌝ }
 {
-    let next = at + sizes::RECORD;
+    let next = at + lengths::RECORD;
     tables::room::put_record(
         room,
         at,

@@ -6,10 +6,11 @@ ghost use mathlib.Core.Path.{_≡_};
 ghost use Prim.Native.Nat.{_≤_, _<_};
 ghost use lib.Dec.{eqb};
 ghost use lib.ListN.{length};
-ghost use Rattle.terms.specs.Sizes.{slots, tableLength};
+ghost use Rattle.terms.specs.Sizes.{slots};
+ghost use Rattle.tables.specs.Lengths.{tableLength};
 ghost use Rattle.tables.specs.Tables.{decode, tableOf, Holds};
 ghost use Rattle.book_law.specs.Priority.{better, ahead, insert, rests, removed, leftOf};
-ghost use Rattle.book_law.specs.Places.{firstWhere};
+ghost use Rattle.book_law.specs.code.Places.{firstWhere};
 
 // Price p is better than price q.
 pub fn is_better(side: Side, p: u64, q: u64) -> bool

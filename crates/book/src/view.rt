@@ -1,10 +1,11 @@
 // The view of a side: the live part of the named table, where it lies.
+use tables::lengths;
 use terms::Side;
 use terms::sizes;
 ghost use mathlib.Core.Path.{_≡_};
 ghost use Prim.Native.Nat.{_≤_};
 ghost use lib.ListN.{length};
-ghost use Rattle.terms.specs.Sizes.{tableLength};
+ghost use Rattle.tables.specs.Lengths.{tableLength};
 ghost use Rattle.book_law.specs.View.{livePart, viewOf};
 
 // The numbers of n orders.
@@ -15,7 +16,7 @@ fn live<'a>(t: &'a [u64], n: usize) -> &'a [u64]
     if sizes::SLOTS < n {
         return &t[0..0];
     }
-    let end = sizes::WIDTH * n;
+    let end = lengths::WIDTH * n;
     &t[0..end]
 }
 
@@ -29,10 +30,10 @@ pub fn view<'a>(
 ) -> &'a [u64]
     ensures { λ r. ⌜ now r ≡ viewOf side (now (buys .entry)) (now (sells .entry)) buying selling ⌝ }
 {
-    if buys.len() < sizes::TABLE {
+    if buys.len() < lengths::TABLE {
         return &buys[0..0];
     }
-    if sells.len() < sizes::TABLE {
+    if sells.len() < lengths::TABLE {
         return &sells[0..0];
     }
     match side {

@@ -15,7 +15,7 @@ use Rattle.book_law.proofs.Over.{removed-none}
 use Rattle.tables.specs.Tables.{orderAt, decode, tableOf}
 use Rattle.tables.proofs.Slots.{decode-read, decode-end, length-decode}
 use Rattle.book_law.specs.Priority.{ahead, insert, rests, removed, leftOf}
-use Rattle.book_law.specs.Places.{firstWhere}
+use Rattle.book_law.specs.code.Places.{firstWhere}
 
 -- what a call answered, and what the branch shows of it
 pub told : (b c d : Bool) → b ≡ c → b ≡ d → c ≡ d

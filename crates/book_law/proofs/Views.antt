@@ -8,7 +8,8 @@ use lib.Dec.{ltb}
 use lib.ListN.{length}
 use Rattle.terms.specs.declared.Side.{Side}
 use Rattle.terms.specs.declared.Side.the-variants.{Buy, Sell}
-use Rattle.terms.specs.Sizes.{slots, tableLength}
+use Rattle.terms.specs.Sizes.{slots}
+use Rattle.tables.specs.Lengths.{tableLength}
 use Rattle.terms.proofs.Logic.{cases}
 use Rattle.tables.specs.Tables.{decode, encode}
 use Rattle.tables.proofs.Slots.{encode-decode}

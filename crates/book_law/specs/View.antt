@@ -7,7 +7,8 @@ use lib.Dec.{ltb}
 use lib.ListN.{length, take}
 use Rattle.terms.specs.declared.Side.{Side}
 use Rattle.terms.specs.declared.Side.the-variants.{Buy, Sell}
-use Rattle.terms.specs.Sizes.{slots, width, tableLength}
+use Rattle.terms.specs.Sizes.{slots}
+use Rattle.tables.specs.Lengths.{width, tableLength}
 
 -- the numbers of n orders, if a table can hold so many
 abbrev pub livePart : ℕ → List ℕ → List ℕ

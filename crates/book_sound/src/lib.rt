@@ -13,8 +13,8 @@ ghost use Prim.Native.Nat.{_≤_, _<_};
 ghost use Rattle.terms.specs.Sizes.{numbersMost};
 ghost use Rattle.tables.specs.Tables.{decode};
 ghost use Rattle.book_sound_law.specs.Sound.{uncrossed, bookSound};
-ghost use Rattle.terms.specs.Ticks.{scale, factorOf, Dividing};
-ghost use Rattle.book_sound_law.specs.Pass.{Room, limitsOf};
+ghost use Rattle.terms.specs.code.Ticks.{scale, factorOf, Dividing};
+ghost use Rattle.book_sound_law.specs.code.Pass.{Room, limitsOf};
 
 fn held_to(given: u64, tick: u64, factor: u64, band: Band) -> Limits
     requires { ⌜ factor ≡ factorOf tick ⌝ }

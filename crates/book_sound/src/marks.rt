@@ -2,7 +2,7 @@
 ghost use mathlib.Core.Path.{_≡_};
 ghost use Prim.Native.Nat.{_*_, _<_};
 ghost use lib.ListN.{length};
-ghost use Rattle.book_sound_law.specs.Marks.{wordFor, hasMark, withMark};
+ghost use Rattle.book_sound_law.specs.code.Marks.{wordFor, hasMark, withMark};
 
 // Marks a number; whether it was marked already.
 pub fn mark(map: &mut [u64], x: u64) -> bool

@@ -11,8 +11,8 @@ ghost use mathlib.Core.Bool.{cond};
 ghost use Prim.Native.Nat.{_+_, _≤_};
 ghost use lib.ListN.{length, replicate};
 ghost use Rattle.tables.specs.Tables.{decode};
-ghost use Rattle.book_sound_law.specs.Marks.{wordsTo, marked};
-ghost use Rattle.book_sound_law.specs.Pass.{Room, LimitsFit, Keyed, fine, keyOf, lowBits, passOf, sidesBy, leastMask, sidesSound};
+ghost use Rattle.book_sound_law.specs.code.Marks.{wordsTo, marked};
+ghost use Rattle.book_sound_law.specs.code.Pass.{Room, LimitsFit, Keyed, fine, keyOf, lowBits, passOf, sidesBy, leastMask, sidesSound};
 
 // Order numbers are below it.
 const KEY_STEP: u64 = 65_536;

@@ -11,7 +11,7 @@ use lib.Bits.{bitOr, or-shr, or-mod, or-zero-r}
 use lib.ListN.{length, getD, replicate}
 use lib.Seq.{getD-set-same, getD-set-other}
 use borrow.Author.Tests.{eqb-true, eqb-false}
-use Rattle.book_sound_law.specs.Marks.{bitOf, withBit, wordFor, bitFor, hasMark, withMark}
+use Rattle.book_sound_law.specs.code.Marks.{bitOf, withBit, wordFor, bitFor, hasMark, withMark}
 
 -- ---- a power of two has one bit
 

@@ -17,9 +17,9 @@ use Rattle.tables.proofs.Slots.{length-decode}
 use Rattle.book_law.specs.Priority.{sorted}
 use Rattle.book_sound_law.specs.declared.Limits.{Limits}
 use Rattle.book_sound_law.specs.Sound.{eachSound, distinct, uncrossed, bookSound}
-use Rattle.book_sound_law.specs.Marks.{apart}
-use Rattle.terms.specs.Ticks.{scale, Dividing}
-use Rattle.book_sound_law.specs.Pass.{Room, limitsOf, LimitsFit, sidesSound}
+use Rattle.book_sound_law.specs.code.Marks.{apart}
+use Rattle.terms.specs.code.Ticks.{scale, Dividing}
+use Rattle.book_sound_law.specs.code.Pass.{Room, limitsOf, LimitsFit, sidesSound}
 use Rattle.book_sound_law.proofs.Facts.{book-fits, book-made}
 use Rattle.book_sound_law.proofs.Turns.{refuted}
 

@@ -10,8 +10,8 @@ use borrow.Author.Tests.{not-true, not-false}
 use Rattle.terms.specs.declared.Side.the-variants.{Buy, Sell}
 use Rattle.terms.specs.declared.Order.{Order}
 use Rattle.book_sound_law.specs.declared.Limits.{Limits}
-use Rattle.book_sound_law.specs.Marks.{wordsTo, fresh, marked, apart}
-use Rattle.book_sound_law.specs.Pass.{LimitsFit, lowBits, passOf, sideSound, sidesBy}
+use Rattle.book_sound_law.specs.code.Marks.{wordsTo, fresh, marked, apart}
+use Rattle.book_sound_law.specs.code.Pass.{LimitsFit, lowBits, passOf, sideSound, sidesBy}
 use Rattle.book_sound_law.proofs.Fresh.{Inside, both-fresh}
 use Rattle.book_sound_law.proofs.Keys.{pass-is}
 

@@ -7,7 +7,7 @@ use lib.Dec.{eqb}
 use lib.ListN.{length, replicate, length-set, length-replicate}
 use Rattle.terms.specs.Truth.{_⊓_}
 use Rattle.terms.proofs.Logic.{regroup}
-use Rattle.book_sound_law.specs.Marks.{wordFor, hasMark, withMark, fresh, marked, isIn, apart}
+use Rattle.book_sound_law.specs.code.Marks.{wordFor, hasMark, withMark, fresh, marked, isIn, apart}
 use Rattle.book_sound_law.proofs.Bits.{mark-tells, no-marks}
 
 -- all numbers have their words in a map of so many

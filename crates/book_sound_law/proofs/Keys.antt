@@ -16,8 +16,8 @@ use Rattle.terms.proofs.Logic.{between-facts}
 use Rattle.book_law.specs.Priority.{ahead, headBehind, sorted}
 use Rattle.book_sound_law.specs.declared.Limits.{Limits}
 use Rattle.book_sound_law.specs.Sound.{eachSound}
-use Rattle.book_sound_law.specs.Marks.{hasMark, withMark, fresh}
-use Rattle.book_sound_law.specs.Pass.{bandOf, fine, Keyed, keyStep, keyOf, lowBits, passOf, sideSound}
+use Rattle.book_sound_law.specs.code.Marks.{hasMark, withMark, fresh}
+use Rattle.book_sound_law.specs.code.Pass.{bandOf, fine, Keyed, keyStep, keyOf, lowBits, passOf, sideSound}
 use Rattle.book_sound_law.proofs.Facts.{order-fits}
 
 -- a fine order has a key

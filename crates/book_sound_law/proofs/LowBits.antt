@@ -19,8 +19,8 @@ use Rattle.book_law.specs.Over.{Each}
 use Rattle.book_law.proofs.Over.{each-map, each-append}
 use Rattle.book_sound_law.specs.declared.Limits.{Limits}
 use Rattle.book_sound_law.specs.Sound.{eachSound, distinct, OrderFits}
-use Rattle.book_sound_law.specs.Marks.{isIn, apart}
-use Rattle.book_sound_law.specs.Pass.{LimitsFit, bandOf, lowBits, sideSound, sidesSound, sidesBy}
+use Rattle.book_sound_law.specs.code.Marks.{isIn, apart}
+use Rattle.book_sound_law.specs.code.Pass.{LimitsFit, bandOf, lowBits, sideSound, sidesSound, sidesBy}
 use Rattle.book_sound_law.proofs.Facts.{each-fits}
 
 -- ---- low bits that are distinct are of distinct numbers

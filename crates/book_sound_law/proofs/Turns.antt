@@ -18,9 +18,9 @@ use Rattle.tables.specs.Tables.{orderAt, decode}
 use Rattle.tables.proofs.Slots.{decode-read, decode-end}
 use Rattle.book_sound_law.specs.declared.Limits.{Limits}
 use Rattle.book_sound_law.specs.Sound.{OrderFits}
-use Rattle.book_sound_law.specs.Marks.{wordFor, wordsTo, hasMark, withMark, marked}
-use Rattle.terms.specs.Ticks.{scale}
-use Rattle.book_sound_law.specs.Pass.{bandOf, fine, Keyed, keyStep, keyOf, lowBits, passOf}
+use Rattle.book_sound_law.specs.code.Marks.{wordFor, wordsTo, hasMark, withMark, marked}
+use Rattle.terms.specs.code.Ticks.{scale}
+use Rattle.book_sound_law.specs.code.Pass.{bandOf, fine, Keyed, keyStep, keyOf, lowBits, passOf}
 use Rattle.book_sound_law.proofs.Facts.{order-fits, order-made}
 use Rattle.book_sound_law.proofs.Keys.{keyed}
 

@@ -1,3 +1,2 @@
 pub mod Sound
-pub mod Marks
-pub mod Pass
+pub mod code

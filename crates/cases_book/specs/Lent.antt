@@ -2,7 +2,8 @@
 use Prim.Native.Nat.{ℕ, _≤_}
 use mathlib.Core.List.{List}
 use lib.ListN.{length}
-use Rattle.terms.specs.Sizes.{slots, tableLength}
+use Rattle.terms.specs.Sizes.{slots}
+use Rattle.tables.specs.Lengths.{tableLength}
 use Rattle.cases_book.specs.declared.steps.Counts.{Counts}
 
 pub record Counted (c : Counts) : Type 0 where

@@ -7,6 +7,7 @@ use cases::print;
 use matching::crossing;
 use matching_law::Incoming;
 use rules_law::Range;
+use tables::lengths;
 use tables::orders;
 use terms::Kind;
 use terms::Order;
@@ -14,14 +15,15 @@ use terms::Side;
 use terms::sizes;
 ghost use Prim.Native.Nat.{_≤_};
 ghost use lib.ListN.{length};
-ghost use Rattle.terms.specs.Sizes.{slots, tableLength};
+ghost use Rattle.terms.specs.Sizes.{slots};
+ghost use Rattle.tables.specs.Lengths.{tableLength};
 ghost use Rattle.rules_law.specs.Reference.{RangeFits};
 ghost use Rattle.cases_book.specs.Lent.{Counted, Lent};
 
 // A table that is longer than it must be, and a room with place for a report of every counter order.
-pub const LONG: usize = sizes::TABLE + 132;
+pub const LONG: usize = lengths::TABLE + 132;
 
-const ROOM: usize = sizes::RECORD * sizes::SLOTS + 64;
+const ROOM: usize = lengths::RECORD * sizes::SLOTS + 64;
 
 // How many orders the two sides have: the side that a line names, and the other.
 pub struct Counts {
@@ -163,8 +165,8 @@ fn show<'a>(side: Side, buys: &'a [u64], sells: &'a [u64], buying: usize, sellin
     says::bar();
     let from = live.len();
     match side {
-        Side::Buy => says::rest(buys, from, sizes::TABLE),
-        Side::Sell => says::rest(sells, from, sizes::TABLE),
+        Side::Buy => says::rest(buys, from, lengths::TABLE),
+        Side::Sell => says::rest(sells, from, lengths::TABLE),
     }
     print::end();
 }

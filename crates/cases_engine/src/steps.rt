@@ -5,14 +5,14 @@ use crate::setting;
 use cases::lines;
 use cases::print;
 use state_law::Session;
+use tables::lengths;
 use tables::orders;
 use terms::Order;
-use terms::sizes;
 
 // Tables and a room that are longer than they must be.
-pub const LONG: usize = sizes::TABLE + 32;
+pub const LONG: usize = lengths::TABLE + 32;
 
-pub const ROOM: usize = sizes::ROOM + 30;
+pub const ROOM: usize = lengths::ROOM + 30;
 
 fn set(t: &mut [u64], place: u64, value: u64) {
     if place < (t.len() as u64) {
@@ -24,7 +24,7 @@ fn set(t: &mut [u64], place: u64, value: u64) {
 fn put_orders(t: &mut [u64], count: u64, first: u64, price: u64, lots: u64) {
     let mut at: usize = 0;
     let mut put: u64 = 0;
-    while at + sizes::WIDTH <= t.len() {
+    while at + lengths::WIDTH <= t.len() {
         if count <= put {
             return;
         }
@@ -34,7 +34,7 @@ fn put_orders(t: &mut [u64], count: u64, first: u64, price: u64, lots: u64) {
             lots: lots,
         };
         orders::store(t, at, o);
-        at += sizes::WIDTH;
+        at += lengths::WIDTH;
         put += 1;
     }
 }

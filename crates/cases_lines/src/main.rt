@@ -6,6 +6,7 @@ use lines_reading_law::ReadEvent;
 use lines_reading_law::ReadSettings;
 use lines_writing_law::Wrote;
 use records_law::ReadRecord;
+use tables::lengths;
 use terms::Act;
 use terms::Event;
 use terms::Refusal;
@@ -270,10 +271,10 @@ fn show_reports(room: &[u64]) {
     let mut at = 0;
     while at < room.len() {
         show_report(room, at);
-        if room.len() - at < sizes::RECORD {
+        if room.len() - at < lengths::RECORD {
             return;
         }
-        at += sizes::RECORD;
+        at += lengths::RECORD;
     }
 }
 

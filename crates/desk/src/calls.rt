@@ -9,10 +9,10 @@ use engine_law::Answer;
 use state::opening;
 use state_law::Opened;
 use state_law::Session;
+use tables::lengths;
 use terms::Refusal;
 use terms::Side;
 use terms::Verdict;
-use terms::sizes;
 ghost use mathlib.Core.Path.{_≡_};
 ghost use mathlib.Core.Bool.{true};
 ghost use Prim.Native.Nat.{_≤_};
@@ -134,10 +134,10 @@ pub extern "C" fn kakoludar_sound(session: &[u64], buys: &[u64], sells: &[u64]) 
     if session.len() < runs::SESSION {
         return 0;
     }
-    if buys.len() < sizes::TABLE {
+    if buys.len() < lengths::TABLE {
         return 0;
     }
-    if sells.len() < sizes::TABLE {
+    if sells.len() < lengths::TABLE {
         return 0;
     }
     let s = sessions::unpack(session);

@@ -7,6 +7,7 @@ use lines_reading_law::ReadEvent;
 use lines_reading_law::ReadSettings;
 use lines_writing_law::Wrote;
 use records_law::ReadRecord;
+use tables::lengths;
 use terms::Refusal;
 use terms::sizes;
 ghost use mathlib.Core.Path.{_≡_};
@@ -80,7 +81,7 @@ fn no_line(line: &[u8]) -> u64
 pub extern "C" fn kakoludar_write_report(report: &[u64], line: &mut [u8]) -> u64
     ensures { λ r. ⌜ ReportWrittenOn (now (report .entry)) (now (line .entry)) (now (line .exit)) r ⌝ }
 {
-    if report.len() < sizes::RECORD {
+    if report.len() < lengths::RECORD {
         return desk_answers::refused(Refusal::SmallRoom);
     }
     match records::read_record(report, 0) {

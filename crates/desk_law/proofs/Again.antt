@@ -28,7 +28,7 @@ use Rattle.desk_packing_law.proofs.EventInverse.{event-back}
 use Rattle.desk_law.specs.Calls.{openedFrom, OpenedAs, calledOn, runBy, AppliedOn}
 use Rattle.desk_law.specs.Reads.{EventReadInto, SettingsReadInto}
 use Rattle.acts_law.proofs.Tens.{act-ten}
-use Rattle.state_law.specs.Tens.{Ten}
+use Rattle.state_law.specs.code.Tens.{Ten}
 use Rattle.state_law.proofs.Tens.{fixed-ten, opening-ten}
 
 -- ---- open

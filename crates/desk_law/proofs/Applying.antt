@@ -11,8 +11,8 @@ use Rattle.terms.specs.declared.Refusal.{Refusal}
 use Rattle.terms.specs.declared.Refusal.the-variants.{SmallRoom, Unsound}
 use Rattle.terms.specs.declared.Verdict.{Verdict}
 use Rattle.terms.specs.declared.Verdict.the-variants.{Fine, Refused}
-use Rattle.terms.specs.Sizes.{reportsMost}
-use Rattle.terms.specs.Records.{recordsOf}
+use Rattle.tables.specs.Lengths.{reportsMost}
+use Rattle.tables.specs.Records.{recordsOf}
 use Rattle.terms.specs.Refusals.{firstFailed}
 use Rattle.terms.proofs.Logic.{cases}
 use Rattle.terms.proofs.Cascade.{fine-first}

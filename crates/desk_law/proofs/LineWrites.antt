@@ -13,7 +13,8 @@ use Rattle.terms.specs.declared.Report.{Report}
 use Rattle.terms.specs.declared.Settings.{Settings}
 use Rattle.terms.specs.declared.Verdict.{Verdict}
 use Rattle.terms.specs.declared.Verdict.the-variants.{Fine, Refused}
-use Rattle.terms.specs.Sizes.{recordLength, lineRoom}
+use Rattle.terms.specs.Sizes.{lineRoom}
+use Rattle.tables.specs.Lengths.{recordLength}
 use Rattle.terms.specs.Refusals.{firstFailed}
 use Rattle.lines_text_law.specs.Numerals.{allWritable}
 use Rattle.lines_reading_law.specs.Lines.{renderEvent, renderSettings, eventNumbers, settingsNumbers}

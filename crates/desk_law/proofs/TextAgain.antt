@@ -35,7 +35,7 @@ use Rattle.desk_packing_law.proofs.Inverse.{from-ten}
 use Rattle.desk_packing_law.specs.Stages.{runLength, isRun, runFrom}
 use Rattle.desk_law.specs.Feeding.{startVerdict, StartedAs, countsLength, isRefusal, fedOn, runAfter, FedAs}
 use Rattle.acts_law.proofs.Tens.{act-ten}
-use Rattle.state_law.specs.Tens.{Ten}
+use Rattle.state_law.specs.code.Tens.{Ten}
 use Rattle.state_law.proofs.Tens.{fixed-ten, opening-ten}
 use Rattle.desk_packing_law.proofs.StageInverse.{run-laid-back}
 

@@ -9,8 +9,8 @@ use Rattle.terms.specs.declared.Refusal.the-variants.{SmallRoom, Unsound, Setti
 use Rattle.terms.specs.declared.Side.the-variants.{Buy, Sell}
 use Rattle.terms.specs.declared.Verdict.{Verdict}
 use Rattle.terms.specs.declared.Verdict.the-variants.{Fine, Refused}
-use Rattle.terms.specs.Sizes.{tableLength}
-use Rattle.terms.specs.Records.{recordsOf}
+use Rattle.tables.specs.Lengths.{tableLength}
+use Rattle.tables.specs.Records.{recordsOf}
 use Rattle.tables.specs.Put.{put}
 use Rattle.state_law.specs.declared.Session.{Session}
 use Rattle.state_law.specs.declared.Opened.{Opened}

@@ -8,7 +8,7 @@ use lib.ListN.{length, getD}
 use Rattle.terms.specs.declared.Refusal.the-variants.{SmallRoom, NumberRange, SettingsRange}
 use Rattle.terms.specs.declared.Verdict.{Verdict}
 use Rattle.terms.specs.declared.Verdict.the-variants.{Fine, Refused}
-use Rattle.terms.specs.Sizes.{recordLength}
+use Rattle.tables.specs.Lengths.{recordLength}
 use Rattle.lines_reading_law.specs.Lines.{renderEvent, renderSettings, eventNumbers, settingsNumbers}
 use Rattle.lines_writing_law.specs.declared.Wrote.{Wrote}
 use Rattle.lines_writing_law.specs.Lines.{renderReport, reportNumbers}

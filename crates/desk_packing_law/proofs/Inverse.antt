@@ -17,7 +17,7 @@ use Rattle.state_law.specs.declared.Session.{Session}
 use Rattle.state_law.specs.Opening.{fixedSession}
 use Rattle.desk_packing_law.specs.Runs.{settingsLength, sessionLength, layout, settingsBase, clockBase}
 use Rattle.desk_packing_law.specs.Settings.{settingsNumbers, isCategory, categoryFrom, settingsFrom, settingsAt}
-use Rattle.state_law.specs.Tens.{Ten}
+use Rattle.state_law.specs.code.Tens.{Ten}
 use Rattle.desk_packing_law.specs.Sessions.{flag, sessionNumbers, isSession, sessionOf, sessionFrom}
 use Rattle.desk_packing_law.proofs.Listed.{first-listed, ten-all}
 

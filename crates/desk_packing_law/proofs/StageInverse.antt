@@ -11,7 +11,7 @@ use Rattle.terms.proofs.Logic.{both, make}
 use Rattle.tables.specs.Put.{put}
 use Rattle.feed_law.specs.declared.Run.{Run}
 use Rattle.feed_law.specs.declared.Stage.{Stage}
-use Rattle.state_law.specs.Tens.{Ten}
+use Rattle.state_law.specs.code.Tens.{Ten}
 use Rattle.desk_packing_law.proofs.Inverse.{is-session, session-back, session-numbers}
 use Rattle.desk_packing_law.specs.Stages.{runLength, stageNumber, runNumbers, isRun, stageFrom, runFrom, overRun}
 

@@ -3,10 +3,10 @@ use acts::accepted;
 use engine_law::Answer;
 use engine_law::Applied;
 use state_law::Session;
+use tables::lengths;
 use terms::Event;
 use terms::Refusal;
 use terms::Verdict;
-use terms::sizes;
 ghost use mathlib.Core.Path.{_≡_};
 ghost use Rattle.engine_law.specs.Calls.{AppliedAs, roomy};
 
@@ -14,9 +14,9 @@ ghost use Rattle.engine_law.specs.Calls.{AppliedAs, roomy};
 pub fn is_roomy(buys: &[u64], sells: &[u64], room: &[u64]) -> bool
     ensures { λ r. ⌜ r ≡ roomy (now (buys .entry)) (now (sells .entry)) (now (room .entry)) ⌝ }
 {
-    let bought = sizes::TABLE <= buys.len();
-    let sold = sizes::TABLE <= sells.len();
-    let told = sizes::ROOM <= room.len();
+    let bought = lengths::TABLE <= buys.len();
+    let sold = lengths::TABLE <= sells.len();
+    let told = lengths::ROOM <= room.len();
     bought & sold & told
 }
 

@@ -1,7 +1,7 @@
 // The view of a side.
 use state_law::Session;
+use tables::lengths;
 use terms::Side;
-use terms::sizes;
 ghost use mathlib.Core.Path.{_≡_};
 ghost use Rattle.engine_law.specs.Calls.{viewCall};
 
@@ -9,10 +9,10 @@ ghost use Rattle.engine_law.specs.Calls.{viewCall};
 pub fn view<'a>(side: Side, s: Session, buys: &'a [u64], sells: &'a [u64]) -> &'a [u64]
     ensures { λ r. ⌜ now r ≡ viewCall side s (now (buys .entry)) (now (sells .entry)) ⌝ }
 {
-    if buys.len() < sizes::TABLE {
+    if buys.len() < lengths::TABLE {
         return &buys[0..0];
     }
-    if sells.len() < sizes::TABLE {
+    if sells.len() < lengths::TABLE {
         return &sells[0..0];
     }
     if !soundness::is_sound(s, buys, sells) {

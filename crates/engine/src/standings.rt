@@ -4,10 +4,10 @@ use engine_law::Stood;
 use rules::close;
 use state::force;
 use state_law::Session;
+use tables::lengths;
 use terms::Band;
 use terms::Refusal;
 use terms::Verdict;
-use terms::sizes;
 ghost use mathlib.Core.Path.{_≡_};
 ghost use Rattle.terms.specs.declared.Verdict.the-variants.{Refused};
 ghost use Rattle.state_law.specs.Now.{Clocked};
@@ -77,10 +77,10 @@ fn refused(r: Refusal) -> Stood
 pub fn standing(s: Session, buys: &[u64], sells: &[u64]) -> Stood
     ensures { λ r. ⌜ r ≡ standingCall s (now (buys .entry)) (now (sells .entry)) ⌝ }
 {
-    if buys.len() < sizes::TABLE {
+    if buys.len() < lengths::TABLE {
         return refused(Refusal::SmallRoom);
     }
-    if sells.len() < sizes::TABLE {
+    if sells.len() < lengths::TABLE {
         return refused(Refusal::SmallRoom);
     }
     if !soundness::is_sound(s, buys, sells) {

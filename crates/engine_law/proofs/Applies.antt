@@ -11,8 +11,8 @@ use Rattle.terms.specs.declared.Refusal.{Refusal}
 use Rattle.terms.specs.declared.Refusal.the-variants.{SmallRoom}
 use Rattle.terms.specs.declared.Verdict.{Verdict}
 use Rattle.terms.specs.declared.Verdict.the-variants.{Fine, Refused}
-use Rattle.terms.specs.Sizes.{tableLength, roomLength}
-use Rattle.terms.specs.Records.{recordsOf}
+use Rattle.tables.specs.Lengths.{tableLength, roomLength}
+use Rattle.tables.specs.Records.{recordsOf}
 use Rattle.terms.specs.Refusals.{firstFailed}
 use Rattle.terms.proofs.Logic.{both, cases}
 use Rattle.tables.proofs.Puts.{put-none}

@@ -9,7 +9,8 @@ use lib.ListN.{length}
 use Rattle.terms.specs.declared.Act.{Act}
 use Rattle.terms.specs.declared.Act.the-variants.{Withdraw, Finish}
 use Rattle.terms.specs.declared.Order.{Order}
-use Rattle.terms.specs.Sizes.{recordLength, slots, tableLength}
+use Rattle.terms.specs.Sizes.{slots}
+use Rattle.tables.specs.Lengths.{recordLength, tableLength}
 use Rattle.terms.proofs.Logic.{cases}
 use Rattle.tables.specs.Tables.{decode, tableOf, Holds}
 use Rattle.tables.proofs.Slots.{length-decode}
@@ -27,12 +28,12 @@ use Rattle.refusal_law.specs.Carried.{carries}
 use Rattle.refusal_law.specs.Refusals.{finds}
 use Rattle.refusal_law.proofs.Accepted.{in-day}
 use Rattle.acts_law.specs.Acts.{Acted, clockReports, act, dropped, finished}
-use Rattle.acts_law.specs.Written.{Written, RestsIn, WithdrawnAs, Finished}
+use Rattle.acts_law.specs.code.Written.{Written, RestsIn, WithdrawnAs, Finished}
 use Rattle.acts_law.specs.declared.Withdrawn.{Withdrawn}
 use Rattle.acts_law.proofs.Reports.{written-then}
 use Rattle.engine_law.specs.declared.Answer.{Answer}
 use Rattle.engine_law.specs.Calls.{eventAt, Ready, ActedAs}
-use Rattle.engine_law.specs.Steps.{doneAt, SteppedAs, Quiet, under, clock}
+use Rattle.engine_law.specs.code.Steps.{doneAt, SteppedAs, Quiet, under, clock}
 use Rattle.engine_law.proofs.Starts.{accepts, after-buys, after-sells, same-room, behind-clock, clock-space}
 
 -- ---- the answer of every act

@@ -18,12 +18,12 @@ use Rattle.terms.specs.declared.Refusal.{Refusal}
 use Rattle.terms.specs.declared.Refusal.the-variants.{Unsound}
 use Rattle.terms.specs.declared.Verdict.{Verdict}
 use Rattle.terms.specs.declared.Verdict.the-variants.{Fine, Refused}
-use Rattle.terms.specs.Sizes.{reportsMost}
+use Rattle.tables.specs.Lengths.{reportsMost}
 use Rattle.terms.specs.Options.{maybe}
 use Rattle.book_law.specs.Over.{mine}
 use Rattle.book_law.proofs.Over.{mine-zero, mine-own, mine-other}
 use Rattle.book_law.specs.Told.{total, traded, cancelled}
-use Rattle.state_law.specs.Tens.{Ten}
+use Rattle.state_law.specs.code.Tens.{Ten}
 use Rattle.state_law.specs.Day.{Day}
 use Rattle.soundness_law.specs.Sound.{sound}
 use Rattle.soundness_law.proofs.Days.{sound-day}

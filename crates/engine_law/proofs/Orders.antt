@@ -28,12 +28,12 @@ use Rattle.soundness_law.specs.Sound.{dayIn}
 use Rattle.refusal_law.specs.Refusals.{lifeHasPlace, hasPlace}
 use Rattle.refusal_law.proofs.Accepted.{in-day, numbers-left}
 use Rattle.acts_law.specs.Acts.{clockReports, act, sweepIn, fateIn, entered}
-use Rattle.acts_law.specs.Written.{Written, Deals}
+use Rattle.acts_law.specs.code.Written.{Written, Deals}
 use Rattle.acts_law.specs.declared.Entered.{Entered}
-use Rattle.acts_law.specs.Entering.{Entering, EnteredAs}
+use Rattle.acts_law.specs.code.Entering.{Entering, EnteredAs}
 use Rattle.acts_law.proofs.Reports.{written-then}
 use Rattle.engine_law.specs.Calls.{eventAt, Ready, ActedAs}
-use Rattle.engine_law.specs.Steps.{doneAt, SteppedAs}
+use Rattle.engine_law.specs.code.Steps.{doneAt, SteppedAs}
 use Rattle.engine_law.proofs.Starts.{accepts, clocked-after, trades-fit, buys-deal, sells-deal, after-buys, after-sells, same-room, behind-clock, clock-space}
 use Rattle.engine_law.proofs.Dones.{done-as}
 

@@ -16,7 +16,7 @@ use Rattle.terms.specs.declared.Refusal.the-variants.{SmallRoom, Unsound}
 use Rattle.terms.specs.declared.Verdict.{Verdict}
 use Rattle.terms.specs.declared.Verdict.the-variants.{Fine, Refused}
 use Rattle.terms.specs.Truth.{_⊓_}
-use Rattle.terms.specs.Sizes.{tableLength}
+use Rattle.tables.specs.Lengths.{tableLength}
 use Rattle.terms.specs.Refusals.{firstFailed}
 use Rattle.rules_law.specs.Slabs.{slabOf, percentOf, inBand, overBy}
 use Rattle.rules_law.specs.Reference.{openingReference, rangeOf, inRange, rangeEnds}
@@ -28,7 +28,7 @@ use Rattle.state_law.specs.Now.{Clocked, percentNow, bandNow, rangeNow}
 use Rattle.state_law.specs.Opening.{openedSession}
 use Rattle.state_law.specs.Clock.{widenedBy, clockStep}
 use Rattle.state_law.specs.Trades.{withTrade}
-use Rattle.state_law.specs.Tens.{Ten}
+use Rattle.state_law.specs.code.Tens.{Ten}
 use Rattle.soundness_law.specs.Sound.{sound, dayIn}
 use Rattle.soundness_law.proofs.Clocked.{session-clocked}
 use Rattle.soundness_law.proofs.Border.{sound-session}

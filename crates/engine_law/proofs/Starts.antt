@@ -9,7 +9,8 @@ use borrow.Author.Tests.{leb-true}
 use lib.Dec.{ltb}
 use lib.ListN.{length}
 use Rattle.terms.specs.declared.Act.{Act}
-use Rattle.terms.specs.Sizes.{recordLength, slots, tradesBefore}
+use Rattle.terms.specs.Sizes.{slots, tradesBefore}
+use Rattle.tables.specs.Lengths.{recordLength}
 use Rattle.terms.proofs.Logic.{or-last}
 use Rattle.tables.specs.Tables.{decode}
 use Rattle.tables.proofs.Whole.{After, cleared}
@@ -29,12 +30,12 @@ use Rattle.soundness_law.proofs.Kept.{Tradable}
 use Rattle.soundness_law.proofs.Days.{each-tradable}
 use Rattle.refusal_law.proofs.Accepted.{Accepted, accepted, time-right}
 use Rattle.acts_law.specs.Acts.{clockReports, stepped}
-use Rattle.acts_law.specs.Written.{Deals}
+use Rattle.acts_law.specs.code.Written.{Deals}
 use Rattle.acts_law.proofs.Stays as stays
 use Rattle.acts_law.proofs.Few.{clock-few}
 use Rattle.acts_law.proofs.Reports.{written-length}
 use Rattle.engine_law.specs.Calls.{eventAt, Ready}
-use Rattle.engine_law.specs.Steps.{Stepping, SteppedAs}
+use Rattle.engine_law.specs.code.Steps.{Stepping, SteppedAs}
 
 deals-of : (tick : ℕ) (os : List _) → Each (Tradable tick) os → Each Deals os
 deals-of tick os e = each-map (Tradable tick) Deals (λ o d. record { price-small = d .price-small; lots-some = d .lots-some; lots-small = d .lots-small }) os e

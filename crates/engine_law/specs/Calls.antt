@@ -13,8 +13,8 @@ use Rattle.terms.specs.declared.Side.{Side}
 use Rattle.terms.specs.declared.Verdict.{Verdict}
 use Rattle.terms.specs.declared.Verdict.the-variants.{Fine, Refused}
 use Rattle.terms.specs.Truth.{_⊓_}
-use Rattle.terms.specs.Sizes.{tableLength, roomLength}
-use Rattle.terms.specs.Records.{recordsOf}
+use Rattle.tables.specs.Lengths.{tableLength, roomLength}
+use Rattle.tables.specs.Records.{recordsOf}
 use Rattle.terms.specs.Refusals.{unless, firstFailed}
 use Rattle.tables.specs.Put.{put}
 use Rattle.tables.specs.Tables.{tableOf}

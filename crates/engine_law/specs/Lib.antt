@@ -2,4 +2,4 @@ pub mod Outcome
 pub mod Answers
 pub mod Calls
 pub mod Standings
-pub mod Steps
+pub mod code

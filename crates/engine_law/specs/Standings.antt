@@ -9,7 +9,7 @@ use Rattle.terms.specs.declared.Refusal.the-variants.{SmallRoom, Unsound}
 use Rattle.terms.specs.declared.Verdict.{Verdict}
 use Rattle.terms.specs.declared.Verdict.the-variants.{Fine, Refused}
 use Rattle.terms.specs.Truth.{_⊓_}
-use Rattle.terms.specs.Sizes.{tableLength}
+use Rattle.tables.specs.Lengths.{tableLength}
 use Rattle.terms.specs.Refusals.{unless, firstFailed}
 use Rattle.rules_law.specs.Reference.{rangeEnds}
 use Rattle.rules_law.specs.Close.{lastOr, lastLots}

@@ -7,6 +7,7 @@ use feed_law::Taken;
 use feed_law::Turned;
 use feed_prints::telling;
 use feed_turns::turns;
+use tables::lengths;
 use terms::Refusal;
 use terms::sizes;
 ghost use Prim.Native.Nat.{_≤_};
@@ -18,7 +19,7 @@ ghost use Rattle.feed_law.specs.Turns.{stopAt};
 ghost use Rattle.feed_law.specs.Feeds.{TakenAs, TakenBy, takenTo, linesOf, fedOf, endedOf, EndsBehind};
 
 // The output room that the reports of any event fit in.
-pub const TEXT: usize = sizes::REPORTS * sizes::LINE;
+pub const TEXT: usize = lengths::REPORTS * sizes::LINE;
 
 // The most that the next line can print, by where the run stands.
 fn most_at(stage: Stage) -> usize

@@ -13,7 +13,7 @@ use Rattle.terms.specs.declared.Settings.{Settings}
 use Rattle.terms.specs.Sizes.{lineRoom}
 use Rattle.terms.proofs.Logic.{by, cases}
 use Rattle.lines_text_law.specs.Grammar.{Answer, whole, unfinished, wrong, word}
-use Rattle.lines_text_law.specs.Pieces.{at}
+use Rattle.lines_text_law.specs.code.Pieces.{at}
 use Rattle.lines_text_law.specs.Reading.{Right}
 use Rattle.lines_reading_law.specs.Lines.{EventLine, SettingsLine}
 use Rattle.lines_reading_law.specs.Grammars.{eventGrammar, settingsGrammar}

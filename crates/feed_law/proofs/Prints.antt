@@ -16,8 +16,9 @@ use Rattle.terms.specs.declared.Said.the-variants.{Accept, Trade, Convert, Canc
 use Rattle.terms.specs.declared.Verdict.{Verdict}
 use Rattle.terms.specs.declared.Verdict.the-variants.{Fine, Refused}
 use Rattle.terms.specs.declared.Refusal.the-variants.{NumberLong}
-use Rattle.terms.specs.Sizes.{lineRoom, recordLength}
-use Rattle.terms.specs.Records.{recordOf, recordsOf}
+use Rattle.terms.specs.Sizes.{lineRoom}
+use Rattle.tables.specs.Lengths.{recordLength}
+use Rattle.tables.specs.Records.{recordOf, recordsOf}
 use Rattle.terms.specs.Refusals.{firstFailed}
 use Rattle.terms.proofs.Logic.{by}
 use Rattle.tables.specs.Put.{put}
@@ -28,7 +29,7 @@ use Rattle.lines_writing_law.proofs.Short.{report-short}
 use Rattle.lines_writing_law.specs.Writes.{lineVerdict, wroteOf, roomOf, Writes}
 use Rattle.records_law.specs.declared.ReadRecord.{ReadRecord}
 use Rattle.records_law.specs.Back.{RecordRead}
-use Rattle.terms.proofs.Records.{length-record}
+use Rattle.tables.proofs.Records.{length-record}
 use Rattle.records_law.proofs.Told.{told-right, told-only, told-back, six-at}
 use Rattle.feed_law.specs.Texts.{written, reportText, reportsText, toldText, firstRecord, recordText, recordsText}
 use Rattle.feed_law.specs.Feeds.{laid, wroteLength, Prints}

@@ -10,7 +10,8 @@ use Rattle.terms.specs.declared.Refusal.{Refusal}
 use Rattle.terms.specs.declared.Refusal.the-variants.{LineUnfinished}
 use Rattle.terms.specs.declared.Verdict.{Verdict}
 use Rattle.terms.specs.declared.Verdict.the-variants.{Fine, Refused}
-use Rattle.terms.specs.Sizes.{lineRoom, reportsMost, recordLength}
+use Rattle.terms.specs.Sizes.{lineRoom}
+use Rattle.tables.specs.Lengths.{reportsMost, recordLength}
 use Rattle.lines_text_law.specs.Numerals.{allWritable}
 use Rattle.lines_writing_law.specs.Lines.{reportNumbers, renderReport, refusedNumbers, renderRefused, badNumbers, renderBad}
 use Rattle.records_law.specs.declared.ReadRecord.{ReadRecord}

@@ -4,7 +4,7 @@ use mathlib.Core.List.{List, []}
 use Rattle.terms.specs.declared.Event.{Event}
 use Rattle.terms.specs.declared.Report.{Report}
 use Rattle.terms.specs.declared.Verdict.{Verdict}
-use Rattle.terms.specs.Records.{recordsOf}
+use Rattle.tables.specs.Records.{recordsOf}
 use Rattle.tables.specs.Put.{put}
 use Rattle.state_law.specs.declared.Session.{Session}
 use Rattle.state_law.specs.Day.{Day}

@@ -2,12 +2,13 @@
 use feed_law::Stage;
 use lines_writing_law::Wrote;
 use records_law::ReadRecord;
+use tables::lengths;
 use terms::Refusal;
-use terms::sizes;
 ghost use mathlib.Core.Path.{_≡_};
 ghost use Prim.Native.Nat.{_+_, _*_, _≤_};
 ghost use lib.ListN.{length, drop};
-ghost use Rattle.terms.specs.Sizes.{lineRoom, recordLength};
+ghost use Rattle.terms.specs.Sizes.{lineRoom};
+ghost use Rattle.tables.specs.Lengths.{recordLength};
 ghost use Rattle.feed_law.specs.Texts.{recordText, recordsText, refusedText, badText, endText};
 ghost use Rattle.feed_law.specs.declared.Stage.{Stage};
 ghost use Rattle.feed_law.specs.Feeds.{Prints, wroteLength};
@@ -83,7 +84,7 @@ pub fn tell_records(room: &[u64], count: u64, out: &mut [u8]) -> usize
     while i < count {
         let n = tell_record(room, at, &mut out[wrote..]);
         wrote += n;
-        at += sizes::RECORD;
+        at += lengths::RECORD;
         i += 1;
     }
     wrote

@@ -11,7 +11,7 @@ use terms::Kind;
 use terms::Life;
 use terms::Side;
 ghost use mathlib.Core.Path.{_≡_};
-ghost use Rattle.lines_text_law.specs.Pieces.{at as lookAt};
+ghost use Rattle.lines_text_law.specs.code.Pieces.{at as lookAt};
 ghost use Rattle.lines_reading_law.specs.Grammars.{order, priceRest, lifeRest, lives, kindRest, kinds, sideRest, actOf, singleRest, clockRest, cancelRest, acts};
 ghost use Rattle.lines_reading_law.specs.Answers.{eventAnswer, readEvent};
 

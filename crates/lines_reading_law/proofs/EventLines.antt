@@ -15,11 +15,12 @@ use Rattle.terms.specs.declared.Act.the-variants.{Enter, Withdraw, Under, Clock
 use Rattle.terms.specs.declared.Event.{Event}
 use Rattle.terms.specs.Sizes.{writtenMost}
 use Rattle.lines_text_law.specs.Text.{bytes}
-use Rattle.lines_text_law.specs.Numerals.{numeral, Writable}
+use Rattle.lines_text_law.specs.Numerals.{numeral}
+use Rattle.terms.specs.Numbers.{Writable}
 use Rattle.lines_text_law.specs.Forms.{fill}
 use Rattle.lines_text_law.specs.Grammar.{word, Answer, whole}
 use Rattle.lines_text_law.specs.Reading.{Right}
-use Rattle.lines_text_law.specs.Pieces.{at, lastly}
+use Rattle.lines_text_law.specs.code.Pieces.{at, lastly}
 use Rattle.lines_text_law.proofs.Grammars.{Spells, s-stop, s-byte, s-this, s-else, s-number, s-word, s-last, Plain, Agrees, agreed}
 use Rattle.lines_text_law.proofs.Rightness.{right, one, read-back, apart}
 use Rattle.lines_reading_law.specs.declared.Single.{Single}

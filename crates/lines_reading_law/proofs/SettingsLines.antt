@@ -7,11 +7,12 @@ use Rattle.terms.specs.declared.Category.{Category}
 use Rattle.terms.specs.declared.Category.the-variants.{Broad, Narrow, Sensitive, Energy, Metals, Precious, Gems, Other}
 use Rattle.terms.specs.declared.Settings.{Settings}
 use Rattle.lines_text_law.specs.Text.{bytes}
-use Rattle.lines_text_law.specs.Numerals.{numeral, Writable}
+use Rattle.lines_text_law.specs.Numerals.{numeral}
+use Rattle.terms.specs.Numbers.{Writable}
 use Rattle.lines_text_law.specs.Forms.{fill}
 use Rattle.lines_text_law.specs.Grammar.{word, Answer, whole}
 use Rattle.lines_text_law.specs.Reading.{Right}
-use Rattle.lines_text_law.specs.Pieces.{at, lastly}
+use Rattle.lines_text_law.specs.code.Pieces.{at, lastly}
 use Rattle.lines_text_law.proofs.Grammars.{Spells, s-stop, s-byte, s-this, s-else, s-number, s-word, Plain, Agrees, agreed}
 use Rattle.lines_text_law.proofs.Rightness.{right, one, read-back, apart}
 use Rattle.lines_reading_law.specs.Lines.{categoryWord, numbersForm, settingsNumbers, renderSettings, SettingsLine}

@@ -7,7 +7,7 @@ use Rattle.terms.specs.declared.Refusal.the-variants.{LineUnfinished, LineWrong
 use Rattle.terms.specs.Refusals.{numberOf}
 use Rattle.lines_text_law.specs.Grammar.{Answer, whole, unfinished, wrong}
 use Rattle.lines_text_law.specs.Reading.{Right}
-use Rattle.lines_text_law.specs.Pieces.{at}
+use Rattle.lines_text_law.specs.code.Pieces.{at}
 use Rattle.lines_reading_law.specs.declared.ReadEvent.{ReadEvent}
 use Rattle.lines_reading_law.specs.declared.ReadSettings.{ReadSettings}
 use Rattle.lines_reading_law.specs.Lines.{SettingsLine, EventLine}

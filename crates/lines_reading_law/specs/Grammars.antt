@@ -18,7 +18,7 @@ use Rattle.terms.specs.declared.Event.{Event}
 use Rattle.lines_reading_law.specs.declared.Single.{Single}
 use Rattle.lines_text_law.specs.Text.{bytes, letter}
 use Rattle.lines_text_law.specs.Grammar.{Grammar, stop, byte, either, number, word}
-use Rattle.lines_text_law.specs.Pieces.{lastly}
+use Rattle.lines_text_law.specs.code.Pieces.{lastly}
 
 -- ---- settings
 

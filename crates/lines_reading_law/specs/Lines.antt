@@ -15,7 +15,7 @@ use Rattle.terms.specs.declared.Act.{Act}
 use Rattle.terms.specs.declared.Act.the-variants.{Enter, Withdraw, Under, Clock, Finish}
 use Rattle.terms.specs.declared.Event.{Event}
 use Rattle.lines_text_law.specs.Text.{bytes}
-use Rattle.lines_text_law.specs.Numerals.{Writable}
+use Rattle.terms.specs.Numbers.{Writable}
 use Rattle.lines_text_law.specs.Forms.{fill}
 
 -- ---- settings: "First `cat=gems base=10000 close=10000 settle=10000 tick=5 len=3600000 days=0 under=0`"

@@ -6,7 +6,7 @@ use lines_text_law::Passed;
 use terms::Category;
 use terms::Settings;
 ghost use mathlib.Core.Path.{_≡_};
-ghost use Rattle.lines_text_law.specs.Pieces.{at as lookAt};
+ghost use Rattle.lines_text_law.specs.code.Pieces.{at as lookAt};
 ghost use Rattle.lines_reading_law.specs.Grammars.{lastNumbers, laterNumbers, categoryRest, categories};
 ghost use Rattle.lines_reading_law.specs.Answers.{settingsAnswer, readSettings};
 

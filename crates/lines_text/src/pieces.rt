@@ -3,7 +3,7 @@ use lines_text_law::Found;
 use lines_text_law::Passed;
 ghost use mathlib.Core.Path.{_≡_};
 ghost use lib.ListN.{drop};
-ghost use Rattle.lines_text_law.specs.Pieces.{wordOn, numberOn, fieldOn, lastOn};
+ghost use Rattle.lines_text_law.specs.code.Pieces.{wordOn, numberOn, fieldOn, lastOn};
 
 pub fn word(s: &[u8], at: usize, w: &[u8]) -> Passed
     ensures { λ r. ⌜ r ≡ wordOn (now (w .entry)) (drop at (now (s .entry))) at ⌝ }

@@ -7,7 +7,7 @@ ghost use lib.ListN.{length, getD, drop};
 ghost use Rattle.terms.specs.Sizes.{writtenMost};
 ghost use Rattle.lines_text_law.specs.Numerals.{numeral, allWritable};
 ghost use Rattle.lines_text_law.specs.Forms.{piece, taken, fill, holes};
-ghost use Rattle.lines_text_law.specs.Room.{Put, Placed, Fits, PieceFits};
+ghost use Rattle.lines_text_law.specs.code.Room.{Put, Placed, Fits, PieceFits};
 
 // No number is too long to be written.
 pub fn all_writable(numbers: &[u64]) -> bool

@@ -12,9 +12,10 @@ use lib.Dec.{eqb, leb}
 use borrow.Author.Tests.{eq-eqb, ne-eqb, le-leb, lt-leb, leb-true}
 use Rattle.terms.specs.Sizes.{writtenMost}
 use Rattle.terms.proofs.Logic.{cases, split, join}
-use Rattle.lines_text_law.specs.Numerals.{numeral, Writable, allWritable}
+use Rattle.lines_text_law.specs.Numerals.{numeral, allWritable}
+use Rattle.terms.specs.Numbers.{Writable}
 use Rattle.lines_text_law.specs.Forms.{hole, piece, taken, fill, holes, longest}
-use Rattle.lines_text_law.specs.Room.{over, Put}
+use Rattle.lines_text_law.specs.code.Room.{over, Put}
 use Rattle.lines_text_law.proofs.Digits.{length-most, numeral-first, numeral-last, length-last}
 use Rattle.lines_text_law.proofs.Rooms.{over-over, set-over}
 

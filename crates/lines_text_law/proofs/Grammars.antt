@@ -13,7 +13,7 @@ use Rattle.terms.proofs.Logic.{cases}
 use Rattle.lines_text_law.specs.Text.{bytes}
 use Rattle.lines_text_law.specs.Numerals.{numeral}
 use Rattle.lines_text_law.specs.Grammar.{Grammar, stop, byte, either, number, word, Answer, whole, wrong, unfinished, digit, look}
-use Rattle.lines_text_law.specs.Pieces.{lastly}
+use Rattle.lines_text_law.specs.code.Pieces.{lastly}
 use Rattle.lines_text_law.proofs.Digits.{numeral-then, Alike, Begun, number-cases}
 
 -- by the grammar, bs is the line of e

@@ -6,7 +6,7 @@ use mathlib.Core.Path.{_≡_, sym, ap, _∙_}
 use mathlib.Core.List.{List, [], _∷_, _++_, append-assoc}
 use lib.ListN.{length, take, drop, set, length-append, length-drop}
 use lib.Seq.{take-at, drop-at, length-take-le, drop-drop, set-split}
-use Rattle.lines_text_law.specs.Room.{over, Put}
+use Rattle.lines_text_law.specs.code.Room.{over, Put}
 
 pub length-over : (d : List ℕ) (n : ℕ) (bs : List ℕ) → n + length bs ≤ length d → length (over d n bs) ≡ length d
 unfolding over

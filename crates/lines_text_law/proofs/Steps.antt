@@ -14,7 +14,7 @@ use Rattle.lines_text_law.specs.declared.Passed.{Passed}
 use Rattle.lines_text_law.specs.declared.Found.{Found}
 use Rattle.lines_text_law.specs.Text.{bytes}
 use Rattle.lines_text_law.specs.Grammar.{Grammar, stop, byte, either, number, word, Answer, whole, unfinished, wrong, digit, more, look}
-use Rattle.lines_text_law.specs.Pieces.{at, wordOn, moreOn, numberOn, thenNumber, fieldOn, ended, thenEnd, lastOn, lastly}
+use Rattle.lines_text_law.specs.code.Pieces.{at, wordOn, moreOn, numberOn, thenNumber, fieldOn, ended, thenEnd, lastOn, lastly}
 use Rattle.lines_text_law.proofs.Digits.{digit-yes, digit-low, digit-high}
 
 -- what is left of a list is empty, or a byte and what is left from there

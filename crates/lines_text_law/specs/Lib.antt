@@ -3,5 +3,4 @@ pub mod Numerals
 pub mod Forms
 pub mod Grammar
 pub mod Reading
-pub mod Pieces
-pub mod Room
+pub mod code

@@ -16,12 +16,7 @@ dec (suc f) n =
 unfoldable pub numeral : ℕ → List ℕ
 numeral n = dec 8 n
 
--- numbers that can be written: none is "above 999,999,999"
-abbrev pub Writable : List ℕ → Type 0
-Writable [] = Unit
-Writable (n ∷ ns) = (n ≤ writtenMost) × Writable ns
-
--- the same as code tests it
+-- whether numbers can be written (`Writable`), as code tests it
 unfoldable pub allWritable : List ℕ → Bool
 allWritable [] = true
 allWritable (n ∷ ns) = leb n writtenMost && allWritable ns

@@ -13,7 +13,8 @@ use Rattle.terms.specs.declared.Verdict.the-variants.{Fine, Refused}
 use Rattle.terms.specs.Sizes.{lineRoom}
 use Rattle.terms.specs.Refusals.{codeOf}
 use Rattle.terms.proofs.Cascade.{fine-first}
-use Rattle.lines_text_law.specs.Numerals.{Writable, allWritable}
+use Rattle.lines_text_law.specs.Numerals.{allWritable}
+use Rattle.terms.specs.Numbers.{Writable}
 use Rattle.lines_text_law.specs.Grammar.{whole}
 use Rattle.lines_text_law.proofs.Fills.{tested-writable}
 use Rattle.lines_reading_law.specs.Lines.{renderEvent, eventNumbers, renderSettings, settingsNumbers}

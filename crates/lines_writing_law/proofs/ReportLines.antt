@@ -11,10 +11,11 @@ use Rattle.terms.specs.declared.Why.the-variants.{Asked, Immediate, OutOfRange,
 use Rattle.terms.specs.Sizes.{writtenMost}
 use Rattle.terms.specs.Reports.{whyOf}
 use Rattle.lines_text_law.specs.Text.{bytes, letter}
-use Rattle.lines_text_law.specs.Numerals.{numeral, Writable}
+use Rattle.lines_text_law.specs.Numerals.{numeral}
+use Rattle.terms.specs.Numbers.{Writable}
 use Rattle.lines_text_law.specs.Forms.{fill}
 use Rattle.lines_text_law.specs.Grammar.{Grammar, stop, byte, either, number, word}
-use Rattle.lines_text_law.specs.Pieces.{lastly}
+use Rattle.lines_text_law.specs.code.Pieces.{lastly}
 use Rattle.lines_text_law.proofs.Grammars.{Spells, s-stop, s-byte, s-this, s-else, s-number, s-word, s-last, Plain, Agrees, agreed}
 use Rattle.lines_text_law.proofs.Rightness.{apart}
 use Rattle.lines_writing_law.specs.Lines.{reportNumbers, renderReport}

@@ -14,7 +14,7 @@ use Rattle.terms.specs.Refusals.{firstFailed}
 use Rattle.lines_text_law.specs.Numerals.{allWritable}
 use Rattle.lines_text_law.specs.Forms.{fill, holes}
 use Rattle.lines_text_law.specs.declared.Spot.{Spot}
-use Rattle.lines_text_law.specs.Room.{over, Put, Placed, Fits}
+use Rattle.lines_text_law.specs.code.Room.{over, Put, Placed, Fits}
 use Rattle.lines_text_law.proofs.Rooms.{then}
 use Rattle.lines_text_law.proofs.Fills.{fill-length, fill-append, tested-writable}
 use Rattle.lines_writing_law.specs.declared.Wrote.{Wrote}

@@ -4,16 +4,17 @@ use crate::prices;
 use matching_law::Incoming;
 use matching_law::Matched;
 use matching_law::Passed;
+use tables::lengths;
 use tables::orders;
-use terms::sizes;
 ghost use mathlib.Core.Path.{_≡_};
 ghost use mathlib.Core.Bool.{false};
 ghost use Prim.Native.Nat.{_+_, _*_, _≤_};
 ghost use lib.ListN.{length, drop};
-ghost use Rattle.terms.specs.Sizes.{slots, tableLength, recordLength};
+ghost use Rattle.terms.specs.Sizes.{slots};
+ghost use Rattle.tables.specs.Lengths.{tableLength, recordLength};
 ghost use Rattle.rules_law.specs.Reference.{RangeFits};
 ghost use Rattle.tables.specs.Tables.{decode, tableOf, Holds};
-ghost use Rattle.matching_law.specs.Sweeps.{trim, headLots, passedWhole, finish, Passes, SweptInto};
+ghost use Rattle.matching_law.specs.code.Sweeps.{trim, headLots, passedWhole, finish, Passes, SweptInto};
 
 // A sweep that stopped before the counter order in slot i.
 fn stop(i: usize, left: u64, last: u64, out: bool) -> Passed
@@ -48,7 +49,7 @@ fn pass(t: &[u64], n: usize, room: &mut [u64], at: usize, x: Incoming) -> Passed
         if !m.trades {
             return stop(i, left, last, m.out);
         }
-        let place = at + sizes::RECORD * i;
+        let place = at + lengths::RECORD * i;
         let next = i + 1;
         if left < o.lots {
             deals::report(room, place, x, deals::part_of(o, left));
@@ -95,7 +96,7 @@ pub fn sweep(t: &mut [u64], n: usize, room: &mut [u64], at: usize, x: Incoming) 
     let trades = p.trades;
     settle(t, n, whole, p.part);
     let count = n - whole;
-    let end = at + sizes::RECORD * trades;
+    let end = at + lengths::RECORD * trades;
     Matched {
         count: count,
         left: p.left,

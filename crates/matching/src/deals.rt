@@ -8,11 +8,11 @@ use terms::Side;
 ghost use mathlib.Core.Path.{_≡_};
 ghost use Prim.Native.Nat.{_+_, _≤_};
 ghost use lib.ListN.{length};
-ghost use Rattle.terms.specs.Sizes.{recordLength};
-ghost use Rattle.terms.specs.Records.{recordOf};
+ghost use Rattle.tables.specs.Lengths.{recordLength};
+ghost use Rattle.tables.specs.Records.{recordOf};
 ghost use Rattle.tables.specs.Put.{put};
 ghost use Rattle.book_law.specs.Matching.{part, dealOf};
-ghost use Rattle.matching_law.specs.Sweeps.{fillReport};
+ghost use Rattle.matching_law.specs.code.Sweeps.{fillReport};
 
 // So many lots of an order.
 pub fn part_of(o: Order, lots: u64) -> Order

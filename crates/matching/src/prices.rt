@@ -10,7 +10,7 @@ ghost use Prim.Native.Nat.{_≤_};
 ghost use Rattle.rules_law.specs.Reference.{RangeFits};
 ghost use Rattle.rules_law.specs.Mark.{markMost};
 ghost use Rattle.book_law.specs.Matching.{fitsLimit, fits, beyond, firstAfter};
-ghost use Rattle.matching_law.specs.Sweeps.{takerOf, meetingOf};
+ghost use Rattle.matching_law.specs.code.Sweeps.{takerOf, meetingOf};
 
 fn is_within(side: Side, limit: u64, price: u64) -> bool
     ensures { λ r. ⌜ r ≡ fitsLimit side limit price ⌝ }

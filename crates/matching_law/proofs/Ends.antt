@@ -7,14 +7,14 @@ use mathlib.Core.Bool.{Bool, false}
 use mathlib.Core.List.{List, [], _∷_, append-nil}
 use lib.ListN.{length}
 use Rattle.terms.specs.declared.Order.{Order}
-use Rattle.terms.specs.Sizes.{recordLength}
-use Rattle.terms.specs.Records.{recordOf, recordsOf}
+use Rattle.tables.specs.Lengths.{recordLength}
+use Rattle.tables.specs.Records.{recordOf, recordsOf}
 use Rattle.tables.specs.Put.{put}
 use Rattle.tables.proofs.Puts.{put-none, put-put}
-use Rattle.terms.proofs.Records.{length-record}
+use Rattle.tables.proofs.Records.{length-record}
 use Rattle.book_law.specs.Matching.{Swept, part, stopped, cutShort, takenWhole, firstAfter, sweep, tradeReports, ownLastOr}
 use Rattle.matching_law.specs.declared.Incoming.{Incoming}
-use Rattle.matching_law.specs.Sweeps.{takerOf, recordsFor, fillReport, trim, finish}
+use Rattle.matching_law.specs.code.Sweeps.{takerOf, recordsFor, fillReport, trim, finish}
 
 pub trim-none : (os : List Order) → trim 0 os ≡ os
 unfolding trim

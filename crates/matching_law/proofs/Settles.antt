@@ -8,7 +8,8 @@ use mathlib.Core.List.{List, [], _∷_, _++_}
 use lib.ListN.{length, take, drop, length-append, length-take, length-drop}
 use lib.Seq.{drop-at}
 use Rattle.terms.specs.declared.Order.{Order}
-use Rattle.terms.specs.Sizes.{slots, width, recordLength}
+use Rattle.terms.specs.Sizes.{slots}
+use Rattle.tables.specs.Lengths.{width, recordLength}
 use Rattle.tables.specs.Tables.{orderAt, decode, tableOf, Holds}
 use Rattle.tables.proofs.Slots.{length-decode, decode-read, decode-end}
 use Rattle.tables.proofs.Whole.{After, after}
@@ -17,7 +18,7 @@ use Rattle.book_law.proofs.Conserve.{sweep-fewer}
 use Rattle.matching_law.specs.declared.Incoming.{Incoming}
 use Rattle.matching_law.specs.declared.Passed.{Passed}
 use Rattle.matching_law.specs.declared.Matched.{Matched}
-use Rattle.matching_law.specs.Sweeps.{takerOf, sweptOf, trim, headLots, End, finish, Passes, SweptInto}
+use Rattle.matching_law.specs.code.Sweeps.{takerOf, sweptOf, trim, headLots, End, finish, Passes, SweptInto}
 use Rattle.matching_law.proofs.Ends.{trim-none}
 use Rattle.matching_law.proofs.Turns.{head-lots}
 

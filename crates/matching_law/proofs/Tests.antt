@@ -11,7 +11,7 @@ use Rattle.rules_law.specs.Reference.{inRange, RangeFits}
 use Rattle.rules_law.specs.Mark.{markMost}
 use Rattle.rules_law.proofs.Ranges.{in-range-small}
 use Rattle.book_law.specs.Matching.{Taker, Swept, stopped, cutShort, takenWhole, fits, beyond, firstAfter, sweep}
-use Rattle.matching_law.specs.Sweeps.{meetingOf}
+use Rattle.matching_law.specs.code.Sweeps.{meetingOf}
 
 -- the three tests of `sweep`, in its order: it fits, it is in range, it is beyond the mark
 module _ (stop : Bool → Swept) (on : Swept) where

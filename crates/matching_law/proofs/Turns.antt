@@ -7,8 +7,8 @@ use mathlib.Core.Bool.{Bool, true, false, not}
 use mathlib.Core.List.{List, [], _∷_}
 use lib.ListN.{length, drop}
 use Rattle.terms.specs.declared.Order.{Order}
-use Rattle.terms.specs.Sizes.{recordLength}
-use Rattle.terms.specs.Records.{recordOf}
+use Rattle.tables.specs.Lengths.{recordLength}
+use Rattle.tables.specs.Records.{recordOf}
 use Rattle.rules_law.specs.Reference.{RangeFits}
 use Rattle.rules_law.specs.Mark.{markMost}
 use Rattle.tables.specs.Put.{put}
@@ -18,7 +18,7 @@ use Rattle.book_law.specs.Matching.{part, stopped, firstAfter, sweep}
 use Rattle.matching_law.specs.declared.Incoming.{Incoming}
 use Rattle.matching_law.specs.declared.Meeting.{Meeting}
 use Rattle.matching_law.specs.declared.Passed.{Passed}
-use Rattle.matching_law.specs.Sweeps.{takerOf, meetingOf, fillReport, headLots, End, finish, passedWhole, Passes}
+use Rattle.matching_law.specs.code.Sweeps.{takerOf, meetingOf, fillReport, headLots, End, finish, passedWhole, Passes}
 use Rattle.matching_law.proofs.Tests.{sweep-zero, sweep-stops, sweep-cuts, sweep-takes, first-small}
 use Rattle.matching_law.proofs.Ends.{finish-stops, finish-cuts, finish-takes}
 

@@ -1,1 +1,1 @@
-pub mod Sweeps
+pub mod code

@@ -16,7 +16,7 @@ use Rattle.soundness_law.specs.Sound.{timeSound, countsSound, slabSound, number
 use Rattle.refusal_law.specs.Refusals.{numbersRight, inHours, ticksRight, bandRight, finds, hasPlace, hasNumbers, refusalOf}
 use Rattle.engine_law.specs.Outcome.{outcome}
 use Rattle.lines_text_law.specs.Grammar.{word}
-use Rattle.lines_text_law.specs.Pieces.{at}
+use Rattle.lines_text_law.specs.code.Pieces.{at}
 use Rattle.lines_reading_law.specs.Grammars.{settingsGrammar, eventGrammar}
 use Rattle.lines_reading_law.specs.Answers.{readSettings, readEvent}
 use Rattle.promises.specs.Cases.{SmallCases}

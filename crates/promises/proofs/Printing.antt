@@ -14,15 +14,16 @@ use Rattle.terms.specs.declared.Order.{Order}
 use Rattle.terms.specs.declared.Refusal.the-variants.{SmallRoom}
 use Rattle.terms.specs.declared.Verdict.{Verdict}
 use Rattle.terms.specs.declared.Verdict.the-variants.{Fine, Refused}
-use Rattle.terms.specs.Sizes.{slots, tableLength, roomLength}
+use Rattle.terms.specs.Sizes.{slots}
+use Rattle.tables.specs.Lengths.{tableLength, roomLength}
 use Rattle.terms.specs.Settings.{settingsVerdict}
-use Rattle.terms.specs.Records.{recordsOf}
+use Rattle.tables.specs.Records.{recordsOf}
 use Rattle.terms.proofs.Logic.{both}
 use Rattle.terms.proofs.Cascade.{fine-first}
 use Rattle.tables.specs.Tables.{decode}
 use Rattle.tables.proofs.Puts.{length-put}
 use Rattle.tables.proofs.Whole.{length-tableOf}
-use Rattle.terms.proofs.Records.{length-records}
+use Rattle.tables.proofs.Records.{length-records}
 use Rattle.lines_text_law.specs.Grammar.{Answer, whole, unfinished, wrong}
 use Rattle.lines_reading_law.specs.Answers.{readEvent, readSettings}
 use Rattle.state_law.specs.Opening.{openedBy, openingOf, openedSession, fixedSession}

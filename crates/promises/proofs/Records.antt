@@ -10,9 +10,9 @@ use Rattle.terms.specs.declared.Said.{Said}
 use Rattle.terms.specs.declared.Said.the-variants.{Accept, Trade, Convert, Cancel, Slab, Ref, Close}
 use Rattle.terms.specs.declared.Why.{Why}
 use Rattle.terms.specs.declared.Why.the-variants.{Asked, Immediate, OutOfRange, OutsideBand, DayEnd}
-use Rattle.terms.specs.Sizes.{recordLength}
+use Rattle.tables.specs.Lengths.{recordLength}
 use Rattle.terms.specs.Reports.{whyOf}
-use Rattle.terms.specs.Records.{recordOf, recordsOf}
+use Rattle.tables.specs.Records.{recordOf, recordsOf}
 
 -- ---- a report read back from the numbers of its record
 

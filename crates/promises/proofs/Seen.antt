@@ -15,7 +15,8 @@ use Rattle.terms.specs.declared.Side.{Side}
 use Rattle.terms.specs.declared.Side.the-variants.{Buy, Sell}
 use Rattle.terms.specs.declared.Verdict.{Verdict}
 use Rattle.terms.specs.declared.Verdict.the-variants.{Fine, Refused}
-use Rattle.terms.specs.Sizes.{slots, width, tableLength}
+use Rattle.terms.specs.Sizes.{slots}
+use Rattle.tables.specs.Lengths.{width, tableLength}
 use Rattle.terms.specs.Refusals.{codeOf}
 use Rattle.terms.proofs.Refusals.{refusal-number}
 use Rattle.tables.specs.Tables.{decode, encode, tableOf}

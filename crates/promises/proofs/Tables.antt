@@ -14,10 +14,10 @@ use Rattle.terms.specs.declared.Refusal.{Refusal}
 use Rattle.terms.specs.declared.Refusal.the-variants.{SmallRoom}
 use Rattle.terms.specs.declared.Verdict.{Verdict}
 use Rattle.terms.specs.declared.Verdict.the-variants.{Fine, Refused}
-use Rattle.terms.specs.Sizes.{recordLength}
-use Rattle.terms.specs.Records.{recordsOf}
+use Rattle.tables.specs.Lengths.{recordLength}
+use Rattle.tables.specs.Records.{recordsOf}
 use Rattle.terms.specs.Refusals.{codeOf}
-use Rattle.terms.proofs.Records.{length-records}
+use Rattle.tables.proofs.Records.{length-records}
 use Rattle.terms.proofs.Refusals.{code-fine}
 use Rattle.tables.specs.Put.{put}
 use Rattle.tables.specs.Tables.{decode, tableOf}

@@ -7,15 +7,16 @@ use Rattle.terms.specs.declared.Event.{Event}
 use Rattle.terms.specs.declared.Report.{Report}
 use Rattle.terms.specs.declared.Said.{Said}
 use Rattle.terms.specs.declared.Said.the-variants.{Accept, Trade, Convert, Cancel, Slab, Ref, Close}
-use Rattle.terms.specs.Records.{recordOf}
+use Rattle.tables.specs.Records.{recordOf}
 use Rattle.state_law.specs.Opening.{openedSession}
-use Rattle.state_law.specs.Tens.{Ten}
+use Rattle.state_law.specs.code.Tens.{Ten}
 use Rattle.state_law.specs.Day.{Day, opened}
 use Rattle.acts_law.specs.Small.{SmallReport, SmallReports}
 use Rattle.acts_law.proofs.Small.{append-small}
 use Rattle.engine_law.specs.Outcome.{outcome, told}
 use Rattle.engine_law.proofs.Kept.{outcome-small, outcome-ten}
-use Rattle.lines_text_law.specs.Numerals.{Writable, allWritable}
+use Rattle.lines_text_law.specs.Numerals.{allWritable}
+use Rattle.terms.specs.Numbers.{Writable}
 use Rattle.lines_text_law.proofs.Fills.{writable-tested}
 use Rattle.lines_writing_law.specs.Lines.{reportNumbers}
 use Rattle.promises.specs.Writable.{AllWritable, ReportsWritable, RunsWritable}

@@ -9,7 +9,7 @@ use Rattle.terms.specs.declared.Settings.{Settings}
 use Rattle.terms.specs.declared.Event.{Event}
 use Rattle.terms.specs.declared.Report.{Report}
 use Rattle.terms.specs.declared.Verdict.the-variants.{Fine}
-use Rattle.terms.specs.Sizes.{reportsMost}
+use Rattle.tables.specs.Lengths.{reportsMost}
 use Rattle.terms.specs.Refusals.{codeOf}
 use Rattle.terms.specs.Settings.{settingsVerdict}
 use Rattle.state_law.specs.Day.{Day, opened}

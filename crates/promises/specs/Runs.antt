@@ -17,8 +17,9 @@ use Rattle.terms.specs.declared.Side.{Side}
 use Rattle.terms.specs.declared.Side.the-variants.{Buy, Sell}
 use Rattle.terms.specs.declared.Report.{Report}
 use Rattle.terms.specs.declared.Said.the-variants.{Trade, Slab}
-use Rattle.terms.specs.Sizes.{width, recordLength, lineRoom}
-use Rattle.terms.specs.Records.{recordsOf}
+use Rattle.terms.specs.Sizes.{lineRoom}
+use Rattle.tables.specs.Lengths.{width, recordLength}
+use Rattle.tables.specs.Records.{recordsOf}
 use Rattle.terms.specs.Refusals.{codeOf}
 use Rattle.rules_law.specs.Slabs.{inBand}
 use Rattle.rules_law.specs.Reference.{inRange}

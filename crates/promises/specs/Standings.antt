@@ -6,7 +6,7 @@ use lib.ListN.{length}
 use Rattle.terms.specs.declared.Settings.{Settings}
 use Rattle.terms.specs.declared.Event.{Event}
 use Rattle.terms.specs.declared.Report.{Report}
-use Rattle.terms.specs.Sizes.{tableLength}
+use Rattle.tables.specs.Lengths.{tableLength}
 use Rattle.terms.specs.Refusals.{codeOf}
 use Rattle.rules_law.specs.Reference.{rangeEnds}
 use Rattle.state_law.specs.Day.{opened}

@@ -3,6 +3,7 @@
 
 use records_law::ReadRecord;
 use records_law::ReadWhy;
+use tables::lengths;
 use terms::Band;
 use terms::Closing;
 use terms::Deal;
@@ -11,10 +12,9 @@ use terms::Order;
 use terms::Report;
 use terms::Said;
 use terms::Why;
-use terms::sizes;
 ghost use mathlib.Core.Path.{_≡_};
 ghost use lib.ListN.{take, drop};
-ghost use Rattle.terms.specs.Sizes.{recordLength};
+ghost use Rattle.tables.specs.Lengths.{recordLength};
 ghost use Rattle.records_law.specs.Back.{RecordRead, whyFrom, toldIf, endedFrom, dealFrom, reportFrom};
 
 fn why_from(n: u64) -> ReadWhy
@@ -124,7 +124,7 @@ pub fn read_record(room: &[u64], at: usize) -> ReadRecord
     if room.len() < at {
         return ReadRecord::Nothing;
     }
-    if room.len() - at < sizes::RECORD {
+    if room.len() - at < lengths::RECORD {
         return ReadRecord::Nothing;
     }
     report_from(

@@ -14,11 +14,11 @@ use Rattle.terms.specs.declared.Said.{Said}
 use Rattle.terms.specs.declared.Said.the-variants.{Accept, Trade, Convert, Cancel, Slab, Ref, Close}
 use Rattle.terms.specs.declared.Why.{Why}
 use Rattle.terms.specs.declared.Why.the-variants.{Asked, Immediate, OutOfRange, OutsideBand, DayEnd}
-use Rattle.terms.specs.Sizes.{recordLength}
+use Rattle.tables.specs.Lengths.{recordLength}
 use Rattle.terms.specs.Reports.{whyOf}
-use Rattle.terms.specs.Records.{recordOf}
+use Rattle.tables.specs.Records.{recordOf}
 use Rattle.terms.proofs.Logic.{by, split}
-use Rattle.terms.proofs.Records.{length-record}
+use Rattle.tables.proofs.Records.{length-record}
 use Rattle.records_law.specs.declared.ReadRecord.{ReadRecord}
 use Rattle.records_law.specs.declared.ReadWhy.{ReadWhy}
 use Rattle.records_law.specs.Back.{RecordRead, whyFrom, zeroTwo, zeroThree, toldIf, endedFrom, reportFrom}

@@ -9,7 +9,7 @@ use Rattle.terms.specs.declared.Deal.{Deal}
 use Rattle.terms.specs.declared.Said.{Said}
 use Rattle.terms.specs.declared.Said.the-variants.{Accept, Trade, Convert, Cancel, Slab, Ref, Close}
 use Rattle.terms.specs.declared.Why.the-variants.{Asked, Immediate, OutOfRange, OutsideBand, DayEnd}
-use Rattle.terms.specs.Records.{recordOf}
+use Rattle.tables.specs.Records.{recordOf}
 use Rattle.records_law.specs.declared.ReadRecord.{ReadRecord}
 use Rattle.records_law.specs.declared.ReadWhy.{ReadWhy}
 

@@ -15,7 +15,8 @@ use terms::sizes;
 ghost use mathlib.Core.Path.{_≡_};
 ghost use Prim.Native.Nat.{_≤_};
 ghost use lib.ListN.{length};
-ghost use Rattle.terms.specs.Sizes.{tableLength, sizes};
+ghost use Rattle.terms.specs.Sizes.{sizes};
+ghost use Rattle.tables.specs.Lengths.{tableLength};
 ghost use Rattle.terms.specs.Truth.{_⊓_};
 ghost use Rattle.terms.specs.Numbers.{isPrice, isTime, onTick};
 ghost use Rattle.terms.specs.Refusals.{firstFailed};
@@ -24,7 +25,7 @@ ghost use Rattle.state_law.specs.Now.{Clocked, bandNow};
 ghost use Rattle.state_law.specs.Clock.{clockStep};
 ghost use Rattle.soundness_law.specs.Sound.{dayIn};
 ghost use Rattle.refusal_law.specs.Refusals.{ofLimit, numbersRight, inHours, ticksRight, bandRight, finds, lifeHasPlace, hasNumbers, bookRules, laterRules, refusalOf};
-ghost use Rattle.refusal_law.specs.Tabled.{Tabled, liveOn, placeFor};
+ghost use Rattle.refusal_law.specs.code.Tabled.{Tabled, liveOn, placeFor};
 
 fn limit_priced(kind: Kind) -> bool
     ensures { λ r. ⌜ r ≡ ofLimit isPrice kind ⌝ }

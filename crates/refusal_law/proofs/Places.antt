@@ -14,7 +14,7 @@ use Rattle.state_law.specs.Day.{own}
 use Rattle.soundness_law.specs.Sound.{dayIn}
 use Rattle.refusal_law.specs.Carried.{carries}
 use Rattle.refusal_law.specs.Refusals.{lifeHasPlace, hasPlace}
-use Rattle.refusal_law.specs.Tabled.{liveOn, placeFor}
+use Rattle.refusal_law.specs.code.Tabled.{liveOn, placeFor}
 use Rattle.refusal_law.proofs.Carried.{any-same}
 
 live-is : (side : Side) (s : Session) (buys sells : List ℕ) → liveOn side s ≡ length (own side (dayIn s buys sells))

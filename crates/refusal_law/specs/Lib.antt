@@ -1,3 +1,3 @@
 pub mod Carried
 pub mod Refusals
-pub mod Tabled
+pub mod code

@@ -11,8 +11,9 @@ use terms::ticks;
 ghost use mathlib.Core.Path.{_≡_};
 ghost use Prim.Native.Nat.{_≤_};
 ghost use lib.ListN.{length};
-ghost use Rattle.terms.specs.Sizes.{tableLength, sizes};
-ghost use Rattle.terms.specs.Ticks.{factorOf};
+ghost use Rattle.terms.specs.Sizes.{sizes};
+ghost use Rattle.tables.specs.Lengths.{tableLength};
+ghost use Rattle.terms.specs.code.Ticks.{factorOf};
 ghost use Rattle.state_law.specs.Now.{Clocked};
 ghost use Rattle.soundness_law.specs.Sound.{clockSound, tapeSound, sessionSound, sound, dayIn};
 

@@ -11,7 +11,7 @@ ghost use lib.ListN.{take};
 ghost use Rattle.terms.specs.Sizes.{priceMost, lotsMost, tradesMost, timeMost, tickMost, sizes};
 ghost use Rattle.terms.specs.Truth.{_⊓_, between};
 ghost use Rattle.terms.specs.Numbers.{isPrice, isLots, onTick};
-ghost use Rattle.terms.specs.Ticks.{Dividing};
+ghost use Rattle.terms.specs.code.Ticks.{Dividing};
 ghost use Rattle.rules_law.specs.Close.{kept};
 ghost use Rattle.soundness_law.specs.Sound.{timeSound, countsSound, slabSound, numbersSound, every, priceSound, rememberedSound, halfSound, minuteSound};
 

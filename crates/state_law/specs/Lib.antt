@@ -4,4 +4,4 @@ pub mod Opening
 pub mod Clock
 pub mod Trades
 pub mod Day
-pub mod Tens
+pub mod code

@@ -11,7 +11,7 @@ use stream_law::Finish;
 use stream_law::Held;
 use stream_law::Reading;
 use stream_law::Sink;
-use terms::sizes;
+use tables::lengths;
 ghost use Prim.Native.Nat.{_-_, _<_};
 ghost use mathlib.Core.Path.{_≡_};
 ghost use mathlib.Core.List.{[]};
@@ -147,8 +147,8 @@ fn through(fd: i32, to: Sink, expected: &[u8]) -> Finish
     ensures { λ r. ⌜ ThroughAs (now (expected .entry)) to r ⌝ }
 {
     let mut buf = io::large_buffer();
-    let mut buys = [0u64; sizes::TABLE];
-    let mut sells = [0u64; sizes::TABLE];
+    let mut buys = [0u64; lengths::TABLE];
+    let mut sells = [0u64; lengths::TABLE];
     run_all(fd, to, expected, &mut buf, &mut buys, &mut sells)
 }
 

@@ -11,6 +11,7 @@ use stream_law::Handed;
 use stream_law::Held;
 use stream_law::Reading;
 use stream_law::Sink;
+use tables::lengths;
 use terms::sizes;
 ghost use Prim.Native.Nat.{_-_, _≤_};
 ghost use mathlib.Core.Path.{_≡_};
@@ -85,7 +86,7 @@ fn hand_some(
 ) -> Handed
     ensures { λ r. ⌜ HandedAs (fedHere run (now (buys .entry)) (now (sells .entry)) (now (bytes .entry))) (now (expected .entry)) to (now (buys .exit)) (now (sells .exit)) r × (r .used ≤ length (now (bytes .entry))) ⌝ }
 {
-    let mut room = [0u64; sizes::ROOM];
+    let mut room = [0u64; lengths::ROOM];
     let mut out = [0u8; OUT];
     hand_in(to, expected, run, bytes, buys, sells, &mut room, &mut out)
 }

@@ -11,7 +11,8 @@ use borrow.Author.Tests.{le-leb}
 use Rattle.terms.specs.declared.Verdict.{Verdict}
 use Rattle.terms.specs.declared.Verdict.the-variants.{Fine}
 use Rattle.terms.specs.declared.Refusal.the-variants.{SmallRoom}
-use Rattle.terms.specs.Sizes.{tableLength, roomLength, lineRoom}
+use Rattle.terms.specs.Sizes.{lineRoom}
+use Rattle.tables.specs.Lengths.{tableLength, roomLength}
 use Rattle.terms.specs.Refusals.{firstFailed}
 use Rattle.terms.proofs.Logic.{make, split}
 use Rattle.terms.proofs.Cascade.{fine-first}

@@ -7,7 +7,7 @@ use mathlib.Core.List.{List, []}
 use lib.ListN.{length, take, drop, length-drop, drop-of-length-le}
 use lib.Seq.{drop-drop, length-take-le}
 use borrow.Author.Tests.{not-true, not-false}
-use Rattle.terms.specs.Sizes.{roomLength}
+use Rattle.tables.specs.Lengths.{roomLength}
 use Rattle.feed_law.specs.declared.Run.{Run}
 use Rattle.feed_law.specs.declared.Stage.{Stage}
 use Rattle.feed_law.specs.Turns.{printedIn}

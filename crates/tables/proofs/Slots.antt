@@ -8,7 +8,7 @@ use mathlib.Core.List.{List, [], _∷_, _++_}
 use lib.ListN.{length, getD, take, drop, length-drop}
 use lib.Seq.{drop-cons, getD-drop, take-add}
 use Rattle.terms.specs.declared.Order.{Order}
-use Rattle.terms.specs.Sizes.{width}
+use Rattle.tables.specs.Lengths.{width}
 use Rattle.tables.specs.Tables.{numbersOf, orderAt, decode, encode}
 
 pub length-encode : (os : List Order) → length (encode os) ≡ width * length os

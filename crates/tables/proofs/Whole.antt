@@ -8,7 +8,8 @@ use mathlib.Core.List.{List, [], _∷_, _++_, append-assoc}
 use lib.ListN.{length, getD, take, drop, replicate, length-append, length-take, length-drop, take-append-drop, length-replicate, replicate-append-replicate}
 use lib.Seq.{drop-cons, drop-drop, take-at, drop-at}
 use Rattle.terms.specs.declared.Order.{Order}
-use Rattle.terms.specs.Sizes.{slots, width, tableLength}
+use Rattle.terms.specs.Sizes.{slots}
+use Rattle.tables.specs.Lengths.{width, tableLength}
 use Rattle.tables.specs.Put.{put}
 use Rattle.tables.specs.Tables.{numbersOf, decode, encode, tableOf, Holds}
 use Rattle.tables.proofs.Puts.{put-at, put-put, put-put-before}

@@ -6,10 +6,10 @@ use mathlib.Core.List.{List, [], _∷_, _++_, append-assoc}
 use lib.ListN.{length}
 use Rattle.terms.specs.declared.Report.{Report}
 use Rattle.terms.specs.declared.Said.{Said}
-use Rattle.terms.specs.Sizes.{recordLength}
+use Rattle.tables.specs.Lengths.{recordLength}
 use Rattle.terms.specs.Reports.{kindOf}
-use Rattle.terms.specs.Records.{fieldsOf, recordOf, recordsOf}
-use Rattle.terms.proofs.Records.{length-records}
+use Rattle.tables.specs.Records.{fieldsOf, recordOf, recordsOf}
+use Rattle.tables.proofs.Records.{length-records}
 use Rattle.tables.specs.Put.{put}
 use Rattle.tables.specs.Fields.{listed}
 use Rattle.tables.specs.declared.room.Four.{Four}

@@ -1,3 +1,5 @@
+pub mod Lengths
+pub mod Records
 pub mod Put
 pub mod Tables
 pub mod Fields

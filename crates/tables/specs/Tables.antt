@@ -5,7 +5,8 @@ use mathlib.Core.Path.{_≡_}
 use mathlib.Core.List.{List, [], _∷_, _++_}
 use lib.ListN.{length, getD, drop, replicate}
 use Rattle.terms.specs.declared.Order.{Order}
-use Rattle.terms.specs.Sizes.{slots, width, tableLength}
+use Rattle.terms.specs.Sizes.{slots}
+use Rattle.tables.specs.Lengths.{width, tableLength}
 
 -- "number, price and lots left": the numbers of an order's slot, `width` of them
 abbrev pub numbersOf : Order → List ℕ

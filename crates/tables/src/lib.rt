@@ -3,5 +3,6 @@
 // table is zero then, and whatever lies past it is as it was.
 
 pub mod flat;
+pub mod lengths;
 pub mod orders;
 pub mod room;

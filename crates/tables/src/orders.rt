@@ -1,12 +1,13 @@
 // Orders in a side's table: read, stored, taken out, put in, changed; and the part past the live orders cleared.
 use crate::flat;
+use crate::lengths;
 use terms::Order;
-use terms::sizes;
 ghost use mathlib.Core.Path.{_≡_};
 ghost use mathlib.Core.List.{_∷_, _++_};
 ghost use Prim.Native.Nat.{_+_, _*_, _≤_, _<_};
 ghost use lib.ListN.{length, take, drop};
-ghost use Rattle.terms.specs.Sizes.{slots, width, tableLength};
+ghost use Rattle.terms.specs.Sizes.{slots};
+ghost use Rattle.tables.specs.Lengths.{width, tableLength};
 ghost use Rattle.tables.specs.Put.{put};
 ghost use Rattle.tables.specs.Tables.{numbersOf, orderAt, decode, tableOf, Holds};
 
@@ -15,7 +16,7 @@ pub fn order_at(t: &[u64], i: usize) -> Order
     requires { ⌜ (i < slots) × (width * i + width ≤ length (now t)) ⌝ }
     ensures { λ r. ⌜ r ≡ orderAt (now (t .entry)) i ⌝ }
 {
-    let at = sizes::WIDTH * i;
+    let at = lengths::WIDTH * i;
     Order {
         number: t[at],
         price: t[at + 1],
@@ -40,9 +41,9 @@ pub fn cut(t: &mut [u64], n: usize, i: usize, k: usize)
         return;
     }
     let behind = i + k;
-    let moved = sizes::WIDTH * (n - behind);
-    flat::shift_down(t, sizes::WIDTH * i, sizes::WIDTH * behind, moved);
-    flat::clear(t, sizes::WIDTH * (n - k), sizes::WIDTH * k);
+    let moved = lengths::WIDTH * (n - behind);
+    flat::shift_down(t, lengths::WIDTH * i, lengths::WIDTH * behind, moved);
+    flat::clear(t, lengths::WIDTH * (n - k), lengths::WIDTH * k);
 }
 
 // The first k orders are taken out.
@@ -58,8 +59,8 @@ pub fn put_in(t: &mut [u64], n: usize, i: usize, o: Order)
     requires { ⌜ Holds n (now t) × (i ≤ n) × (n < slots) ⌝ }
     ensures { λ _. ⌜ now (t .exit) ≡ tableOf (take i (decode n (now (t .entry))) ++ (o ∷ drop i (decode n (now (t .entry))))) (now (t .entry)) ⌝ }
 {
-    let at = sizes::WIDTH * i;
-    flat::shift_up(t, at + sizes::WIDTH, at, sizes::WIDTH * (n - i));
+    let at = lengths::WIDTH * i;
+    flat::shift_up(t, at + lengths::WIDTH, at, lengths::WIDTH * (n - i));
     store(t, at, o);
 }
 
@@ -68,7 +69,7 @@ pub fn change(t: &mut [u64], n: usize, i: usize, o: Order)
     requires { ⌜ Holds n (now t) × (i < n) ⌝ }
     ensures { λ _. ⌜ now (t .exit) ≡ tableOf (take i (decode n (now (t .entry))) ++ (o ∷ drop (i + 1) (decode n (now (t .entry))))) (now (t .entry)) ⌝ }
 {
-    store(t, sizes::WIDTH * i, o);
+    store(t, lengths::WIDTH * i, o);
 }
 
 // Whatever lies past the n live orders becomes zero, to the end of the table.
@@ -76,6 +77,6 @@ pub fn clear_tail(t: &mut [u64], n: usize)
     requires { ⌜ (n ≤ slots) × (tableLength ≤ length (now t)) ⌝ }
     ensures { λ _. ⌜ now (t .exit) ≡ tableOf (decode n (now (t .entry))) (now (t .entry)) ⌝ }
 {
-    let live = sizes::WIDTH * n;
-    flat::clear(t, live, sizes::TABLE - live);
+    let live = lengths::WIDTH * n;
+    flat::clear(t, live, lengths::TABLE - live);
 }

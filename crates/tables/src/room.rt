@@ -6,8 +6,8 @@ use terms::numbers;
 ghost use mathlib.Core.Path.{_≡_};
 ghost use Prim.Native.Nat.{_+_, _≤_};
 ghost use lib.ListN.{length};
-ghost use Rattle.terms.specs.Sizes.{recordLength};
-ghost use Rattle.terms.specs.Records.{fieldsOf, recordOf};
+ghost use Rattle.tables.specs.Lengths.{recordLength};
+ghost use Rattle.tables.specs.Records.{fieldsOf, recordOf};
 ghost use Rattle.tables.specs.Put.{put};
 ghost use Rattle.tables.specs.Fields.{listed};
 

@@ -2,6 +2,5 @@ pub mod Logic
 pub mod Cascade
 pub mod Valid
 pub mod Multiples
-pub mod Records
 pub mod Refusals
 pub mod Papers

@@ -10,7 +10,7 @@ use lib.Dec.{eqb}
 use borrow.Author.Tests.{eq-eqb, ne-eqb, eqb-true, eqb-false}
 use Rattle.terms.specs.Sizes.{tickMost}
 use Rattle.terms.specs.Numbers.{onTick}
-use Rattle.terms.specs.Ticks.{scale, factorOf, Dividing}
+use Rattle.terms.specs.code.Ticks.{scale, factorOf, Dividing}
 
 abbrev below : ℕ
 below = scale - 1

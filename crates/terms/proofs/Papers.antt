@@ -16,7 +16,7 @@ use Rattle.terms.specs.declared.Refusal.the-variants.{SmallRoom, Unsound
 use Rattle.terms.specs.declared.Said.the-variants.{Accept, Trade, Convert, Cancel, Slab, Ref, Close}
 use Rattle.terms.specs.declared.Why.{Why}
 use Rattle.terms.specs.declared.Why.the-variants.{Asked, Immediate, OutOfRange, OutsideBand as Outside, DayEnd}
-use Rattle.terms.specs.Sizes.{slots, width, tableLength, reportsMost, recordLength, roomLength, lineRoom, numbersMost, tradesBefore, tradesMost, priceMost, lotsMost, timeMost, baseMost, tickMost, lengthLeast, daysMost, writtenMost}
+use Rattle.terms.specs.Sizes.{slots, lineRoom, numbersMost, tradesBefore, tradesMost, priceMost, lotsMost, timeMost, baseMost, tickMost, lengthLeast, daysMost, writtenMost}
 use Rattle.terms.specs.Categories.{rowOf}
 use Rattle.terms.specs.Refusals.{numberOf}
 use Rattle.terms.specs.Reports.{kindOf, whyOf}
@@ -111,7 +111,7 @@ category-listed Other = refl
 
 -- "a lent table of 768 64-bit numbers, 256 orders of number, price and lots left"; "Report room is 3,120 numbers, 520 reports of six";
 -- "line room under 128 bytes"
-pub rooms : slots ∷ width ∷ tableLength ∷ reportsMost ∷ recordLength ∷ roomLength ∷ lineRoom ∷ [] ≡ 256 ∷ 3 ∷ 768 ∷ 520 ∷ 6 ∷ 3120 ∷ 128 ∷ []
+pub rooms : slots ∷ lineRoom ∷ [] ≡ 256 ∷ 128 ∷ []
 rooms = refl
 
 -- "Prices are whole paise, 1 to 100,000,000. Quantities are lots, 1 to 10,000. .. Order numbers are 1 to 60,000"; "over 59,744 trades made";

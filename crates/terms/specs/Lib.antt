@@ -1,10 +1,9 @@
 pub mod Truth
 pub mod Sizes
 pub mod Numbers
-pub mod Ticks
 pub mod Categories
 pub mod Reports
-pub mod Records
 pub mod Refusals
 pub mod Settings
 pub mod Options
+pub mod code

@@ -1,9 +1,10 @@
 -- Document 01, "Numbers": the ranges.
-use Prim.Native.Nat.{ℕ, _%_}
+use Prim.Native.Nat.{ℕ, _%_, _≤_}
 use mathlib.Core.Bool.{Bool}
+use mathlib.Core.List.{List, [], _∷_}
 use lib.Dec.{leb, eqb}
 use Rattle.terms.specs.Truth.{between}
-use Rattle.terms.specs.Sizes.{priceMost, lotsMost, timeMost, numbersMost}
+use Rattle.terms.specs.Sizes.{priceMost, lotsMost, timeMost, numbersMost, writtenMost}
 
 -- "Prices are whole paise, 1 to 100,000,000"
 abbrev pub isPrice : ℕ → Bool
@@ -24,3 +25,8 @@ isNumber x = between 1 x numbersMost
 -- x is a multiple of the tick
 abbrev pub onTick : ℕ → ℕ → Bool
 onTick tick x = eqb (x % tick) 0
+
+-- numbers that can be written: none is "above 999,999,999"
+abbrev pub Writable : List ℕ → Type 0
+Writable [] = Unit {0}
+Writable (n ∷ ns) = (n ≤ writtenMost) × Writable ns

@@ -1,27 +1,10 @@
--- Document 01, "Numbers" and "Book and report room": the sizes, each named once. Later requests change them here.
+-- Document 01, "Numbers": the sizes, each named once. Later requests change them here. How long tables and records are stands in
+-- tables/specs/Lengths.antt.
 use Prim.Native.Nat.{ℕ, _+_, _*_}
 
--- "256 orders of number, price and lots left"
+-- "Each side has a lent table of .. 256 orders"
 abbrev pub slots : ℕ
 slots = 256
-
-abbrev pub width : ℕ
-width = 3
-
--- "a lent table of 768 64-bit numbers"
-abbrev pub tableLength : ℕ
-tableLength = slots * width
-
--- "520 reports of six"
-abbrev pub reportsMost : ℕ
-reportsMost = 520
-
-abbrev pub recordLength : ℕ
-recordLength = 6
-
--- "Report room is 3,120 numbers"
-abbrev pub roomLength : ℕ
-roomLength = reportsMost * recordLength
 
 -- "line room under 128 bytes"
 abbrev pub lineRoom : ℕ

@@ -6,7 +6,7 @@ use crate::numbers;
 use crate::sizes;
 use crate::ticks;
 ghost use mathlib.Core.Path.{_≡_};
-ghost use Rattle.terms.specs.Ticks.{factorOf};
+ghost use Rattle.terms.specs.code.Ticks.{factorOf};
 ghost use Rattle.terms.specs.Settings.{settingsRanged, settingsTicked, settingsValid, settingsVerdict, Ranged};
 
 fn ranged(g: Settings) -> bool

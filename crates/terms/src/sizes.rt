@@ -1,19 +1,7 @@
 // The sizes of the base, each named once for code; specs/Sizes.antt names each once for definitions.
 
-// Orders a side, and the numbers that an order takes in its table.
+// Orders a side.
 pub const SLOTS: usize = 256;
-
-pub const WIDTH: usize = 3;
-
-// The numbers of a side's table.
-pub const TABLE: usize = SLOTS * WIDTH;
-
-// Reports that one event can have, the numbers of a report, and of the room.
-pub const REPORTS: usize = 520;
-
-pub const RECORD: usize = 6;
-
-pub const ROOM: usize = REPORTS * RECORD;
 
 // The bytes that a line room must have.
 pub const LINE: usize = 128;

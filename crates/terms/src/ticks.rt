@@ -2,7 +2,7 @@
 ghost use mathlib.Core.Path.{_≡_};
 ghost use Prim.Native.Nat.{_<_};
 ghost use Rattle.terms.specs.Numbers.{onTick};
-ghost use Rattle.terms.specs.Ticks.{scale, factorOf, Dividing};
+ghost use Rattle.terms.specs.code.Ticks.{scale, factorOf, Dividing};
 
 const SCALE: u64 = 4_294_967_296;
 

@@ -3,7 +3,7 @@ use borrow.Author.Needs.{needs}
 use mathlib.Core.Path.{sym, _∙_}
 use native.Mathlib.Omega.{arith}
 use borrow.Author.Tests.{not-false}
-use Rattle.terms.specs.Ticks.{Dividing}
+use Rattle.terms.specs.code.Ticks.{Dividing}
 use Rattle.soundness_law.proofs.Clocked.{session-clocked}
 use Rattle.soundness_law.proofs.Border.{numbers-unsound, book-decides}
 use Rattle.soundness.proofs.is_sound.Statement.{statement}

@@ -1,6 +1,6 @@
 -- The act is what its arm matched: what each callee asks and shows of that act is so of the event.
 use borrow.Author.Needs.{needs}
-use Rattle.engine_law.specs.Steps.{under, clock}
+use Rattle.engine_law.specs.code.Steps.{under, clock}
 use Rattle.acts.proofs.accepted.carry_out.Statement.{statement}
 use Rattle.acts.proofs.accepted.carry_out.Tie as tie
 

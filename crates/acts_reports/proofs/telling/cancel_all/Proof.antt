@@ -5,7 +5,7 @@ use lib.ListN.{length, take}
 use Rattle.terms.specs.declared.Why.the-variants.{DayEnd}
 use Rattle.tables.specs.Tables.{decode}
 use Rattle.acts_law.specs.Acts.{cancelReports}
-use Rattle.acts_law.specs.Written.{Written}
+use Rattle.acts_law.specs.code.Written.{Written}
 use Rattle.acts_law.proofs.Reports.{cancels-none, cancels-all, cancels-leave, cancels-turn}
 use borrow.Author.Needs.{needs}
 use Rattle.acts_reports.proofs.telling.cancel_all.Statement.{statement}

@@ -4,7 +4,7 @@ use Prim.Native.Nat.{_+_, _-_, _≤_}
 use mathlib.Core.Path.{_≡_}
 use lib.ListN.{drop}
 use Rattle.tables.specs.Tables.{decode}
-use Rattle.book_law.specs.Places.{firstWhere}
+use Rattle.book_law.specs.code.Places.{firstWhere}
 use lib.Dec.{eqb}
 use borrow.Author.Tests.{eq-eqb, ne-eqb}
 use Rattle.book_law.proofs.Search.{search-none, search-found, search-turn}

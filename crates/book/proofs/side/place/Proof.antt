@@ -4,7 +4,7 @@ use Prim.Native.Nat.{_+_, _-_, _≤_}
 use mathlib.Core.Path.{_≡_}
 use lib.ListN.{drop}
 use Rattle.tables.specs.Tables.{decode}
-use Rattle.book_law.specs.Places.{firstWhere}
+use Rattle.book_law.specs.code.Places.{firstWhere}
 use Rattle.book_law.specs.Priority.{ahead}
 use Rattle.book_law.proofs.Search.{search-none, search-found, search-turn, told}
 use Rattle.book.proofs.side.place.Statement.{statement}

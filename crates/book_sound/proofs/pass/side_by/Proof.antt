@@ -4,8 +4,8 @@ use mathlib.Core.Path.{_≡_}
 use lib.ListN.{length, drop}
 use borrow.Author.Needs.{needs}
 use Rattle.tables.specs.Tables.{decode}
-use Rattle.book_sound_law.specs.Marks.{marked}
-use Rattle.book_sound_law.specs.Pass.{lowBits, passOf}
+use Rattle.book_sound_law.specs.code.Marks.{marked}
+use Rattle.book_sound_law.specs.code.Pass.{lowBits, passOf}
 use Rattle.book_sound_law.proofs.Turns.{fine-keyed, inside, marks-all, marks-turn, pass-all, pass-bad, pass-unsorted, pass-seen, pass-turn}
 use Rattle.book_sound.proofs.pass.side_by.Statement.{statement}
 use Rattle.book_sound.proofs.pass.side_by.Tie as tie

@@ -4,7 +4,8 @@ use native.Mathlib.Omega.{arith}
 use mathlib.Core.Path.{_≡_, refl}
 use lib.ListN.{length}
 use borrow.Author.Needs.{needs}
-use Rattle.terms.specs.Sizes.{lineRoom, recordLength}
+use Rattle.terms.specs.Sizes.{lineRoom}
+use Rattle.tables.specs.Lengths.{recordLength}
 use denote.Ref.{now}
 use Rattle.feed_law.proofs.Prints.{prints-on, next-record}
 use Rattle.feed_prints.proofs.telling.tell_records.Statement.{statement}

@@ -1,7 +1,7 @@
 -- By what the word found.
 use borrow.Author.Needs.{needs}
 use mathlib.Core.Path.{_∙_, sym}
-use Rattle.lines_text_law.specs.Pieces.{fieldOn}
+use Rattle.lines_text_law.specs.code.Pieces.{fieldOn}
 use Rattle.lines_text.proofs.pieces.field.Statement.{statement}
 use Rattle.lines_text.proofs.pieces.field.Tie as tie
 

@@ -1,7 +1,7 @@
 -- By what the field found, and then the newline.
 use borrow.Author.Needs.{needs}
 use mathlib.Core.Path.{_∙_, sym}
-use Rattle.lines_text_law.specs.Pieces.{lastOn}
+use Rattle.lines_text_law.specs.code.Pieces.{lastOn}
 use Rattle.lines_text.proofs.pieces.last.Statement.{statement}
 use Rattle.lines_text.proofs.pieces.last.Tie as tie
 

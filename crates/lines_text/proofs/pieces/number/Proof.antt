@@ -3,7 +3,7 @@ use Prim.Native.Nat.{_≤_, _<_, _-_, _^_}
 use native.Mathlib.Omega.{arith}
 use mathlib.Core.Path.{_≡_, _∙_, sym}
 use lib.ListN.{drop}
-use Rattle.lines_text_law.specs.Pieces.{numberOn, moreOn}
+use Rattle.lines_text_law.specs.code.Pieces.{numberOn, moreOn}
 use Rattle.lines_text_law.proofs.Digits.{fewer}
 use Rattle.lines_text_law.proofs.Steps.{one-more, number-ends, number-zero, number-low, number-high, number-first, more-ends, more-low, more-high, more-turn}
 use borrow.Author.Needs.{needs}

@@ -3,7 +3,7 @@ use Prim.Native.Nat.{_≤_, _-_}
 use native.Mathlib.Omega.{arith}
 use mathlib.Core.Path.{_≡_, _∙_, sym}
 use lib.ListN.{length, drop}
-use Rattle.lines_text_law.specs.Pieces.{wordOn}
+use Rattle.lines_text_law.specs.code.Pieces.{wordOn}
 use Rattle.lines_text_law.proofs.Steps.{word-past, word-ends, word-differs, word-turn}
 use borrow.Author.Needs.{needs}
 use Rattle.lines_text.proofs.pieces.word.Statement.{statement}

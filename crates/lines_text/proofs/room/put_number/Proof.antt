@@ -5,7 +5,7 @@ use mathlib.Core.Path.{_≡_, refl, _∙_, sym}
 use lib.ListN.{length, length-set}
 use Rattle.terms.specs.Sizes.{writtenMost}
 use Rattle.lines_text_law.specs.Numerals.{numeral}
-use Rattle.lines_text_law.specs.Room.{over}
+use Rattle.lines_text_law.specs.code.Room.{over}
 use Rattle.lines_text_law.proofs.Digits.{length-first, length-last}
 use Rattle.lines_text_law.proofs.Fills.{digit-turn, digit-end}
 use borrow.Author.Needs.{needs}

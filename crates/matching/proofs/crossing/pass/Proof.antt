@@ -3,10 +3,10 @@ use borrow.Author.Needs.{needs}
 use Prim.Native.Nat.{_+_, _-_, _*_, _≤_}
 use mathlib.Core.Path.{_≡_}
 use lib.ListN.{length, drop}
-use Rattle.terms.specs.Sizes.{recordLength}
+use Rattle.tables.specs.Lengths.{recordLength}
 use Rattle.rules_law.specs.Mark.{markMost}
 use Rattle.tables.specs.Tables.{decode}
-use Rattle.matching_law.specs.Sweeps.{finish}
+use Rattle.matching_law.specs.code.Sweeps.{finish}
 use Rattle.matching_law.proofs.Turns.{answer-zero, answer-end, answer-stop, answer-part, turn, turn-first}
 use Rattle.matching.proofs.crossing.pass.Statement.{statement}
 use Rattle.matching.proofs.crossing.pass.Tie as tie

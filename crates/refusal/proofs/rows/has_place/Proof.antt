@@ -1,5 +1,5 @@
 -- An arm for each act.
-use Rattle.refusal_law.specs.Tabled.{placeFor}
+use Rattle.refusal_law.specs.code.Tabled.{placeFor}
 use borrow.Author.Needs.{needs}
 use Rattle.refusal.proofs.rows.has_place.Statement.{statement}
 use Rattle.refusal.proofs.rows.has_place.Tie as tie

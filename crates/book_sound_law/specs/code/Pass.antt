@@ -9,12 +9,13 @@ use Rattle.terms.specs.declared.Side.{Side}
 use Rattle.terms.specs.declared.Side.the-variants.{Buy, Sell}
 use Rattle.terms.specs.declared.Order.{Order}
 use Rattle.terms.specs.declared.Band.{Band}
-use Rattle.terms.specs.Sizes.{slots, tableLength, numbersMost}
-use Rattle.terms.specs.Ticks.{scale, factorOf, Dividing}
+use Rattle.terms.specs.Sizes.{slots, numbersMost}
+use Rattle.tables.specs.Lengths.{tableLength}
+use Rattle.terms.specs.code.Ticks.{scale, factorOf, Dividing}
 use Rattle.book_law.specs.Priority.{sorted}
 use Rattle.book_sound_law.specs.declared.Limits.{Limits}
 use Rattle.book_sound_law.specs.Sound.{orderSound, eachSound, distinct}
-use Rattle.book_sound_law.specs.Marks.{hasMark, withMark, apart}
+use Rattle.book_sound_law.specs.code.Marks.{hasMark, withMark, apart}
 
 -- ---- what a pass is given
 

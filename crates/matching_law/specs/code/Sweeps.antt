@@ -7,8 +7,8 @@ use lib.ListN.{length, drop}
 use Rattle.terms.specs.declared.Order.{Order}
 use Rattle.terms.specs.declared.Report.{Report}
 use Rattle.terms.specs.declared.Said.the-variants.{Trade}
-use Rattle.terms.specs.Sizes.{recordLength}
-use Rattle.terms.specs.Records.{recordsOf}
+use Rattle.tables.specs.Lengths.{recordLength}
+use Rattle.tables.specs.Records.{recordsOf}
 use Rattle.rules_law.specs.Reference.{inRange}
 use Rattle.tables.specs.Put.{put}
 use Rattle.tables.specs.Tables.{tableOf}

@@ -12,8 +12,9 @@ use Rattle.terms.specs.declared.Life.{Life}
 use Rattle.terms.specs.declared.Kind.{Kind}
 use Rattle.terms.specs.declared.Band.{Band}
 use Rattle.terms.specs.declared.Why.the-variants.{Asked, OutOfRange}
-use Rattle.terms.specs.Sizes.{recordLength, slots, priceMost, lotsMost}
-use Rattle.terms.specs.Records.{recordsOf}
+use Rattle.terms.specs.Sizes.{slots, priceMost, lotsMost}
+use Rattle.tables.specs.Lengths.{recordLength}
+use Rattle.tables.specs.Records.{recordsOf}
 use Rattle.tables.specs.Put.{put}
 use Rattle.tables.specs.Tables.{tableOf, Holds}
 use Rattle.book_law.specs.Priority.{rests, removed, leftOf}

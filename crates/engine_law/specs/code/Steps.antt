@@ -5,13 +5,14 @@ use mathlib.Core.List.{List}
 use lib.ListN.{length}
 use Rattle.terms.specs.declared.Act.{Act}
 use Rattle.terms.specs.declared.Act.the-variants.{Under, Clock}
-use Rattle.terms.specs.Sizes.{recordLength, slots, tableLength}
+use Rattle.terms.specs.Sizes.{slots}
+use Rattle.tables.specs.Lengths.{recordLength, tableLength}
 use Rattle.tables.specs.Tables.{decode, tableOf}
 use Rattle.state_law.specs.declared.Session.{Session}
 use Rattle.state_law.specs.Set.{setBuys, setSells}
 use Rattle.state_law.specs.Now.{Clocked}
 use Rattle.acts_law.specs.Acts.{clockReports}
-use Rattle.acts_law.specs.Written.{Written}
+use Rattle.acts_law.specs.code.Written.{Written}
 use Rattle.engine_law.specs.declared.Answer.{Answer}
 use Rattle.engine_law.specs.declared.Applied.{Applied}
 

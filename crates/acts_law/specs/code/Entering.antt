@@ -8,7 +8,8 @@ use Rattle.terms.specs.declared.Order.{Order}
 use Rattle.terms.specs.declared.Band.{Band}
 use Rattle.terms.specs.declared.Life.the-variants.{AllDay}
 use Rattle.terms.specs.declared.Said.the-variants.{Accept}
-use Rattle.terms.specs.Sizes.{recordLength, slots, numbersMost}
+use Rattle.terms.specs.Sizes.{slots, numbersMost}
+use Rattle.tables.specs.Lengths.{recordLength}
 use Rattle.rules_law.specs.Reference.{RangeFits}
 use Rattle.tables.specs.Tables.{decode, tableOf, Holds}
 use Rattle.matching_law.specs.declared.Incoming.{Incoming}
@@ -21,7 +22,7 @@ use Rattle.state_law.specs.Trades.{withTrades, TradesFit}
 use Rattle.acts_law.specs.declared.Met.{Met}
 use Rattle.acts_law.specs.declared.Entered.{Entered}
 use Rattle.acts_law.specs.Acts.{lastIn, sweepIn, fateIn, entered}
-use Rattle.acts_law.specs.Written.{Written, Deals}
+use Rattle.acts_law.specs.code.Written.{Written, Deals}
 
 -- the order as it meets the counter side
 abbrev pub incomingIn : Session → Entry → ℕ → Incoming

@@ -5,7 +5,7 @@ use mathlib.Core.List.{List, _++_}
 use lib.ListN.{length, getD, take, drop}
 use Rattle.terms.specs.Sizes.{writtenMost}
 use Rattle.lines_text_law.specs.declared.Spot.{Spot}
-use Rattle.lines_text_law.specs.Numerals.{Writable}
+use Rattle.terms.specs.Numbers.{Writable}
 use Rattle.lines_text_law.specs.Forms.{piece, taken, fill, holes}
 
 -- d with bs in the place of what stood from place n on

@@ -4,11 +4,11 @@ use native.Mathlib.Omega.{arith}
 use mathlib.Core.Path.{_≡_, refl}
 use mathlib.Core.List.{List, [], _∷_}
 use lib.ListN.{length, length-append}
 use Rattle.terms.specs.declared.Report.{Report}
 use Rattle.terms.specs.declared.Said.{Said}
 use Rattle.terms.specs.declared.Said.the-variants.{Accept, Trade, Convert, Cancel, Slab, Ref, Close}
-use Rattle.terms.specs.Sizes.{recordLength}
-use Rattle.terms.specs.Records.{fieldsOf, recordOf, recordsOf}
+use Rattle.tables.specs.Lengths.{recordLength}
+use Rattle.tables.specs.Records.{fieldsOf, recordOf, recordsOf}
 
 length-fields : (s : Said) → length (fieldsOf s) ≡ 4
 length-fields (Accept number) = refl

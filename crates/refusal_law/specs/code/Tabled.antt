@@ -6,7 +6,8 @@ use lib.ListN.{length}
 use Rattle.terms.specs.declared.Side.{Side}
 use Rattle.terms.specs.declared.Side.the-variants.{Buy, Sell}
 use Rattle.terms.specs.declared.Act.{Act}
-use Rattle.terms.specs.Sizes.{slots, tableLength, sizes}
+use Rattle.terms.specs.Sizes.{slots, sizes}
+use Rattle.tables.specs.Lengths.{tableLength}
 use Rattle.terms.specs.Options.{ofAny}
 use Rattle.state_law.specs.declared.Session.{Session}
 use Rattle.refusal_law.specs.Carried.{carries}
