@@ -8,23 +8,23 @@ use lib.Seq.{take-all}
 use Rattle.lines_reading_law.specs.declared.ReadEvent.{ReadEvent}
 use Rattle.lines_reading_law.specs.Answers.{EventRead, eventAnswer, readEvent}
 use Rattle.lines_reading_law.proofs.EventLines.{event-told, event-right}
-use Rattle.journal.specs.Walk.{eventFrom}
+use Rattle.lines_reading_law.specs.Walk.{eventAt}
 
 -- the part of the slice from a place to its end is the bytes from the place on
 part-is : (bytes : List ℕ) (place : ℕ) → take (length bytes - place) (drop place bytes) ≡ drop place bytes
 part-is bytes place = take-all (length bytes - place) (drop place bytes) (le-of-eq (length-drop place bytes))
 
 -- what is read of that part is the answer at the place
-pub read-there : (bytes : List ℕ) (place : ℕ) (r : ReadEvent) → EventRead (take (length bytes - place) (drop place bytes)) r → eventAnswer r ≡ eventFrom bytes place
-unfolding eventFrom
+pub read-there : (bytes : List ℕ) (place : ℕ) (r : ReadEvent) → EventRead (take (length bytes - place) (drop place bytes)) r → eventAnswer r ≡ eventAt bytes place
+unfolding eventAt
 read-there bytes place r a = event-told (take (length bytes - place) (drop place bytes)) r a ∙ ap readEvent (part-is bytes place)
 
 -- what is read of no bytes is the answer at a place past the end
-pub read-past : (bytes : List ℕ) (place : ℕ) (r : ReadEvent) → length bytes < place → EventRead [] r → eventAnswer r ≡ eventFrom bytes place
-unfolding eventFrom
+pub read-past : (bytes : List ℕ) (place : ℕ) (r : ReadEvent) → length bytes < place → EventRead [] r → eventAnswer r ≡ eventAt bytes place
+unfolding eventAt
 read-past bytes place r past a = event-told [] r a ∙ ap readEvent (sym (drop-of-length-le bytes (le-of-lt past)))
 
 -- the answer at a place is the right one for the bytes from there on, by what a line is
-pub right-there : (bytes : List ℕ) (place : ℕ) (r : ReadEvent) → eventAnswer r ≡ eventFrom bytes place → EventRead (drop place bytes) r
-unfolding eventFrom
+pub right-there : (bytes : List ℕ) (place : ℕ) (r : ReadEvent) → eventAnswer r ≡ eventAt bytes place → EventRead (drop place bytes) r
+unfolding eventAt
 right-there bytes place r q = record { right = rw q (event-right (drop place bytes)) }

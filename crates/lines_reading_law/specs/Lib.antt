@@ -1,3 +1,4 @@
 pub mod Lines
 pub mod Grammars
 pub mod Answers
+pub mod Walk

@@ -2,7 +2,6 @@
 use Prim.Native.Nat.{ℕ}
 use mathlib.Core.Path.{_≡_, refl, sym, ap, _∙_}
 use mathlib.Core.List.{List}
-use denote.Ref.{RefT}
 use Rattle.terms.specs.declared.Event.{Event}
 use Rattle.terms.specs.declared.Settings.{Settings}
 use Rattle.lines_text_law.specs.Grammar.{Answer, whole, unfinished, wrong}
@@ -14,8 +13,7 @@ use Rattle.lines_reading_law.proofs.SettingsLines.{settings-only}
 use Rattle.records_law.proofs.Told.{told-only}
 use Rattle.lines_writing_law.proofs.Back.{writes-one}
 use Rattle.feed_law.specs.Worlds.{Lent, lentOf}
-use Rattle.journal.specs.declared.Walker.{Walker}
-use Rattle.promises.specs.Determined.{CheckDetermined, OpeningDetermined, ViewDetermined, StandingDetermined, ApplyDetermined, EventReadDetermined, SettingsReadDetermined, WriteDetermined, RecordReadDetermined, NewDetermined, MovedDetermined, WalkDetermined, StartDetermined, FeedDetermined}
+use Rattle.promises.specs.Determined.{CheckDetermined, OpeningDetermined, ViewDetermined, StandingDetermined, ApplyDetermined, EventReadDetermined, SettingsReadDetermined, WriteDetermined, RecordReadDetermined, WalkDetermined, StartDetermined, FeedDetermined}
 
 pub check-determined : CheckDetermined
 check-determined g r r′ e f = e ∙ sym f
@@ -53,17 +51,6 @@ event-same (ReadEvent.Wrong n) = refl
 pub event-read-determined : EventReadDetermined
 event-read-determined bytes r r′ a b =
     sym (event-same r) ∙ (ap eventBack (event-only bytes (eventAnswer r) (eventAnswer r′) (a .right) (b .right)) ∙ event-same r′)
-
--- a walker is its bytes and its place
-walker-same : (bytes : RefT (List ℕ)) (place : ℕ) (r r′ : Walker) → (r .bytes ≡ bytes) × (r .at ≡ place) →
-    (r′ .bytes ≡ bytes) × (r′ .at ≡ place) → r ≡ r′
-walker-same bytes place r r′ a b = λ i. record { bytes = (a .0 ∙ sym (b .0)) i; at = (a .1 ∙ sym (b .1)) i }
-
-pub new-determined : NewDetermined
-new-determined bytes r r′ a b = walker-same bytes 0 r r′ a b
-
-pub moved-determined : MovedDetermined
-moved-determined w r r′ at a b = walker-same (w .bytes) at r r′ a b
 
 pub walk-determined : WalkDetermined
 walk-determined bytes place r r′ e f = sym (event-same r) ∙ (ap eventBack (e ∙ sym f) ∙ event-same r′)

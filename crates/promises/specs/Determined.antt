@@ -2,7 +2,6 @@
 use Prim.Native.Nat.{ℕ}
 use mathlib.Core.Path.{_≡_}
 use mathlib.Core.List.{List}
-use denote.Ref.{RefT}
 use Rattle.terms.specs.declared.Settings.{Settings}
 use Rattle.terms.specs.declared.Event.{Event}
 use Rattle.terms.specs.declared.Side.{Side}
@@ -25,8 +24,7 @@ use Rattle.lines_writing_law.specs.Writes.{Writes}
 use Rattle.feed_law.specs.declared.Run.{Run}
 use Rattle.feed_law.specs.declared.Taken.{Taken}
 use Rattle.feed_law.specs.Feeds.{Feed, begun, TakenBy}
-use Rattle.journal.specs.declared.Walker.{Walker}
-use Rattle.journal.specs.Walk.{eventFrom}
+use Rattle.lines_reading_law.specs.Walk.{eventAt}
 
 -- `terms::judge::check`
 abbrev pub CheckDetermined : Type 0
@@ -67,18 +65,10 @@ EventReadDetermined = (bytes : List ℕ) (r r′ : ReadEvent) → EventRead byte
 abbrev pub SettingsReadDetermined : Type 0
 SettingsReadDetermined = (bytes : List ℕ) (r r′ : ReadSettings) → SettingsRead bytes r → SettingsRead bytes r′ → r ≡ r′
 
--- the walker's `journal::new` and `journal::moved`: the bytes that it holds, and its place
-abbrev pub NewDetermined : Type 0
-NewDetermined = (bytes : RefT (List ℕ)) (r r′ : Walker) → (r .bytes ≡ bytes) × (r .at ≡ 0) → (r′ .bytes ≡ bytes) × (r′ .at ≡ 0) → r ≡ r′
-
-abbrev pub MovedDetermined : Type 0
-MovedDetermined =
-    (w r r′ : Walker) (at : ℕ) → (r .bytes ≡ w .bytes) × (r .at ≡ at) → (r′ .bytes ≡ w .bytes) × (r′ .at ≡ at) → r ≡ r′
-
 -- the walker's calls: `journal::step`, `line_at`, `event_at`
 abbrev pub WalkDetermined : Type 0
 WalkDetermined =
-    (bytes : List ℕ) (place : ℕ) (r r′ : ReadEvent) → eventAnswer r ≡ eventFrom bytes place → eventAnswer r′ ≡ eventFrom bytes place → r ≡ r′
+    (bytes : List ℕ) (place : ℕ) (r r′ : ReadEvent) → eventAnswer r ≡ eventAt bytes place → eventAnswer r′ ≡ eventAt bytes place → r ≡ r′
 
 -- every writer of lines: the answer and each byte of the room
 abbrev pub WriteDetermined : Type 0

@@ -1,0 +1,16 @@
+-- A walk over saved bytes: at the start it reads all of them, and behind a line what follows it.
+use Prim.Native.Nat.{ℕ}
+use mathlib.Core.Path.{_≡_, refl, ap}
+use mathlib.Core.List.{List, _++_}
+use lib.ListN.{length, drop}
+use lib.Seq.{drop-append-seam}
+use Rattle.lines_reading_law.specs.Answers.{readEvent}
+use Rattle.lines_reading_law.specs.Walk.{eventAt}
+
+pub walk-starts : (bytes : List ℕ) → eventAt bytes 0 ≡ readEvent bytes
+unfolding eventAt
+walk-starts bytes = refl
+
+pub walk-goes-on : (line rest : List ℕ) → eventAt (line ++ rest) (length line) ≡ readEvent rest
+unfolding eventAt
+walk-goes-on line rest = ap readEvent (drop-append-seam line rest)
