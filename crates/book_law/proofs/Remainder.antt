@@ -84,42 +84,42 @@ length-trades time side number (f ∷ fs) = omega (arith, length-trades time sid
 -- ---- the remainder
 
 -- what is left is told as cancelled, or rests, and nothing else is said of it
-pub record Placed (side : Side) (number left time : ℕ) (os : List Order) (fate : Fate) : Type 0 where
+pub record FateKept (side : Side) (number left time : ℕ) (os : List Order) (fate : Fate) : Type 0 where
   pub kept : (id : ℕ) →
       cancelled id (fateReports time number left fate) + lotsOf id (settled side number left fate os) ≡ mine id number left + lotsOf id os
   pub untraded : (id : ℕ) → traded id (fateReports time number left fate) ≡ 0
   pub one : length (fateReports time number left fate) ≤ 1
 
 module _ (side : Side) (number left time : ℕ) (os : List Order) where
-  done-placed : left ≡ 0 → Placed side number left time os Done
+  done-placed : left ≡ 0 → FateKept side number left time os Done
   unfolding total
   done-placed e = record { kept = λ id. rw e (omega (arith, mine-zero id number)); untraded = λ id. refl; one = omega arith }
 
   lots-at : (p id : ℕ) → lotsOf id (settled side number left (Rests p) os) ≡ mine id number left + lotsOf id os
   lots-at p id = lots-insert id side (record { number = number; price = p; lots = left }) os
 
-  rests-placed : (p : ℕ) → Placed side number left time os (Rests p)
+  rests-placed : (p : ℕ) → FateKept side number left time os (Rests p)
   unfolding total
   rests-placed p = record { kept = λ id. omega (arith, lots-at p id); untraded = λ id. refl; one = omega arith }
 
-  turns-placed : (p : ℕ) → Placed side number left time os (Turns p)
+  turns-placed : (p : ℕ) → FateKept side number left time os (Turns p)
   unfolding total
   turns-placed p = record { kept = λ id. omega (arith, lots-at p id); untraded = λ id. refl; one = omega arith }
 
-  ends-placed : (why : Why) → Placed side number left time os (Ends why)
+  ends-placed : (why : Why) → FateKept side number left time os (Ends why)
   unfolding total
   ends-placed why = record { kept = λ id. omega arith; untraded = λ id. refl; one = omega arith }
 
-  left-placed : (life : Life) (kind : Kind) (b : Band) (p : ℕ) → Placed side number left time os (fateOfLeft life kind b p)
+  left-placed : (life : Life) (kind : Kind) (b : Band) (p : ℕ) → FateKept side number left time os (fateOfLeft life kind b p)
   left-placed Ioc kind b p = ends-placed _
   left-placed AllDay (Limit l) b p = rests-placed l
-  left-placed AllDay Market b p = by (Placed side number left time os) (inBand b p) _ _ (λ e. turns-placed p) (λ e. ends-placed _)
+  left-placed AllDay Market b p = by (FateKept side number left time os) (inBand b p) _ _ (λ e. turns-placed p) (λ e. ends-placed _)
 
 pub fate-placed : (side : Side) (number time : ℕ) (os : List Order) (life : Life) (kind : Kind) (b : Band) (last : ℕ) (w : Swept) →
-    Placed side number (w .left) time os (fateOf life kind b last w)
+    FateKept side number (w .left) time os (fateOf life kind b last w)
 unfolding fateOf
 fate-placed side number time os life kind b last w =
-    let P : Fate → Type 0 = Placed side number (w .left) time os in
+    let P : Fate → Type 0 = FateKept side number (w .left) time os in
     by P (eqb (w .left) 0) _ _ (λ e. done-placed side number (w .left) time os (eqb-true _ _ e))
     (λ e. by P (w .out) _ _ (λ e. ends-placed side number (w .left) time os _)
     (λ e. left-placed side number (w .left) time os life kind b (ownLastOr last (w .fills))))
@@ -139,7 +139,7 @@ Balanced id time side number lots own across w fate =
     ≡ mine id number lots + (lotsOf id own + lotsOf id across)
 
 entry-balanced : (id time : ℕ) (side : Side) (number lots : ℕ) (own across : List Order) (w : Swept) (fate : Fate) → Conserved lots across w →
-    Placed side number (w .left) time own fate → Balanced id time side number lots own across w fate
+    FateKept side number (w .left) time own fate → Balanced id time side number lots own across w fate
 entry-balanced id time side number lots own across w fate c f =
     let ts : List Report = tradeReports time side number (w .fills) in
     let fs : List Report = fateReports time number (w .left) fate in

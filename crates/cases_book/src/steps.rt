@@ -2,7 +2,7 @@
 use crate::says;
 use book::side;
 use book::view;
-use cases::lines;
+use cases::nine;
 use cases::print;
 use matching::crossing;
 use matching_law::Incoming;
@@ -231,7 +231,7 @@ pub fn run(text: &[u8], buys: &mut [u64], sells: &mut [u64])
     let mut c = Counts { own: 0, other: 0 };
     let mut at: usize = 0;
     while at < text.len() {
-        let l = lines::nine(text, at);
+        let l = nine::nine(text, at);
         let w = l.words;
         c = turn(buys, sells, c, w);
         at = l.next;

@@ -2,7 +2,7 @@
 use crate::calling;
 use crate::says;
 use crate::setting;
-use cases::lines;
+use cases::nine;
 use cases::print;
 use state_law::Session;
 use tables::lengths;
@@ -113,7 +113,7 @@ pub fn run(text: &[u8], buys: &mut [u64], sells: &mut [u64], room: &mut [u64]) {
     let mut s = first.session;
     let mut at: usize = 0;
     while at < text.len() {
-        let l = lines::nine(text, at);
+        let l = nine::nine(text, at);
         let w = l.words;
         s = turn(s, w, buys, sells, room);
         at = l.next;

@@ -3,6 +3,6 @@
 // byte afterwards, are those of desk_law; a refusal writes nothing, but that a refused opening lays the fixed session.
 
 pub mod calls;
-pub mod lines;
+pub mod line_calls;
 pub mod standings;
 pub mod texts;

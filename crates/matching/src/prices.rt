@@ -1,6 +1,6 @@
 // Whether an incoming order trades at a counter price: limit, range, mark.
+use matching_law::AtPrice;
 use matching_law::Incoming;
-use matching_law::Meeting;
 use rules::mark;
 use rules::reference;
 use terms::Kind;
@@ -10,7 +10,7 @@ ghost use Prim.Native.Nat.{_≤_};
 ghost use Rattle.rules_law.specs.Reference.{RangeFits};
 ghost use Rattle.rules_law.specs.Mark.{markMost};
 ghost use Rattle.book_law.specs.Matching.{fitsLimit, fits, beyond, firstAfter};
-ghost use Rattle.matching_law.specs.code.Sweeps.{takerOf, meetingOf};
+ghost use Rattle.matching_law.specs.code.Sweeps.{takerOf, atPriceOf};
 
 fn is_within(side: Side, limit: u64, price: u64) -> bool
     ensures { λ r. ⌜ r ≡ fitsLimit side limit price ⌝ }
@@ -53,9 +53,9 @@ pub fn first_after(first: u64, price: u64) -> u64
 }
 
 // What the incoming order does at this price, once it has traded at `first`.
-pub fn meet(x: Incoming, first: u64, price: u64) -> Meeting
+pub fn meet(x: Incoming, first: u64, price: u64) -> AtPrice
     requires { ⌜ RangeFits (x .range) × (first ≤ markMost) ⌝ }
-    ensures { λ r. ⌜ r ≡ meetingOf (takerOf x) first price ⌝ }
+    ensures { λ r. ⌜ r ≡ atPriceOf (takerOf x) first price ⌝ }
 {
     let side = x.side;
     let kind = x.kind;
@@ -63,7 +63,7 @@ pub fn meet(x: Incoming, first: u64, price: u64) -> Meeting
     let fitting = is_fitting(side, kind, price);
     let ranged = reference::in_range(range, price);
     let beyond = is_beyond(side, kind, first, price);
-    Meeting {
+    AtPrice {
         trades: fitting & ranged & !beyond,
         out: fitting & !ranged,
     }

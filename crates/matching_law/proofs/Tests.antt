@@ -11,7 +11,7 @@ use Rattle.rules_law.specs.Reference.{inRange, RangeFits}
 use Rattle.rules_law.specs.Mark.{markMost}
 use Rattle.rules_law.proofs.Ranges.{in-range-small}
 use Rattle.book_law.specs.Matching.{Taker, Swept, stopped, cutShort, takenWhole, fits, beyond, firstAfter, sweep}
-use Rattle.matching_law.specs.code.Sweeps.{meetingOf}
+use Rattle.matching_law.specs.code.Sweeps.{atPriceOf}
 
 -- the three tests of `sweep`, in its order: it fits, it is in range, it is beyond the mark
 module _ (stop : Bool → Swept) (on : Swept) where
@@ -39,11 +39,11 @@ sweep-zero q first lots e [] = refl
 sweep-zero q first lots e (o ∷ os) = rw (eq-eqb lots 0 e)
 
 module _ (q : Taker) (first lots : ℕ) (os : List Order) (o : Order) (xs : List Order) (e : os ≡ o ∷ xs) (z : eqb lots 0 ≡ false) where
-  pub sweep-stops : meetingOf q first (o .price) .trades ≡ false → sweep q first lots os ≡ stopped (meetingOf q first (o .price) .out) lots os
+  pub sweep-stops : atPriceOf q first (o .price) .trades ≡ false → sweep q first lots os ≡ stopped (atPriceOf q first (o .price) .out) lots os
   unfolding sweep
   sweep-stops p = rw (e, z) (stops (λ out. stopped out lots (o ∷ xs)) _ (fits (q .side) (q .kind) (o .price)) (inRange (q .range) (o .price)) (beyond (q .side) (q .kind) first (o .price)) p)
 
-  module _ (p : meetingOf q first (o .price) .trades ≡ true) where
+  module _ (p : atPriceOf q first (o .price) .trades ≡ true) where
     goes : sweep q first lots os ≡ cond (ltb lots (o .lots)) (cutShort lots o xs) (takenWhole o (sweep q (firstAfter first (o .price)) (lots - o .lots) xs))
     unfolding sweep
     goes = rw (e, z) (goes-on (λ out. stopped out lots (o ∷ xs)) _ (fits (q .side) (q .kind) (o .price)) (inRange (q .range) (o .price)) (beyond (q .side) (q .kind) first (o .price)) p)
@@ -55,7 +55,7 @@ module _ (q : Taker) (first lots : ℕ) (os : List Order) (o : Order) (xs : List
     sweep-takes h = rw (goes, h)
 
 -- the first trade of an order is at a price in range, and so its mark fits
-pub first-small : (q : Taker) (first price : ℕ) → RangeFits (q .range) → first ≤ markMost → meetingOf q first price .trades ≡ true → firstAfter first price ≤ markMost
+pub first-small : (q : Taker) (first price : ℕ) → RangeFits (q .range) → first ≤ markMost → atPriceOf q first price .trades ≡ true → firstAfter first price ≤ markMost
 first-small q first price f h p =
     let s : price ≤ markMost = in-range-small (q .range) price f (middle (fits (q .side) (q .kind) price) (inRange (q .range) price) (beyond (q .side) (q .kind) first price) p) in
     cases (eqb first 0) (λ e. rw e s) (λ e. rw e h)

@@ -16,9 +16,9 @@ use Rattle.tables.specs.Tables.{orderAt, decode}
 use Rattle.tables.proofs.Slots.{decode-read, decode-end}
 use Rattle.book_law.specs.Matching.{part, stopped, firstAfter, sweep}
 use Rattle.matching_law.specs.declared.Incoming.{Incoming}
-use Rattle.matching_law.specs.declared.Meeting.{Meeting}
+use Rattle.matching_law.specs.declared.AtPrice.{AtPrice}
 use Rattle.matching_law.specs.declared.Passed.{Passed}
-use Rattle.matching_law.specs.code.Sweeps.{takerOf, meetingOf, fillReport, headLots, End, finish, passedWhole, Passes}
+use Rattle.matching_law.specs.code.Sweeps.{takerOf, atPriceOf, fillReport, headLots, End, finish, passedWhole, Passes}
 use Rattle.matching_law.proofs.Tests.{sweep-zero, sweep-stops, sweep-cuts, sweep-takes, first-small}
 use Rattle.matching_law.proofs.Ends.{finish-stops, finish-cuts, finish-takes}
 
@@ -47,7 +47,7 @@ module _ (whole : End) (x : Incoming) (at n : ℕ) (t : List ℕ) (i first last 
   pub answer-end : (r : Passed) → r ≡ passedWhole i left last false → i ≤ n → n ≤ i → Passes n (decode n t) whole room r
   answer-end r k h g = halts false r k h (sweep-end x first left (drop i (decode n t)) (decode-end n t i g))
 
-  module _ (o : Order) (d : o ≡ orderAt t i) (g : i < n) (z : left ≡ 0 → ⊥) (m : Meeting) (f : m ≡ meetingOf (takerOf x) first (o .price)) where
+  module _ (o : Order) (d : o ≡ orderAt t i) (g : i < n) (z : left ≡ 0 → ⊥) (m : AtPrice) (f : m ≡ atPriceOf (takerOf x) first (o .price)) where
     pub answer-stop : not (m .trades) ≡ true → (r : Passed) → r ≡ passedWhole i left last (m .out) → Passes n (decode n t) whole room r
     answer-stop b r k =
         halts (m .out) r k (omega arith)
@@ -73,6 +73,6 @@ module _ (whole : End) (x : Incoming) (at n : ℕ) (t : List ℕ) (i first last 
           let s = sweep-takes (takerOf x) first left (drop i (decode n t)) o _ read (ne-eqb left 0 z) (rw f at (not-false (m .trades) b)) (le-ltb _ _ h) in
           e ∙ rw (w, k) (finish-takes x at i first last left (drop i (decode n t)) room o _ read (omega arith) s)
 
-pub turn-first : (x : Incoming) (first : ℕ) (o : Order) (m : Meeting) → m ≡ meetingOf (takerOf x) first (o .price) → not (m .trades) ≡ false → RangeFits (x .range) → first ≤ markMost →
+pub turn-first : (x : Incoming) (first : ℕ) (o : Order) (m : AtPrice) → m ≡ atPriceOf (takerOf x) first (o .price) → not (m .trades) ≡ false → RangeFits (x .range) → first ≤ markMost →
     (first′ : ℕ) → first′ ≡ firstAfter first (o .price) → first′ ≤ markMost
 turn-first x first o m f b k h first′ e = rw e (first-small (takerOf x) first (o .price) k h (rw f at (not-false (m .trades) b)))

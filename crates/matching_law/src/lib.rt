@@ -18,7 +18,7 @@ pub struct Incoming {
 }
 
 // What an incoming order does at a counter price: whether it trades, or, if not, stops for want of range.
-pub struct Meeting {
+pub struct AtPrice {
     pub trades: bool,
     pub out: bool,
 }

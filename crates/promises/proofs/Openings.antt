@@ -27,8 +27,8 @@ use Rattle.soundness_law.proofs.Days.{refused-unsound, fixed-unsound}
 use Rattle.refusal_law.proofs.Accepted.{unsound-refused}
 use Rattle.engine_law.specs.Outcome.{told}
 use Rattle.engine_law.proofs.Kept.{unsound-nothing}
-use Rattle.promises.specs.Runs.{Held, dayHeld, openedOn, Call, hasRoom, Run, RunFrom, numberOpened, CutAt, begins, RunsAsDefined, CallsAfterRefusal}
-use Rattle.promises.specs.Runs.Run.{ends, calls}
+use Rattle.promises.specs.Runs.{Held, dayHeld, openedOn, Call, hasRoom, Calling, RunFrom, numberOpened, CutAt, begins, RunsAsDefined, CallsAfterRefusal}
+use Rattle.promises.specs.Runs.Calling.{ends, calls}
 use Rattle.promises.proofs.Kept.{emptyDay}
 use Rattle.promises.proofs.Tables.{verdictOn, short-verdict, judged-verdict, refused-call, number-by, Follows, run-follows, Cut, cut}
 
@@ -113,7 +113,7 @@ run-told g es rs h r =
 abbrev Stuck : Held → Type 0
 Stuck h = (c : Call) → (r : Refusal) × (verdictOn h c ≡ Refused r)
 
-stuck-run : (h : Held) (es : List Event) (rs : List Report) (h′ : Held) → Stuck h → Run h es rs h′ → (rs ≡ []) × (h′ ≡ h)
+stuck-run : (h : Held) (es : List Event) (rs : List Report) (h′ : Held) → Stuck h → Calling h es rs h′ → (rs ≡ []) × (h′ ≡ h)
 stuck-run h es rs h′ s (ends h₀) = (refl, refl)
 stuck-run h es rs h′ s (calls h₀ h₁ h₂ c es₀ rs₀ rs₁ k run) =
     let v = s c in

@@ -33,8 +33,8 @@ use Rattle.soundness_law.specs.Sound.{sound}
 use Rattle.soundness_law.proofs.Days.{sound-day}
 use Rattle.acts_law.specs.Asked.{resting}
 use Rattle.engine_law.specs.Calls.{tableBy, viewCall}
-use Rattle.promises.specs.Runs.{Held, dayHeld, Call, Called, Run, RunFrom, ordersSeen, restingSeen, CallsShowResting, CallsKeepSeen}
-use Rattle.promises.specs.Runs.Run.{ends, calls}
+use Rattle.promises.specs.Runs.{Held, dayHeld, Call, Called, Calling, RunFrom, ordersSeen, restingSeen, CallsShowResting, CallsKeepSeen}
+use Rattle.promises.specs.Runs.Calling.{ends, calls}
 use Rattle.promises.proofs.Tables.{verdictOn, verdict-called, refused-call}
 use Rattle.promises.proofs.Openings.{none-live, start, start-held, calls-after-refusal}
 use Rattle.promises.proofs.Calls.{calls-keep-lots, calls-stay-sound}
@@ -98,7 +98,7 @@ called-long {P} h h′ c rs k f g = go (verdictOn h c) refl
         f (table _ _ _ (h′ .buys) fine (k .contract .bought), table _ _ _ (h′ .sells) fine (k .contract .sold))
     go (Refused r) v = g (refused-call h h′ c rs k r v .1)
 
-run-long : {P : Type 0} (h : Held) (es : List Event) (rs : List Report) (h′ : Held) → Run h es rs h′ → (Long h′ → P) → (h′ ≡ h → P) → P
+run-long : {P : Type 0} (h : Held) (es : List Event) (rs : List Report) (h′ : Held) → Calling h es rs h′ → (Long h′ → P) → (h′ ≡ h → P) → P
 run-long h es rs h′ (ends h₀) f g = g refl
 run-long h es rs h′ (calls h₀ h₁ h₂ c es₀ rs₀ rs₁ k run) f g =
     run-long h₁ es₀ rs₁ h₂ run f (λ e. called-long h₀ h₁ c rs₀ k (λ l. f (subst Long (sym e) l)) (λ e′. g (e ∙ e′)))

@@ -37,8 +37,8 @@ use Rattle.engine_law.proofs.Answers.{called-verdict, answered-code, answered-c
 use Rattle.engine_law.proofs.Applies.{called-outcome, small-verdict, roomy-verdict}
 use Rattle.engine_law.proofs.Called.{fine-roomy}
 use Rattle.promises.specs.Lots.{asked}
-use Rattle.promises.specs.Runs.{Held, dayHeld, Call, hasRoom, Called, numberAnswered, counting, Run, askedOver}
-use Rattle.promises.specs.Runs.Run.{ends, calls}
+use Rattle.promises.specs.Runs.{Held, dayHeld, Call, hasRoom, Called, numberAnswered, counting, Calling, askedOver}
+use Rattle.promises.specs.Runs.Calling.{ends, calls}
 use Rattle.promises.proofs.Records.{records-tell}
 use Rattle.promises.proofs.Runs.{after-append, told-append}
 
@@ -180,7 +180,7 @@ judged-next h h′ h″ e es rs rs′ k f =
     let r : rs′ ≡ told (outcome (dayHeld h) e .day) es = f .reports ∙ ap (λ (x : Day). told x es) d in
     record { reports = λ i. k .reports i ++ r i; day = f .day ∙ ap (λ (x : Day). after x es) d }
 
-pub run-follows : (h : Held) (es : List Event) (rs : List Report) (h′ : Held) → Run h es rs h′ → Follows (dayHeld h) es rs h′
+pub run-follows : (h : Held) (es : List Event) (rs : List Report) (h′ : Held) → Calling h es rs h′ → Follows (dayHeld h) es rs h′
 unfolding told after
 run-follows h es rs h′ (ends h₀) = record { reports = refl; day = refl }
 run-follows h es rs h′ (calls h₀ h₁ h₂ c es₀ rs₀ rs₁ k run) =
@@ -194,7 +194,7 @@ run-follows h es rs h′ (calls h₀ h₁ h₂ c es₀ rs₀ rs₁ k run) =
     })
 
 -- what is asked for by the calls' own reports is what the definitions say
-pub run-asks : (id : ℕ) (h : Held) (es : List Event) (rs : List Report) (h′ : Held) (run : Run h es rs h′) → askedOver id run ≡ asked id (dayHeld h) es
+pub run-asks : (id : ℕ) (h : Held) (es : List Event) (rs : List Report) (h′ : Held) (run : Calling h es rs h′) → askedOver id run ≡ asked id (dayHeld h) es
 unfolding askedOver asked total
 run-asks id h es rs h′ (ends h₀) = refl
 run-asks id h es rs h′ (calls h₀ h₁ h₂ c es₀ rs₀ rs₁ k run) =
@@ -216,7 +216,7 @@ pub record Cut (d : Day) (before later : List Event) (e : Event) (rs own rest : 
   pub told-own : own ≡ outcome (after d before) e .reports
 
 pub cut : (d : Day) (before later : List Event) (e : Event) (rs own rest : List Report) (h h′ h″ : Held) (c : Call) → Follows d before rs h →
-    (k : Called h c own h′) → Run h′ later rest h″ → c .event ≡ e → numberAnswered k ≡ 0 → Cut d before later e rs own rest h″
+    (k : Called h c own h′) → Calling h′ later rest h″ → c .event ≡ e → numberAnswered k ≡ 0 → Cut d before later e rs own rest h″
 cut d before later e rs own rest h h′ h″ c f k run same z =
     let a = accepted-call h h′ c own k z in
     let l : Left (outcome (dayHeld h) e) h own h′ = subst (λ x. Left (outcome (dayHeld h) x) h own h′) same (judged h h′ c own k (a .0)) in

@@ -94,10 +94,10 @@ counting true e es = e ∷ es
 counting false e es = es
 
 -- from what is held: the events that count, the reports handed out, and what is held at the end
-pub data Run : Held → List Event → List Report → Held → Type 0 where
-  ends : (h : Held) → Run h [] [] h
-  calls : (h h′ h″ : Held) (c : Call) (es : List Event) (rs rs′ : List Report) → Called h c rs h′ → Run h′ es rs′ h″ →
-      Run h (counting (hasRoom h c) (c .event) es) (rs ++ rs′) h″
+pub data Calling : Held → List Event → List Report → Held → Type 0 where
+  ends : (h : Held) → Calling h [] [] h
+  calls : (h h′ h″ : Held) (c : Call) (es : List Event) (rs rs′ : List Report) → Called h c rs h′ → Calling h′ es rs′ h″ →
+      Calling h (counting (hasRoom h c) (c .event) es) (rs ++ rs′) h″
 
 -- ---- a run from an opening
 
@@ -108,7 +108,7 @@ pub record RunFrom (g : Settings) (es : List Event) (rs : List Report) (h : Held
   pub contract : opening ≡ openingOf g
   pub buys : List ℕ
   pub sells : List ℕ
-  pub run : Run (openedOn opening buys sells) es rs h
+  pub run : Calling (openedOn opening buys sells) es rs h
 
 -- the paper's number of the opening's answer: 0, or 12 or 13
 abbrev pub numberOpened : {g : Settings} {es : List Event} {rs : List Report} {h : Held} → RunFrom g es rs h → ℕ
@@ -123,7 +123,7 @@ pub record CutAt (g : Settings) (before : List Event) (e : Event) (later : List 
   pub called : Called held call own left
   pub handed : call .event ≡ e
   pub accepted : numberAnswered called ≡ 0
-  pub following : Run left later rest h
+  pub following : Calling left later rest h
 
 -- ---- the promises, of any run of calls from an opening, whatever lies in the tables and in the rooms
 
@@ -153,7 +153,7 @@ CallsAfterRefusal =
 
 -- the lots that the order with number id asked for in a run: the acceptance among the reports of a call gives it its number, the event of
 -- that call its lots
-unfoldable pub askedOver : ℕ → {h : Held} {es : List Event} {rs : List Report} {h′ : Held} → Run h es rs h′ → ℕ
+unfoldable pub askedOver : ℕ → {h : Held} {es : List Event} {rs : List Report} {h′ : Held} → Calling h es rs h′ → ℕ
 askedOver id (ends h) = 0
 askedOver id (calls h h′ h″ c es rs rs′ k run) = askedBy id (c .event .act) rs + askedOver id run
 

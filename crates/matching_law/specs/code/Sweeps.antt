@@ -14,7 +14,7 @@ use Rattle.tables.specs.Put.{put}
 use Rattle.tables.specs.Tables.{tableOf}
 use Rattle.book_law.specs.Matching.{Taker, Swept, taker, fits, beyond, part, sweep, reportAt, dealOf, tradeReports, ownLastOr}
 use Rattle.matching_law.specs.declared.Incoming.{Incoming}
-use Rattle.matching_law.specs.declared.Meeting.{Meeting}
+use Rattle.matching_law.specs.declared.AtPrice.{AtPrice}
 use Rattle.matching_law.specs.declared.Passed.{Passed}
 use Rattle.matching_law.specs.declared.Matched.{Matched}
 
@@ -53,8 +53,8 @@ pub record SweptInto (x : Incoming) (os : List Order) (t room : List ℕ) (at : 
 
 -- the incoming order trades there if the price fits, is in range and not beyond the mark; it stops for want of range if the price fits
 -- and is not in range
-abbrev pub meetingOf : Taker → ℕ → ℕ → Meeting
-meetingOf q first price =
+abbrev pub atPriceOf : Taker → ℕ → ℕ → AtPrice
+atPriceOf q first price =
     record {
       trades = fits (q .side) (q .kind) price && inRange (q .range) price && not (beyond (q .side) (q .kind) first price);
       out = fits (q .side) (q .kind) price && not (inRange (q .range) price);

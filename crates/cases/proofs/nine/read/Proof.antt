@@ -2,8 +2,8 @@
 use borrow.Author.Needs.{needs}
 use Prim.Native.Nat.{_-_, _≤_}
 use lib.ListN.{length}
-use Rattle.cases.proofs.lines.read.Statement.{statement}
-use Rattle.cases.proofs.lines.read.Tie as tie
+use Rattle.cases.proofs.nine.read.Statement.{statement}
+use Rattle.cases.proofs.nine.read.Tie as tie
 
 abbrev Inv-loop : tie.InvT-loop
 Inv-loop text from at₀ value₀ at value = (from ≤ at) × (at ≤ length text)

@@ -1,8 +1,8 @@
 -- A short run, a report, or none.
 use Rattle.desk_law.proofs.LineWrites.{report-no-run, report-few, report-written, report-none}
 use borrow.Author.Needs.{needs}
-use Rattle.desk.proofs.lines.kakoludar_write_report.Statement.{statement}
-use Rattle.desk.proofs.lines.kakoludar_write_report.Tie as tie
+use Rattle.desk.proofs.line_calls.kakoludar_write_report.Statement.{statement}
+use Rattle.desk.proofs.line_calls.kakoludar_write_report.Tie as tie
 
 refused-requires : tie.Need-refused-requires
 refused-requires c κs = search needs

@@ -1,8 +1,8 @@
 -- A short run, no category, or settings.
 use Rattle.desk_law.proofs.LineWrites.{settings-no-run, settings-few, settings-written, settings-none}
 use borrow.Author.Needs.{needs}
-use Rattle.desk.proofs.lines.kakoludar_write_settings.Statement.{statement}
-use Rattle.desk.proofs.lines.kakoludar_write_settings.Tie as tie
+use Rattle.desk.proofs.line_calls.kakoludar_write_settings.Statement.{statement}
+use Rattle.desk.proofs.line_calls.kakoludar_write_settings.Tie as tie
 
 refused-requires : tie.Need-refused-requires
 refused-requires c κs = search needs

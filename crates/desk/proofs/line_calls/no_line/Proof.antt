@@ -1,7 +1,7 @@
 use borrow.Author.Needs.{needs}
 use Rattle.desk_law.proofs.LineWrites.{no-line-short, no-line-done}
-use Rattle.desk.proofs.lines.no_line.Statement.{statement}
-use Rattle.desk.proofs.lines.no_line.Tie as tie
+use Rattle.desk.proofs.line_calls.no_line.Statement.{statement}
+use Rattle.desk.proofs.line_calls.no_line.Tie as tie
 
 ruleset answers = (needs, no-line-short, no-line-done)
 

@@ -1,7 +1,7 @@
 -- By the writer's answer.
 use borrow.Author.Needs.{needs}
-use Rattle.desk.proofs.lines.wrote.Statement.{statement}
-use Rattle.desk.proofs.lines.wrote.Tie as tie
+use Rattle.desk.proofs.line_calls.wrote.Statement.{statement}
+use Rattle.desk.proofs.line_calls.wrote.Tie as tie
 
 enum-known-w : tie.Need-enum-known-w
 enum-known-w c = search needs

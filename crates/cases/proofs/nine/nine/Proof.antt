@@ -2,8 +2,8 @@
 use borrow.Author.Needs.{needs}
 use Prim.Native.Nat.{_-_, _≤_}
 use lib.ListN.{length}
-use Rattle.cases.proofs.lines.nine.Statement.{statement}
-use Rattle.cases.proofs.lines.nine.Tie as tie
+use Rattle.cases.proofs.nine.nine.Statement.{statement}
+use Rattle.cases.proofs.nine.nine.Tie as tie
 
 abbrev Inv-loop : tie.InvT-loop
 Inv-loop text from words₀ at₀ k₀ words at k = (from ≤ at) × (at ≤ length text) × (k ≤ 9)

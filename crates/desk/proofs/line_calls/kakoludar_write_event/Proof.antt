@@ -1,8 +1,8 @@
 -- A short run, an event, or none.
 use Rattle.desk_law.proofs.LineWrites.{event-no-run, event-few, event-written, event-none}
 use borrow.Author.Needs.{needs}
-use Rattle.desk.proofs.lines.kakoludar_write_event.Statement.{statement}
-use Rattle.desk.proofs.lines.kakoludar_write_event.Tie as tie
+use Rattle.desk.proofs.line_calls.kakoludar_write_event.Statement.{statement}
+use Rattle.desk.proofs.line_calls.kakoludar_write_event.Tie as tie
 
 refused-requires : tie.Need-refused-requires
 refused-requires c κs = search needs
