@@ -1,2 +1,3 @@
 pub mod EventLines
+pub mod Prices
 pub mod SettingsLines

@@ -157,6 +157,9 @@ too-few s n h r e =
     let m : length (take recordLength (drop n s)) ≤ length s - n = simp (length-take, length-drop) (omega arith) in
     omega arith
 
+pub past-end : (s : List ℕ) (n : ℕ) → length s < n → RecordRead (take recordLength (drop n s)) ReadRecord.Nothing
+past-end s n h = too-few s n (omega arith)
+
 next-at : (s : List ℕ) (i j : ℕ) → j ≡ i + 1 → i < length s → drop i s ≡ getD s i 0 ∷ drop j s
 next-at s i j e h = rw (e, add-one i) (drop-cons s i 0 h)
 
@@ -171,3 +174,9 @@ six-at s n h =
       next-at s (n + 4) (n + 5) (omega arith) (omega arith),
       next-at s (n + 5) (n + 6) (omega arith) (omega arith),
     )
+
+-- what code tells of the six numbers there
+pub told-there : (s : List ℕ) (n : ℕ) (o : ReadRecord) → n ≤ length s → recordLength ≤ length s - n
+    → o ≡ reportFrom (getD s n 0) (getD s (n + 1) 0) (getD s (n + 2) 0) (getD s (n + 3) 0) (getD s (n + 4) 0) (getD s (n + 5) 0)
+    → RecordRead (take recordLength (drop n s)) o
+told-there s n o h k e = rw (e, six-at s n (omega arith)) (told-right _ _ _ _ _ _)
