@@ -22,8 +22,8 @@ use Rattle.feed_law.specs.declared.Taken.{Taken}
 use Rattle.feed_law.specs.Texts.{badText, endText}
 use Rattle.feed_law.specs.Worlds.{Lent, calls}
 use Rattle.feed_law.specs.Turns.{Fed, filled, finished, endBy, endBehind}
-use Rattle.feed_law.specs.Feeds.{Prints, TakenAs, takenTo, EndsBehind}
-use Rattle.feed_law.proofs.Prints.{prints-on}
+use Rattle.feed_law.specs.Feeds.{Prints, EndTold, TakenAs, takenTo, EndsBehind}
+use Rattle.feed_law.proofs.Prints.{part-prints, prints-then}
 use Rattle.feed_law.proofs.Going.{taken-as}
 
 -- ---- what the end prints, by where the run stands
@@ -48,21 +48,18 @@ end-short Stage.Awaiting n = bad-short LineUnfinished n
 end-short Stage.Trading n = by (λ (t : List ℕ). length t ≤ lineRoom) (eqb n 0) [] _ (λ e. omega arith) (λ e. bad-short LineUnfinished n)
 end-short Stage.Over n = omega arith
 
-abbrev Ended : Stage → ℕ → List ℕ → ℕ → List ℕ → Type 0
-Ended stage n out wrote out′ = Prints out (endText stage n) wrote out′ × (wrote ≤ lineRoom)
+module _ {stage : Stage} {n : ℕ} {out : List ℕ} where
+  told : {wrote : ℕ} {out′ : List ℕ} → Prints out (endText stage n) wrote out′ → EndTold stage n out wrote out′
+  told p = record { printed = p; short = rw (p .count) (end-short stage n) }
 
-module _ (stage : Stage) (n : ℕ) {out : List ℕ} where
-  fits : {wrote : ℕ} {out′ : List ℕ} → Prints out (endText stage n) wrote out′ → Ended stage n out wrote out′
-  fits p = (p, rw (p .count) (end-short stage n))
+  pub end-awaiting : {wrote : ℕ} {out′ : List ℕ} → stage ≡ Stage.Awaiting → Prints out (badText LineUnfinished n) wrote out′ → EndTold stage n out wrote out′
+  end-awaiting e p = told (rw e p)
 
-  pub end-awaiting : {wrote : ℕ} {out′ : List ℕ} → stage ≡ Stage.Awaiting → Prints out (badText LineUnfinished n) wrote out′ → Ended stage n out wrote out′
-  end-awaiting e p = fits (rw e p)
+  pub end-trading : {wrote : ℕ} {out′ : List ℕ} → stage ≡ Stage.Trading → Prints out (endText Stage.Trading n) wrote out′ → EndTold stage n out wrote out′
+  end-trading e p = told (rw e p)
 
-  pub end-trading : {wrote : ℕ} {out′ : List ℕ} → stage ≡ Stage.Trading → Prints out (endText Stage.Trading n) wrote out′ → Ended stage n out wrote out′
-  end-trading e p = fits (rw e p)
-
-  pub end-over : stage ≡ Stage.Over → Ended stage n out 0 out
-  end-over e = fits (rw e (record { count = refl; laid = refl }))
+  pub end-over : stage ≡ Stage.Over → EndTold stage n out 0 out
+  end-over e = told (rw e (record { count = refl; laid = refl }))
 
 -- ---- the end behind some lines, by why they stopped
 
@@ -100,7 +97,7 @@ module _ (t : Taken) (bytes : ℕ) {out : List ℕ} where
 
     -- the end is told
     pub end-told : {r : Taken} {part′ : List ℕ} {told : ℕ} → lineRoom ≤ length out - t .wrote →
-        Prints (take (length out - t .wrote) (drop (t .wrote) out)) (endText (t .run .stage) (bytes - t .used)) told part′ →
+        EndTold (t .run .stage) (bytes - t .used) (take (length out - t .wrote) (drop (t .wrote) out)) told part′ →
         r ≡ takenTo (record { stage = Stage.Over; session = t .run .session }) (t .used) (t .wrote + told) Stop.Over →
         EndsBehind t bytes out (putMid (t .wrote) (length out - t .wrote) out part′) r
     unfolding endBehind
@@ -111,6 +108,6 @@ module _ (t : Taken) (bytes : ℕ) {out : List ℕ} where
         let by : endBy calls (f .stop) (length out₀ - length (f .text)) (bytes - f .used) f ≡ finished calls (bytes - f .used) f =
         rw (stop, le-ltb (length out₀ - length (f .text)) lineRoom wide) in
         let text : Prints (take (length out - t .wrote) (drop (t .wrote) out)) (endText (f .stage) (bytes - f .used)) told part′ =
-        rw (← k .stage, ← k .used) p in
+        rw (← k .stage, ← k .used) (p .printed) in
         taken-as by q refl (k .world) (k .used)
-        (prints-on out₀ (f .text) out part′ (endText (f .stage) (bytes - f .used)) (t .wrote) told (k .printed) text) refl
+        (prints-then (k .printed) (part-prints text)) refl
