@@ -188,7 +188,6 @@ record-line : (l : List ℕ) (r : Report) → recordText (recordOf r ++ l) ≡ r
 unfolding recordText
 record-line l r = ap toldText (told-front r l)
 
-
 lines-of : (rs : List Report) (l : List ℕ) → recordsText (length rs) (recordsOf rs ++ l) ≡ reportsText rs
 unfolding recordsText recordsOf reportsText
 lines-of [] l = refl

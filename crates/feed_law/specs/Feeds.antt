@@ -151,7 +151,7 @@ abbrev pub takenTo : Run → ℕ → ℕ → Stop → Taken
 takenTo run used wrote stop = record { run = run; used = used; wrote = wrote; stop = stop }
 
 -- what the end of the input makes of lines that were taken: of whatever they come to, and whatever the tables hold
-abbrev pub EndsBehind : Taken → ℕ → List ℕ → List ℕ → Taken → Type 0
-EndsBehind t bytes out out′ r =
-    (f : Fed Lent) (out₀ buys sells room : List ℕ) → TakenAs f out₀ buys sells room out t → length out ≡ length out₀ →
-    TakenAs (endBehind calls (length out₀) bytes f) out₀ buys sells room out′ r
+pub record EndsBehind (t : Taken) (bytes : ℕ) (out out′ : List ℕ) (r : Taken) : Type 0 where
+  pub ends :
+      (f : Fed Lent) (out₀ buys sells room : List ℕ) → TakenAs f out₀ buys sells room out t → length out ≡ length out₀ →
+      TakenAs (endBehind calls (length out₀) bytes f) out₀ buys sells room out′ r

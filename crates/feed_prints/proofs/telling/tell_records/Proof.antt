@@ -8,7 +8,6 @@ use Rattle.feed_prints.proofs.telling.tell_records.Tie as tie
 
 ruleset answers = (needs, telling-none, telling-on, telling-all)
 
-
 abbrev Inv-loop : tie.InvT-loop
 Inv-loop room count out₀ i₀ at₀ wrote₀ out i at wrote = (i ≤ count) × (length out ≡ length out₀) × Telling room out₀ i at wrote out
 
