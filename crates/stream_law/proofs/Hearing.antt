@@ -41,6 +41,11 @@ hears-then p q =
     let b = q .hears in
     record { hears = record { room = b .room; got = a .got ++ b .got; goes = goes-then (a .goes) (b .goes) } }
 
+pub hears-last : {buf₀ expected buys₀ sells₀ buf buys sells buf′ buys′ sells′ : List ℕ} {run : Run} {to : Sink} {reading : Reading} {h₀ h r : Held} →
+    run ≡ begun → h₀ ≡ heldAs run 0 to reading → HearsOn expected h₀ buf₀ buys₀ sells₀ buf buys sells h → HearsOn expected h buf buys sells buf′ buys′ sells′ r →
+    Hears expected (holding begun buys₀ sells₀ []) to buf′ buys′ sells′ r
+hears-last s e p q = hears-first s e (hears-then p q)
+
 -- whatever comes to stand behind what is kept
 pub front-kept : (buf behind : List ℕ) (have : ℕ) → have ≤ length buf → take have (take have buf ++ behind) ≡ take have buf
 front-kept buf behind have h = take-at (take have buf) behind have (length-take-le have buf h)
