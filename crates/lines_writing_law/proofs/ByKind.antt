@@ -19,6 +19,7 @@ use Rattle.terms.specs.declared.Side.{Side}
 use Rattle.terms.specs.Refusals.{numberOf}
 use Rattle.terms.specs.Reports.{whyOf}
 use Rattle.lines_text_law.specs.Text.{bytes}
+use Rattle.lines_text_law.specs.Forms.{holes}
 use Rattle.lines_reading_law.specs.Lines.{actHead, sideWord, orderForm, priceNumbers, actNumbers, eventForm, eventNumbers, renderEvent, settingsForm, settingsNumbers, renderSettings}
 use Rattle.lines_writing_law.specs.declared.Wrote.{Wrote}
 use Rattle.lines_writing_law.specs.Lines.{orderNumbers, saidNumbers, saidHead, reportForm, reportNumbers, renderReport, refusedNumbers, renderRefused, badNumbers, renderBad}
@@ -51,7 +52,7 @@ module _ {d d′ : List ℕ} {r : Wrote} where
   pub by-ended : (p : Report) (e : Ended) (why : ℕ) → p .said ≡ Cancel e → why ≡ whyOf (e .why)
       → WritesForm d (reportForm (Cancel e)) (p .time ∷ e .number ∷ e .lots ∷ why ∷ []) r d′
       → Writes d (renderReport p) (reportNumbers p) r d′
-  unfolding renderReport
+  unfolding renderReport holes
   by-ended p e why q n w = rw (q, ← n) w
 
   -- a refusal by its number
