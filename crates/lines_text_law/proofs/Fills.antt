@@ -26,6 +26,11 @@ writable-at [] k w = omega arith
 writable-at (n ∷ ns) zero w = w .0
 writable-at (n ∷ ns) (suc k) w = writable-at ns k (w .1)
 
+pub writable-take : (k : ℕ) (ns : List ℕ) → Writable ns → Writable (take k ns)
+writable-take zero ns w = tt
+writable-take (suc k) [] w = tt
+writable-take (suc k) (n ∷ ns) w = (w .0, writable-take k ns (w .1))
+
 pub tested-writable : (ns : List ℕ) → allWritable ns ≡ true → Writable ns
 unfolding allWritable
 tested-writable [] e = tt
