@@ -10,13 +10,13 @@ use feed_turns::turns;
 use tables::lengths;
 use terms::Refusal;
 use terms::sizes;
-ghost use Prim.Native.Nat.{_≤_};
+ghost use Prim.Native.Nat.{_-_, _≤_};
 ghost use mathlib.Core.Path.{_≡_};
 ghost use lib.ListN.{length};
 ghost use Rattle.feed_law.specs.declared.Stop.{Stop};
 ghost use Rattle.feed_law.specs.Texts.{mostAt};
 ghost use Rattle.feed_law.specs.Turns.{stopAt};
-ghost use Rattle.feed_law.specs.Feeds.{TakenAs, TakenBy, takenTo, linesOf, fedOf, endedOf, EndsBehind};
+ghost use Rattle.feed_law.specs.Feeds.{LineTaken, TakenAs, TakenBy, takenTo, linesOf, fedOf, endedOf, EndsBehind};
 
 // The output room that the reports of any event fit in.
 pub const TEXT: usize = lengths::REPORTS * sizes::LINE;
@@ -54,6 +54,23 @@ fn taken(run: Run, used: usize, wrote: usize, stop: Stop) -> Taken
     }
 }
 
+// The line from `at` on, printed behind what was written.
+fn line_at(
+    run: Run,
+    bytes: &[u8],
+    at: usize,
+    wrote: usize,
+    buys: &mut [u64],
+    sells: &mut [u64],
+    room: &mut [u64],
+    out: &mut [u8],
+) -> Turned
+    requires { ⌜ (at ≤ length (now bytes)) × (wrote ≤ length (now out)) × (mostAt (run .stage) ≤ length (now out) - wrote) ⌝ }
+    ensures { λ r. ⌜ LineTaken run (now (buys .entry)) (now (sells .entry)) (now (room .entry)) (now (bytes .entry)) at wrote (now (out .entry)) (now (buys .exit)) (now (sells .exit)) (now (room .exit)) (now (out .exit)) r ⌝ }
+{
+    turns::turn(run, &bytes[at..], buys, sells, room, &mut out[wrote..])
+}
+
 // The lines of the bytes, while there is room for whatever the next one can print.
 fn while_room(
     run: Run,
@@ -71,21 +88,37 @@ fn while_room(
     while at < bytes.len() {
         let stands = now.stage;
         if out.len() - wrote < most_at(stands) {
-            return taken(now, at, wrote, Stop::Full);
+            return Taken {
+                run: now,
+                used: at,
+                wrote: wrote,
+                stop: Stop::Full,
+            };
         }
-        let t = turns::turn(now, &bytes[at..], buys, sells, room, &mut out[wrote..]);
+        let t = line_at(now, bytes, at, wrote, buys, sells, room, out);
         let used = t.used;
         let told = t.wrote;
-        now = t.run;
+        let after = t.run;
         wrote += told;
         if used == 0 {
-            let stage = now.stage;
-            return taken(now, at, wrote, stop_at(stage));
+            let stage = after.stage;
+            return Taken {
+                run: after,
+                used: at,
+                wrote: wrote,
+                stop: stop_at(stage),
+            };
         }
+        now = after;
         at += used;
     }
     let stage = now.stage;
-    taken(now, at, wrote, stop_at(stage))
+    Taken {
+        run: now,
+        used: at,
+        wrote: wrote,
+        stop: stop_at(stage),
+    }
 }
 
 // Takes the whole lines of some bytes, prints what they say, and answers how far it came: the rest of the bytes is to be handed in again,
@@ -108,8 +141,8 @@ pub fn take_lines(
 
 // The end behind lines that left no whole one: it is told where a line fits, and the run is over.
 fn finish(t: Taken, bytes: usize, out: &mut [u8]) -> Taken
-    requires { ⌜ (t .used ≤ bytes) × (t .wrote ≤ length (now out)) ⌝ }
-    ensures { λ r. ⌜ (t .stop ≡ Stop.Waits → EndsBehind t bytes (now (out .entry)) (now (out .exit)) r) ⌝ }
+    requires { ⌜ (t .used ≤ bytes) × (t .wrote ≤ length (now out)) × (t .stop ≡ Stop.Waits) ⌝ }
+    ensures { λ r. ⌜ EndsBehind t bytes (now (out .entry)) (now (out .exit)) r ⌝ }
 {
     let run = t.run;
     let used = t.used;

@@ -57,14 +57,14 @@ module _ {run : Run} {buys sells room bytes out : List ℕ} {r : Taken} {found :
 -- and then the end
 pub took-end : {run : Run} {buys sells room bytes out buys′ sells′ room′ out₁ out′ : List ℕ} {t r : Taken} →
     TakenBy fedOf run buys sells room bytes out buys′ sells′ room′ out₁ t → length out₁ ≡ length out → EndsBehind t (length bytes) out₁ out′ r →
-    length out′ ≡ length out → TakenBy endedOf run buys sells room bytes out buys′ sells′ room′ out′ r
+    length out′ ≡ length out₁ → TakenBy endedOf run buys sells room bytes out buys′ sells′ room′ out′ r
 unfolding endedOf endBehind fedOf
 took-end {run} {buys} {sells} {room} {bytes} {out} {buys′} {sells′} {room′} {out₁} {out′} {t} {r} k kept ends same =
     let f : Fed Lent = fedBy (feedVerdict buys sells room) run buys sells room bytes out in
-    let e : TakenAs (endBehind calls (length out) (length bytes) f) out buys′ sells′ room′ out′ r = ends f out buys′ sells′ room′ (k .taken) kept in
+    let e : TakenAs (endBehind calls (length out) (length bytes) f) out buys′ sells′ room′ out′ r = ends .ends f out buys′ sells′ room′ (k .taken) kept in
     let u = end-used calls (f .stop) (length out - length (f .text)) (length bytes - f .used) f in
     record {
       taken = e;
       used-there = rw (e .used, u) (lines-there run buys sells room bytes out (feedVerdict buys sells room));
-      wrote-there = prints-within (e .printed) same;
+      wrote-there = prints-within (e .printed) (same ∙ kept);
     }

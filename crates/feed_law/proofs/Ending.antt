@@ -22,8 +22,8 @@ use Rattle.feed_law.specs.declared.Taken.{Taken}
 use Rattle.feed_law.specs.Texts.{badText, endText}
 use Rattle.feed_law.specs.Worlds.{Lent, calls}
 use Rattle.feed_law.specs.Turns.{Fed, filled, finished, endBy, endBehind}
-use Rattle.feed_law.specs.Feeds.{Prints, TakenAs, takenTo, EndsBehind}
-use Rattle.feed_law.proofs.Prints.{prints-on}
+use Rattle.feed_law.specs.Feeds.{Prints, EndTold, TakenAs, takenTo, EndsBehind}
+use Rattle.feed_law.proofs.Prints.{part-prints, prints-then}
 use Rattle.feed_law.proofs.Going.{taken-as}
 
 -- ---- what the end prints, by where the run stands
@@ -48,33 +48,34 @@ end-short Stage.Awaiting n = bad-short LineUnfinished n
 end-short Stage.Trading n = by (λ (t : List ℕ). length t ≤ lineRoom) (eqb n 0) [] _ (λ e. omega arith) (λ e. bad-short LineUnfinished n)
 end-short Stage.Over n = omega arith
 
-abbrev Ended : Stage → ℕ → List ℕ → ℕ → List ℕ → Type 0
-Ended stage n out wrote out′ = Prints out (endText stage n) wrote out′ × (wrote ≤ lineRoom)
+module _ {stage : Stage} {n : ℕ} {out : List ℕ} where
+  told : {wrote : ℕ} {out′ : List ℕ} → Prints out (endText stage n) wrote out′ → EndTold stage n out wrote out′
+  told p = record { printed = p; short = rw (p .count) (end-short stage n) }
 
-module _ (stage : Stage) (n : ℕ) {out : List ℕ} where
-  fits : {wrote : ℕ} {out′ : List ℕ} → Prints out (endText stage n) wrote out′ → Ended stage n out wrote out′
-  fits p = (p, rw (p .count) (end-short stage n))
+  pub end-awaiting : {wrote : ℕ} {out′ : List ℕ} → stage ≡ Stage.Awaiting → Prints out (badText LineUnfinished n) wrote out′ → EndTold stage n out wrote out′
+  end-awaiting e p = told (rw e p)
 
-  pub end-awaiting : {wrote : ℕ} {out′ : List ℕ} → stage ≡ Stage.Awaiting → Prints out (badText LineUnfinished n) wrote out′ → Ended stage n out wrote out′
-  end-awaiting e p = fits (rw e p)
+  pub end-trading : {wrote : ℕ} {out′ : List ℕ} → stage ≡ Stage.Trading → Prints out (endText Stage.Trading n) wrote out′ → EndTold stage n out wrote out′
+  end-trading e p = told (rw e p)
 
-  pub end-trading : {wrote : ℕ} {out′ : List ℕ} → stage ≡ Stage.Trading → Prints out (endText Stage.Trading n) wrote out′ → Ended stage n out wrote out′
-  end-trading e p = fits (rw e p)
-
-  pub end-over : stage ≡ Stage.Over → Ended stage n out 0 out
-  end-over e = fits (rw e (record { count = refl; laid = refl }))
+  pub end-over : stage ≡ Stage.Over → EndTold stage n out 0 out
+  end-over e = told (rw e (record { count = refl; laid = refl }))
 
 -- ---- the end behind some lines, by why they stopped
 
-module _ (t : Taken) (bytes : ℕ) {out : List ℕ} where
+module _ {t : Taken} {bytes : ℕ} {out : List ℕ} where
   -- the lines stopped for another reason than that no whole one is left
   goes-by : {s : Stop} → ((left rest : ℕ) (f : Fed Lent) → endBy calls s left rest f ≡ f) → t .stop ≡ s → EndsBehind t bytes out out t
   unfolding endBehind
-  goes-by {s} same e f out₀ buys sells room k kept =
-      let stop : f .stop ≡ s = sym (k .stop) ∙ e in
-      let left : ℕ = length out₀ - length (f .text) in
-      let by : endBy calls (f .stop) left (bytes - f .used) f ≡ f = ap (λ (x : Stop). endBy calls x left (bytes - f .used) f) stop ∙ same left (bytes - f .used) f in
-      subst (λ (x : Fed Lent). TakenAs x out₀ buys sells room out t) (sym by) k
+  goes-by {s} same e =
+      record {
+        ends =
+            λ f out₀ buys sells room k kept.
+            let stop : f .stop ≡ s = sym (k .stop) ∙ e in
+            let left : ℕ = length out₀ - length (f .text) in
+            let by : endBy calls (f .stop) left (bytes - f .used) f ≡ f = ap (λ (x : Stop). endBy calls x left (bytes - f .used) f) stop ∙ same left (bytes - f .used) f in
+            subst (λ (x : Fed Lent). TakenAs x out₀ buys sells room out t) (sym by) k;
+      }
 
   pub end-full : t .stop ≡ Stop.Full → EndsBehind t bytes out out t
   end-full e = goes-by (λ left rest f. refl) e
@@ -82,35 +83,42 @@ module _ (t : Taken) (bytes : ℕ) {out : List ℕ} where
   pub end-ended : t .stop ≡ Stop.Over → EndsBehind t bytes out out t
   end-ended e = goes-by (λ left rest f. refl) e
 
-  pub end-refused : (r : Refusal) → t .stop ≡ Stop.Refused r → EndsBehind t bytes out out t
-  end-refused r e = goes-by (λ left rest f. refl) e
+  pub end-refused : {r : Refusal} → t .stop ≡ Stop.Refused r → EndsBehind t bytes out out t
+  end-refused e = goes-by (λ left rest f. refl) e
 
   -- no whole line is left
   module _ (waits : t .stop ≡ Stop.Waits) where
     -- the room is to be emptied first
     pub end-filled : {r : Taken} → length out - t .wrote < lineRoom → r ≡ takenTo (t .run) (t .used) (t .wrote) Stop.Full → EndsBehind t bytes out out r
     unfolding endBehind
-    end-filled h q f out₀ buys sells room k kept =
-        let stop : f .stop ≡ Stop.Waits = sym (k .stop) ∙ waits in
-        let c = k .printed .count in
-        let short : length out₀ - length (f .text) < lineRoom = omega (arith, c, kept) in
-        let by : endBy calls (f .stop) (length out₀ - length (f .text)) (bytes - f .used) f ≡ filled calls f =
-        rw (stop, lt-ltb (length out₀ - length (f .text)) lineRoom short) in
-        taken-as by q (k .stage) (k .world) (k .used) (k .printed) refl
+    end-filled h q =
+        record {
+          ends =
+              λ f out₀ buys sells room k kept.
+              let stop : f .stop ≡ Stop.Waits = sym (k .stop) ∙ waits in
+              let c = k .printed .count in
+              let short : length out₀ - length (f .text) < lineRoom = omega (arith, c, kept) in
+              let by : endBy calls (f .stop) (length out₀ - length (f .text)) (bytes - f .used) f ≡ filled calls f =
+              rw (stop, lt-ltb (length out₀ - length (f .text)) lineRoom short) in
+              taken-as by q (k .stage) (k .world) (k .used) (k .printed) refl;
+        }
 
     -- the end is told
     pub end-told : {r : Taken} {part′ : List ℕ} {told : ℕ} → lineRoom ≤ length out - t .wrote →
-        Prints (take (length out - t .wrote) (drop (t .wrote) out)) (endText (t .run .stage) (bytes - t .used)) told part′ →
+        EndTold (t .run .stage) (bytes - t .used) (take (length out - t .wrote) (drop (t .wrote) out)) told part′ →
         r ≡ takenTo (record { stage = Stage.Over; session = t .run .session }) (t .used) (t .wrote + told) Stop.Over →
         EndsBehind t bytes out (putMid (t .wrote) (length out - t .wrote) out part′) r
     unfolding endBehind
-    end-told {r} {part′} {told} h p q f out₀ buys sells room k kept =
-        let stop : f .stop ≡ Stop.Waits = sym (k .stop) ∙ waits in
-        let c = k .printed .count in
-        let wide : lineRoom ≤ length out₀ - length (f .text) = omega (arith, c, kept) in
-        let by : endBy calls (f .stop) (length out₀ - length (f .text)) (bytes - f .used) f ≡ finished calls (bytes - f .used) f =
-        rw (stop, le-ltb (length out₀ - length (f .text)) lineRoom wide) in
-        let text : Prints (take (length out - t .wrote) (drop (t .wrote) out)) (endText (f .stage) (bytes - f .used)) told part′ =
-        rw (← k .stage, ← k .used) p in
-        taken-as by q refl (k .world) (k .used)
-        (prints-on out₀ (f .text) out part′ (endText (f .stage) (bytes - f .used)) (t .wrote) told (k .printed) text) refl
+    end-told {r} {part′} {told} h p q =
+        record {
+          ends =
+              λ f out₀ buys sells room k kept.
+              let stop : f .stop ≡ Stop.Waits = sym (k .stop) ∙ waits in
+              let c = k .printed .count in
+              let wide : lineRoom ≤ length out₀ - length (f .text) = omega (arith, c, kept) in
+              let by : endBy calls (f .stop) (length out₀ - length (f .text)) (bytes - f .used) f ≡ finished calls (bytes - f .used) f =
+              rw (stop, le-ltb (length out₀ - length (f .text)) lineRoom wide) in
+              let text : Prints (take (length out - t .wrote) (drop (t .wrote) out)) (endText (f .stage) (bytes - f .used)) told part′ =
+              rw (← k .stage, ← k .used) (p .printed) in
+              taken-as by q refl (k .world) (k .used) (prints-then (k .printed) (part-prints text)) refl;
+        }

@@ -27,8 +27,8 @@ use Rattle.feed_law.specs.declared.Taken.{Taken}
 use Rattle.feed_law.specs.Texts.{mostAt}
 use Rattle.feed_law.specs.Worlds.{World, Lent, lentOf, calls}
 use Rattle.feed_law.specs.Turns.{Turn, turnOf, stopAt, Fed, halted, lastly, ahead, fedIn, settingsTurn, eventTurn}
-use Rattle.feed_law.specs.Feeds.{Prints, turnBy, TurnedAs, TakenAs, takenTo}
-use Rattle.feed_law.proofs.Prints.{prints-on, prints-within}
+use Rattle.feed_law.specs.Feeds.{Prints, PrintsFrom, turnBy, TurnedAs, TurnTaken, LineTaken, TakenAs, takenTo}
+use Rattle.feed_law.proofs.Prints.{part-prints, prints-then, from-within}
 
 -- ---- one line
 
@@ -204,54 +204,31 @@ module _ {bytes out₀ : List ℕ} {f : Fed Lent} {now : Run} {buys sells room o
         let l : left < mostAt (now .stage) = omega (arith, g .same, m) in
         halts (again ∙ fed-full calls (g .fuel - 1) left (now .stage) lent (drop at bytes) some l) q
 
-    module _ {part′ buys′ sells′ room′ : List ℕ} {r : Turned} {most : ℕ} (m : most ≡ mostAt (now .stage)) (wide : most ≤ length out - wrote)
-        (k : TurnedAs (turnBy now buys sells room (take (length bytes - at) (drop at bytes))) (take (length out - wrote) (drop wrote out)) buys′ sells′ room′ part′ r) where
+    module _ {most : ℕ} (m : most ≡ mostAt (now .stage)) (wide : most ≤ length out - wrote) {buys′ sells′ room′ out′ : List ℕ} {r : Turned}
+        (k : LineTaken now buys sells room bytes at wrote out buys′ sells′ room′ out′ r) where
       abbrev line : Turn Lent
       line = turnOf calls (now .stage) lent (drop at bytes)
-
-      part : take (length bytes - at) (drop at bytes) ≡ drop at bytes
-      part = take-all (length bytes - at) (drop at bytes) (le-of-eq (length-drop at bytes))
-
-      turned : TurnedAs line (take (length out - wrote) (drop wrote out)) buys′ sells′ room′ part′ r
-      turned = rw part at k
 
       wide-left : mostAt (now .stage) ≤ left
       wide-left = omega (arith, g .same, m)
 
-      abbrev out′ : List ℕ
-      out′ = putMid wrote (length out - wrote) out part′
-
-      pub line-printed : Prints out₀ (g .text ++ line .text) (wrote + r .wrote) out′
-      line-printed = prints-on out₀ (g .text) out part′ (line .text) wrote (r .wrote) (g .printed) (turned .printed)
-
-      -- what it prints fits, and the room keeps its length
-      pub line-fits : length part′ ≡ length (take (length out - wrote) (drop wrote out)) → wrote + r .wrote ≤ length out
-      line-fits kept =
-          let w = prints-within (turned .printed) kept in
-          let l : length (take (length out - wrote) (drop wrote out)) ≤ length out - wrote = rw (length-take (length out - wrote) (drop wrote out)) (omega arith) in
-          omega (arith, g .fits)
-
-      -- no more bytes are taken than are there
-      pub line-within : at + r .used ≤ length bytes
-      line-within =
-          let w = turn-within calls (now .stage) lent (drop at bytes) in
-          let l = length-drop at bytes in
-          omega (arith, turned .used, more)
+      line-printed : Prints out₀ (g .text ++ line .text) (wrote + r .wrote) out′
+      line-printed = prints-then (g .printed) (k .printed)
 
       -- where no whole line is left
       pub going-last : {x : Taken} {stop : Stop} → r .used ≡ 0 → stop ≡ stopAt (r .run .stage) → x ≡ takenTo (r .run) at (wrote + r .wrote) stop →
           TakenAs f out₀ buys′ sells′ room′ out′ x
       going-last e s q =
-          let l = fed-last calls (g .fuel - 1) left (now .stage) lent (drop at bytes) some wide-left (sym (turned .used) ∙ e) in
+          let l = fed-last calls (g .fuel - 1) left (now .stage) lent (drop at bytes) some wide-left (sym (k .used) ∙ e) in
           let u : at ≡ at + 0 = omega arith in
-          taken-as (here (again ∙ l)) q (turned .stage) (turned .world) u line-printed (s ∙ ap stopAt (turned .stage))
+          taken-as (here (again ∙ l)) q (k .stage) (k .world) u line-printed (s ∙ ap stopAt (k .stage))
 
       -- the rest, as it was and as it is
       abbrev after : Fed Lent
       after = fedIn calls (g .fuel - 1) (left - length (line .text)) (line .stage) (line .world) (drop (line .used) (drop at bytes))
 
       ahead-is : (r .used ≡ 0 → ⊥) → fedIn calls (suc (g .fuel - 1)) left (now .stage) lent (drop at bytes) ≡ ahead calls line after
-      ahead-is e = fed-ahead calls (g .fuel - 1) left (now .stage) lent (drop at bytes) some wide-left (λ z. e (turned .used ∙ z))
+      ahead-is e = fed-ahead calls (g .fuel - 1) left (now .stage) lent (drop at bytes) some wide-left (λ z. e (k .used ∙ z))
 
       joined : onward at (g .text) (ahead calls line after) ≡ onward (at + line .used) (g .text ++ line .text) after
       joined =
@@ -265,30 +242,48 @@ module _ {bytes out₀ : List ℕ} {f : Fed Lent} {now : Run} {buys sells room o
           }
 
       lefts : left - length (line .text) ≡ length out₀ - (wrote + r .wrote)
-      lefts = let c = turned .printed .count in omega arith
+      lefts = let c = k .printed .count in omega arith
 
       drops : drop (line .used) (drop at bytes) ≡ drop (at + r .used) bytes
-      drops = drop-drop (line .used) at bytes ∙ ap (λ (n : ℕ). drop (at + n) bytes) (sym (turned .used))
+      drops = drop-drop (line .used) at bytes ∙ ap (λ (n : ℕ). drop (at + n) bytes) (sym (k .used))
 
       moved : onward (at + line .used) (g .text ++ line .text) after ≡ onward (at + r .used) (g .text ++ line .text)
           (fedIn calls (g .fuel - 1) (length out₀ - (wrote + r .wrote)) (r .run .stage) (lentOf (r .run .session) buys′ sells′ room′) (drop (at + r .used) bytes))
       moved =
           λ i.
-          onward (at + sym (turned .used) i) (g .text ++ line .text)
-          (fedIn calls (g .fuel - 1) (lefts i) (sym (turned .stage) i) (sym (turned .world) i) (drops i))
+          onward (at + sym (k .used) i) (g .text ++ line .text)
+          (fedIn calls (g .fuel - 1) (lefts i) (sym (k .stage) i) (sym (k .world) i) (drops i))
 
       -- after a line
-      pub going-on : (r .used ≡ 0 → ⊥) → length part′ ≡ length (take (length out - wrote) (drop wrote out)) →
-          Going bytes out₀ f (r .run) buys′ sells′ room′ out′ (at + r .used) (wrote + r .wrote)
-      going-on e kept =
-          let same : length out′ ≡ length out = same-len-mid wrote (length out - wrote) out part′ kept in
+      pub going-on : (r .used ≡ 0 → ⊥) → length out′ ≡ length out → Going bytes out₀ f (r .run) buys′ sells′ room′ out′ (at + r .used) (wrote + r .wrote)
+      going-on e same =
           record {
             fuel = g .fuel - 1;
             text = g .text ++ line .text;
-            within = line-within;
+            within = k .used-there;
             enough = omega (arith, g .enough, e);
             same = same ∙ g .same;
-            fits = rw same (line-fits kept);
+            fits = rw same (k .wrote-there);
             printed = line-printed;
             rest = here (again ∙ ahead-is e) ∙ joined ∙ moved;
           }
+
+-- ---- a line from a place on
+
+pub line-taken : {run : Run} {buys sells room bytes : List ℕ} {at wrote : ℕ} {out buys′ sells′ room′ part′ : List ℕ} {r : Turned} →
+    TurnTaken run buys sells room (take (length bytes - at) (drop at bytes)) (take (length out - wrote) (drop wrote out)) buys′ sells′ room′ part′ r →
+    at ≤ length bytes → wrote ≤ length out → length part′ ≡ length (take (length out - wrote) (drop wrote out)) →
+    LineTaken run buys sells room bytes at wrote out buys′ sells′ room′ (putMid wrote (length out - wrote) out part′) r
+line-taken {run} {buys} {sells} {room} {bytes} {at} {wrote} {out} {buys′} {sells′} {room′} {part′} {r} k a w kept =
+    let part : take (length bytes - at) (drop at bytes) ≡ drop at bytes = take-all (length bytes - at) (drop at bytes) (le-of-eq (length-drop at bytes)) in
+    let t : TurnedAs (turnBy run buys sells room (drop at bytes)) (take (length out - wrote) (drop wrote out)) buys′ sells′ room′ part′ r = rw part at (k .turned) in
+    let u : r .used ≤ length bytes - at = rw (part, length-drop at bytes) at (k .used-there) in
+    let p : PrintsFrom wrote out (turnBy run buys sells room (drop at bytes) .text) (r .wrote) (putMid wrote (length out - wrote) out part′) = part-prints (t .printed) in
+    record {
+      stage = t .stage;
+      world = t .world;
+      used = t .used;
+      printed = p;
+      used-there = omega arith;
+      wrote-there = from-within w (same-len-mid wrote (length out - wrote) out part′ kept) p;
+    }

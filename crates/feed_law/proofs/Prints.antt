@@ -1,18 +1,16 @@
 -- What is printed into an output room: a writer's line, a record's, and one text behind another.
 use Prim.Native.Nat.{ℕ, zero, suc, _+_, _-_, _*_, _≤_}
 use native.Mathlib.Omega.{arith}
-use native.Mathlib.Nat.{le-of-eq}
+use native.Mathlib.Nat.{le-of-eq, le-antisymm}
 use native.Mathlib.Numerals.{add-one}
 use borrow.Rule.Slice.PartMut.{putMid}
 use mathlib.Core.Path.{_≡_, refl, sym, ap, _∙_}
 use mathlib.Core.Bool.{Bool, true, false, cond}
 use mathlib.Core.List.{List, [], _∷_, _++_, append-assoc, append-nil}
-use lib.ListN.{length, getD, take, drop, length-append, length-drop, drop-of-length-le}
-use lib.Seq.{drop-drop, drop-at, take-all, take-append-seam, drop-append-seam}
+use lib.ListN.{length, take, drop, length-append, length-drop, drop-of-length-le}
+use lib.Seq.{drop-drop, drop-at, length-take-le, take-all, take-append-seam, drop-append-seam}
 use borrow.Author.Tests.{le-leb}
 use Rattle.terms.specs.declared.Report.{Report}
-use Rattle.terms.specs.declared.Said.{Said}
-use Rattle.terms.specs.declared.Said.the-variants.{Accept, Trade, Convert, Cancel, Slab, Ref, Close}
 use Rattle.terms.specs.declared.Verdict.{Verdict}
 use Rattle.terms.specs.declared.Verdict.the-variants.{Fine, Refused}
 use Rattle.terms.specs.declared.Refusal.the-variants.{NumberLong}
@@ -28,11 +26,11 @@ use Rattle.lines_writing_law.specs.Lines.{reportNumbers, renderReport}
 use Rattle.lines_writing_law.proofs.Short.{report-short}
 use Rattle.lines_writing_law.specs.Writes.{lineVerdict, wroteOf, roomOf, Writes}
 use Rattle.records_law.specs.declared.ReadRecord.{ReadRecord}
-use Rattle.records_law.specs.Back.{RecordRead}
+use Rattle.records_law.specs.Back.{RecordRead, reportIn}
 use Rattle.tables.proofs.Records.{length-record}
-use Rattle.records_law.proofs.Told.{told-right, told-only, told-back, six-at}
-use Rattle.feed_law.specs.Texts.{written, reportText, reportsText, toldText, firstRecord, recordText, recordsText}
-use Rattle.feed_law.specs.Feeds.{laid, wroteLength, Prints}
+use Rattle.records_law.proofs.Told.{told-first, told-front}
+use Rattle.feed_law.specs.Texts.{written, reportText, reportsText, toldText, recordText, recordsText}
+use Rattle.feed_law.specs.Feeds.{laid, wroteLength, Prints, PrintsFrom, RecordTold}
 
 -- ---- a writer's line
 
@@ -69,7 +67,7 @@ unfolding recordText
 record-found room at r h k =
     let s = drop at room in
     let l : recordLength ≤ length s = rw (length-drop at room) (omega arith) in
-    ap toldText (told-only _ r (firstRecord s) (rw (six-at s 0 l) at k) (told-right (getD s 0 0) (getD s 1 0) (getD s 2 0) (getD s 3 0) (getD s 4 0) (getD s 5 0)))
+    ap toldText (told-first s r l k)
 
 -- no line is longer than the room that a writer asks for
 text-short : (r : Report) → length (reportText r) ≤ lineRoom
@@ -84,44 +82,59 @@ told-short ReadRecord.Nothing = omega arith
 
 pub record-short : (ns : List ℕ) → length (recordText ns) ≤ lineRoom
 unfolding recordText
-record-short ns = told-short (firstRecord ns)
+record-short ns = told-short (reportIn ns)
 
 -- the record at a place, printed or passed over
-module _ (room : List ℕ) (at : ℕ) (r : ReadRecord) (out : List ℕ) (there : at + recordLength ≤ length room)
+module _ {room : List ℕ} {at : ℕ} (r : ReadRecord) {out : List ℕ} (there : at + recordLength ≤ length room)
     (k : RecordRead (take recordLength (drop at room)) r) where
-  bounded : {text : List ℕ} {n : ℕ} {out′ : List ℕ} → text ≡ recordText (drop at room) → Prints out text n out′ →
-      Prints out (recordText (drop at room)) n out′ × (n ≤ lineRoom)
-  bounded {text} {n} {out′} e p =
-      let q : Prints out (recordText (drop at room)) n out′ = rw e at p in
-      let l = record-short (drop at room) in
-      (q, rw (← q .count) at l)
+  told : {n : ℕ} {out′ : List ℕ} → Prints out (toldText r) n out′ → RecordTold room at out n out′
+  told {n} {out′} p =
+      let q : Prints out (recordText (drop at room)) n out′ = rw (record-found room at r there k) at p in
+      record { printed = q; short = rw (q .count) (record-short (drop at room)) }
 
-  pub told-prints : {out′ : List ℕ} {w : Wrote} (report : Report) (n : ℕ) → r ≡ ReadRecord.Told report → lineRoom ≤ length out →
-      Writes out (renderReport report) (reportNumbers report) w out′ → n ≡ wroteLength w → Prints out (recordText (drop at room)) n out′ × (n ≤ lineRoom)
+  pub told-prints : {out′ : List ℕ} {w : Wrote} (report : Report) {n : ℕ} → r ≡ ReadRecord.Told report → lineRoom ≤ length out →
+      Writes out (renderReport report) (reportNumbers report) w out′ → n ≡ wroteLength w → RecordTold room at out n out′
   unfolding reportText
-  told-prints report n e h v q = bounded (sym (ap toldText e) ∙ record-found room at r there k) (writes-prints h v n q)
+  told-prints report {n} e h v q = told (rw e (writes-prints h v n q))
 
-  pub nothing-prints : r ≡ ReadRecord.Nothing → Prints out (recordText (drop at room)) 0 out × (0 ≤ lineRoom)
-  nothing-prints e = bounded (sym (ap toldText e) ∙ record-found room at r there k) (record { count = refl; laid = refl })
+  pub nothing-prints : r ≡ ReadRecord.Nothing → RecordTold room at out 0 out
+  nothing-prints e = told (rw e (record { count = refl; laid = refl }))
 
 -- ---- one text behind another
 
--- a text, and then one in the part of the room that is left
-pub prints-on : (out text out₁ part′ more : List ℕ) (n m : ℕ) → Prints out text n out₁ → Prints (take (length out₁ - n) (drop n out₁)) more m part′ →
-    Prints out (text ++ more) (n + m) (putMid n (length out₁ - n) out₁ part′)
-prints-on out text out₁ part′ more n m a b =
-    let part : take (length out₁ - n) (drop n out₁) ≡ drop n out₁ = take-all (length out₁ - n) (drop n out₁) (le-of-eq (length-drop n out₁)) in
-    let none : drop (length out₁ - n) (drop n out₁) ≡ [] = drop-of-length-le (drop n out₁) (le-of-eq (length-drop n out₁)) in
+-- what was printed into the part of the room that is left
+pub part-prints : {out text part′ : List ℕ} {n m : ℕ} → Prints (take (length out - n) (drop n out)) text m part′ →
+    PrintsFrom n out text m (putMid n (length out - n) out part′)
+part-prints {out} {text} {part′} {n} {m} p =
+    let part : take (length out - n) (drop n out) ≡ drop n out = take-all (length out - n) (drop n out) (le-of-eq (length-drop n out)) in
+    let none : drop (length out - n) (drop n out) ≡ [] = drop-of-length-le (drop n out) (le-of-eq (length-drop n out)) in
+    record {
+      count = p .count;
+      laid = rw (none, append-nil part′) (ap (λ (x : List ℕ). take n out ++ x) (p .laid ∙ ap (λ (x : List ℕ). laid x text) part));
+    }
+
+-- a text, and then one behind it
+pub prints-then : {out text out₁ more out₂ : List ℕ} {n m : ℕ} → Prints out text n out₁ → PrintsFrom n out₁ more m out₂ → Prints out (text ++ more) (n + m) out₂
+prints-then {out} {text} {out₁} {more} {out₂} {n} {m} a b =
     let t : take n out₁ ≡ text = ap (take n) (a .laid) ∙ rw (a .count) (take-append-seam text (drop (length text) out)) in
     let d : drop n out₁ ≡ drop (length text) out = ap (drop n) (a .laid) ∙ rw (a .count) (drop-append-seam text (drop (length text) out)) in
-    let e : part′ ≡ more ++ drop (length (text ++ more)) out =
-    b .laid
-    ∙ ap (λ (x : List ℕ). more ++ drop (length more) x) (part ∙ d)
-    ∙ rw (length-append text more, drop-drop (length more) (length text) out) in
+    let c = a .count in
+    let k = b .count in
     record {
-      count = rw (length-append text more) (cc);
-      laid = rw (none, append-nil part′, t, e) (sym (append-assoc text more _));
+      count = rw (length-append text more) (omega arith);
+      laid =
+          b .laid
+          ∙ (λ i. t i ++ laid (d i) more)
+          ∙ rw (drop-drop (length more) (length text) out, length-append text more) (sym (append-assoc text more _));
     }
+
+-- it is no longer than what is left of the room
+pub from-within : {out text out′ : List ℕ} {n m : ℕ} → n ≤ length out → length out′ ≡ length out → PrintsFrom n out text m out′ → n + m ≤ length out
+from-within {out} {text} {out′} {n} {m} h e p =
+    let l : length out′ ≡ n + (length text + length (drop (length text) (drop n out))) =
+    ap length (p .laid) ∙ rw (length-append, length-append, length-take-le n out h) in
+    let c = p .count in
+    omega arith
 
 -- the lines of one record more
 snoc : (n : ℕ) (room : List ℕ) → recordsText (suc n) room ≡ recordsText n room ++ recordText (drop (recordLength * n) room)
@@ -135,8 +148,31 @@ snoc (suc n) room =
     ∙ sym (append-assoc (recordText room) (recordsText n (drop recordLength room)) more)
     ∙ rw e
 
-pub next-record : (n at k : ℕ) (room : List ℕ) → at ≡ recordLength * n → k ≡ n + 1 → recordsText k room ≡ recordsText n room ++ recordText (drop at room)
-next-record n at k room e f = rw (e, f, add-one n) (snoc n room)
+-- the loop over the records: i of them are told, and the next stands at `at`
+pub record Telling (room out₀ : List ℕ) (i at wrote : ℕ) (out : List ℕ) : Type 0 where
+  pub next : at ≡ recordLength * i
+  pub few : wrote ≤ lineRoom * i
+  pub printed : Prints out₀ (recordsText i room) wrote out
+
+pub telling-none : (room out : List ℕ) → Telling room out 0 0 0 out
+unfolding recordsText
+telling-none room out = record { next = omega arith; few = omega arith; printed = record { count = refl; laid = refl } }
+
+module _ {room out₀ : List ℕ} {i at wrote : ℕ} {out : List ℕ} (t : Telling room out₀ i at wrote out) where
+  pub telling-on : {n : ℕ} {part′ : List ℕ} → RecordTold room at (take (length out - wrote) (drop wrote out)) n part′ →
+      Telling room out₀ (i + 1) (at + recordLength) (wrote + n) (putMid wrote (length out - wrote) out part′)
+  telling-on p =
+      let e = t .next in
+      let f = t .few in
+      let h = p .short in
+      record {
+        next = omega arith;
+        few = omega arith;
+        printed = rw (add-one i, snoc i room, ← t .next) (prints-then (t .printed) (part-prints (p .printed)));
+      }
+
+  pub telling-all : {count : ℕ} → i ≤ count → count ≤ i → Prints out₀ (recordsText count room) wrote out
+  telling-all h k = rw (le-antisymm h k) at (t .printed)
 
 -- a text is no longer than the room
 pub prints-within : {out text out′ : List ℕ} {n : ℕ} → Prints out text n out′ → length out′ ≡ length out → n ≤ length out
@@ -149,20 +185,9 @@ prints-within {out} {text} p e =
 -- ---- the lines of reports
 
 -- a report's record has the report's line, whatever follows it
-module _ (l : List ℕ) where
-  same-first : (t : ℕ) (s : Said) → firstRecord (recordOf (record { time = t; said = s }) ++ l) ≡ firstRecord (recordOf (record { time = t; said = s }))
-  unfolding recordOf
-  same-first t (Accept number) = refl
-  same-first t (Trade deal) = refl
-  same-first t (Convert order) = refl
-  same-first t (Cancel ended) = refl
-  same-first t (Slab band) = refl
-  same-first t (Ref price) = refl
-  same-first t (Close closing) = refl
-
-  record-line : (r : Report) → recordText (recordOf r ++ l) ≡ reportText r
-  unfolding recordText
-  record-line r = ap toldText (same-first (r .time) (r .said) ∙ told-back r)
+record-line : (l : List ℕ) (r : Report) → recordText (recordOf r ++ l) ≡ reportText r
+unfolding recordText
+record-line l r = ap toldText (told-front r l)
 
 lines-of : (rs : List Report) (l : List ℕ) → recordsText (length rs) (recordsOf rs ++ l) ≡ reportsText rs
 unfolding recordsText recordsOf reportsText

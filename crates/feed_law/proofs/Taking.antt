@@ -34,7 +34,7 @@ use Rattle.feed_law.specs.declared.Turned.{Turned}
 use Rattle.feed_law.specs.Texts.{textMost, mostAt, recordsText, refusedText, eventText, badText}
 use Rattle.feed_law.specs.Worlds.{Lent, lentOf, calls}
 use Rattle.feed_law.specs.Turns.{Turn, stageBy, ends, openTurn, settingsTurn, eventTurn, turnOf}
-use Rattle.feed_law.specs.Feeds.{Prints, turnBy, turnedTo, TurnedAs, TablesAside, SettingsTurned, EventTurned, TurnTaken}
+use Rattle.feed_law.specs.Feeds.{Prints, turnBy, turnedTo, TurnedAs, TablesAside, BadTurned, OpenTurned, WholeTurned, SettingsTurned, EventTurned, TurnTaken}
 use Rattle.feed_law.proofs.Prints.{records-line, prints-within}
 use Rattle.feed_law.proofs.Going.{turn-within}
 
@@ -58,30 +58,28 @@ nothing out = record { count = refl; laid = refl }
 -- ---- settings
 
 -- a bad line
-pub ends-here : {session : Session} (place : ℕ) {wrote : ℕ} {out out′ : List ℕ} {r : Turned} →
-    Prints out (badText LineWrong place) wrote out′ → r ≡ turnedTo Stage.Over session 0 wrote → TablesAside session (λ l. ends calls l place) out out′ r
-ends-here place p e buys sells room = turned-as e refl refl refl p
+pub ends-here : {session : Session} {place wrote : ℕ} {out out′ : List ℕ} {r : Turned} →
+    Prints out (badText LineWrong place) wrote out′ → r ≡ turnedTo Stage.Over session 0 wrote → BadTurned session place out out′ r
+ends-here p e = record { turned = λ buys sells room. turned-as e refl refl refl p }
 
 -- an opening
 module _ (g : Settings) (o : Opened) (used : ℕ) (opened : o ≡ openingOf g) where
-  abbrev Opens : List ℕ → List ℕ → Turned → Type 0
-  Opens out out′ r = TablesAside fixedSession (λ l. openTurn calls l used (openingOf g)) out out′ r
-
   judged : {v : Verdict} → o .verdict ≡ v → openingOf g .verdict ≡ v
   judged e = ap (λ (x : Opened). x .verdict) (sym opened) ∙ e
 
   kept : (buys sells room : List ℕ) → lentOf (o .session) buys sells room ≡ lentOf (openingOf g .session) buys sells room
   kept buys sells room = ap (λ (x : Opened). lentOf (x .session) buys sells room) opened
 
-  pub opens-fine : {out : List ℕ} {r : Turned} → o .verdict ≡ Fine → r ≡ turnedTo Stage.Trading (o .session) used 0 → Opens out out r
+  pub opens-fine : {out : List ℕ} {r : Turned} → o .verdict ≡ Fine → r ≡ turnedTo Stage.Trading (o .session) used 0 → OpenTurned g used out out r
   unfolding calls
-  opens-fine {out} v e buys sells room =
-      turned-as e (sym (ap stageBy (judged v))) (kept buys sells room) refl (rw (judged v) (nothing out))
+  opens-fine {out} v e =
+      record { turned = λ buys sells room. turned-as e (sym (ap stageBy (judged v))) (kept buys sells room) refl (rw (judged v) (nothing out)) }
 
-  pub opens-refused : {out out′ : List ℕ} {r : Turned} {wrote : ℕ} (q : Refusal) → o .verdict ≡ Refused q → Prints out (badText q 0) wrote out′ →
-      r ≡ turnedTo Stage.Over (o .session) used wrote → Opens out out′ r
+  pub opens-refused : {out out′ : List ℕ} {r : Turned} {wrote : ℕ} {q : Refusal} → o .verdict ≡ Refused q → Prints out (badText q 0) wrote out′ →
+      r ≡ turnedTo Stage.Over (o .session) used wrote → OpenTurned g used out out′ r
   unfolding calls
-  opens-refused q v p e buys sells room = turned-as e (sym (ap stageBy (judged v))) (kept buys sells room) refl (rw (judged v) p)
+  opens-refused v p e =
+      record { turned = λ buys sells room. turned-as e (sym (ap stageBy (judged v))) (kept buys sells room) refl (rw (judged v) p) }
 
 -- what the reader answers decides
 module _ {session : Session} {bytes : List ℕ} {a : ReadSettings} (read : SettingsRead bytes a) where
@@ -96,17 +94,17 @@ module _ {session : Session} {bytes : List ℕ} {a : ReadSettings} (read : Setti
       }
 
   pub settings-whole : {out out′ : List ℕ} {r : Turned} {g : Settings} {n : ℕ} → a ≡ ReadSettings.Whole g n →
-      TablesAside fixedSession (λ l. openTurn calls l n (openingOf g)) out out′ r → SettingsTurned session bytes out out′ r
+      OpenTurned g n out out′ r → SettingsTurned session bytes out out′ r
   unfolding calls
-  settings-whole {g = g} {n = n} e k = by-settings (whole g n) (ap settingsAnswer e) k
+  settings-whole {g = g} {n = n} e k = by-settings (whole g n) (ap settingsAnswer e) (k .turned)
 
   pub settings-unfinished : {out : List ℕ} {r : Turned} → a ≡ ReadSettings.Unfinished → r ≡ turnedTo Stage.Awaiting session 0 0 →
       SettingsTurned session bytes out out r
   settings-unfinished {out} e q = by-settings unfinished (ap settingsAnswer e) (λ buys sells room. turned-as q refl refl refl (nothing out))
 
-  pub settings-wrong : {out out′ : List ℕ} {r : Turned} {n : ℕ} → a ≡ ReadSettings.Wrong n → TablesAside session (λ l. ends calls l n) out out′ r →
+  pub settings-wrong : {out out′ : List ℕ} {r : Turned} {n : ℕ} → a ≡ ReadSettings.Wrong n → BadTurned session n out out′ r →
       SettingsTurned session bytes out out′ r
-  settings-wrong {n = n} e k = by-settings (wrong n) (ap settingsAnswer e) k
+  settings-wrong {n = n} e k = by-settings (wrong n) (ap settingsAnswer e) (k .turned)
 
 -- ---- events
 
@@ -122,17 +120,17 @@ module _ {session : Session} {bytes buys sells room : List ℕ} {a : ReadEvent} 
       }
 
   pub event-whole : {out buys′ sells′ room′ out′ : List ℕ} {r : Turned} {e : Event} {n : ℕ} → a ≡ ReadEvent.Whole e n →
-      TurnedAs (eventTurn calls (lentOf session buys sells room) (whole e n)) out buys′ sells′ room′ out′ r →
+      WholeTurned session e n buys sells room out buys′ sells′ room′ out′ r →
       EventTurned session bytes buys sells room out buys′ sells′ room′ out′ r
-  event-whole {e = e} {n = n} q k = by-event (whole e n) (ap eventAnswer q) k
+  event-whole {e = e} {n = n} q k = by-event (whole e n) (ap eventAnswer q) (k .turned)
 
   pub event-unfinished : {out : List ℕ} {r : Turned} → a ≡ ReadEvent.Unfinished → r ≡ turnedTo Stage.Trading session 0 0 →
       EventTurned session bytes buys sells room out buys sells room out r
   event-unfinished {out} q e = by-event unfinished (ap eventAnswer q) (turned-as e refl refl refl (nothing out))
 
-  pub event-wrong : {out out′ : List ℕ} {r : Turned} {n : ℕ} → a ≡ ReadEvent.Wrong n → TablesAside session (λ l. ends calls l n) out out′ r →
+  pub event-wrong : {out out′ : List ℕ} {r : Turned} {n : ℕ} → a ≡ ReadEvent.Wrong n → BadTurned session n out out′ r →
       EventTurned session bytes buys sells room out buys sells room out′ r
-  event-wrong {n = n} q k = by-event (wrong n) (ap eventAnswer q) (k buys sells room)
+  event-wrong {n = n} q k = by-event (wrong n) (ap eventAnswer q) (k .turned buys sells room)
 
 -- ---- an event that a call answers
 
@@ -170,30 +168,29 @@ module _ {s : Session} {e : Event} {buys sells room buys′ sells′ room′ : L
       let few = called-few s e buys sells room in
       omega (arith, c .1)
 
-  left : {after : Session} → after ≡ p .session → lentOf after buys′ sells′ room′ ≡ calls .next (lentOf s buys sells room) e
+  left : lentOf (p .session) buys′ sells′ room′ ≡ calls .next (lentOf s buys sells room) e
   unfolding calls
-  left q = λ i. lentOf ((q ∙ k .session) i) (k .bought i) (k .sold i) (k .told i)
+  left = λ i. lentOf (k .session i) (k .bought i) (k .sold i) (k .told i)
 
-  -- its reports are told
-  pub goes-told : (count : ℕ) {used wrote : ℕ} {after : Session} {out out′ : List ℕ} {r : Turned} → p .answer ≡ Reply.Reported count → after ≡ p .session →
-      Prints out (recordsText count room′) wrote out′ → r ≡ turnedTo Stage.Trading after used wrote →
-      TurnedAs (eventTurn calls (lentOf s buys sells room) (whole e used)) out buys′ sells′ room′ out′ r
-  unfolding calls
-  goes-told count {used} {wrote} {after} {out} {out′} q f t h =
-      let c = by-count q in
-      let text : recordsText count room′ ≡ eventText e verdict reports =
-      (λ i. recordsText (c .1 i) (k .told i)) ∙ records-line reports room ∙ ap (λ (v : Verdict). eventText e v reports) (sym (c .0)) in
-      turned-as h refl (left f) refl (subst (λ (x : List ℕ). Prints out x wrote out′) text t)
+  module _ {used wrote : ℕ} {out out′ : List ℕ} {r : Turned} (h : r ≡ turnedTo Stage.Trading (p .session) used wrote) where
+    -- its reports are told
+    pub goes-told : {count : ℕ} → p .answer ≡ Reply.Reported count → Prints out (recordsText count room′) wrote out′ →
+        WholeTurned s e used buys sells room out buys′ sells′ room′ out′ r
+    unfolding calls
+    goes-told {count} q t =
+        let c = by-count q in
+        let text : recordsText count room′ ≡ eventText e verdict reports =
+        (λ i. recordsText (c .1 i) (k .told i)) ∙ records-line reports room ∙ ap (λ (v : Verdict). eventText e v reports) (sym (c .0)) in
+        record { turned = turned-as h refl left refl (subst (λ (x : List ℕ). Prints out x wrote out′) text t) }
 
-  -- or its refusal
-  pub goes-refused : (time : ℕ) {used wrote : ℕ} {after : Session} {out out′ : List ℕ} {r : Turned} (n : Refusal) → p .answer ≡ Reply.Refused n → after ≡ p .session →
-      time ≡ e .time → Prints out (refusedText time n) wrote out′ → r ≡ turnedTo Stage.Trading after used wrote →
-      TurnedAs (eventTurn calls (lentOf s buys sells room) (whole e used)) out buys′ sells′ room′ out′ r
-  unfolding calls
-  goes-refused time {used} {wrote} {after} {out} {out′} n q f g t h =
-      let v : verdict ≡ Refused n = refused verdict (length reports) n (sym (k .answer) ∙ q) in
-      let text : refusedText time n ≡ eventText e verdict reports = ap (λ (x : ℕ). refusedText x n) g ∙ ap (λ (x : Verdict). eventText e x reports) (sym v) in
-      turned-as h refl (left f) refl (subst (λ (x : List ℕ). Prints out x wrote out′) text t)
+    -- or its refusal
+    pub goes-refused : {n : Refusal} → p .answer ≡ Reply.Refused n → Prints out (refusedText (e .time) n) wrote out′ →
+        WholeTurned s e used buys sells room out buys′ sells′ room′ out′ r
+    unfolding calls
+    goes-refused {n} q t =
+        let v : verdict ≡ Refused n = refused verdict (length reports) n (sym (k .answer) ∙ q) in
+        let text : refusedText (e .time) n ≡ eventText e verdict reports = ap (λ (x : Verdict). eventText e x reports) (sym v) in
+        record { turned = turned-as h refl left refl (subst (λ (x : List ℕ). Prints out x wrote out′) text t) }
 
 -- ---- by where the run stands
 

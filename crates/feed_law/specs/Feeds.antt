@@ -1,15 +1,19 @@
 -- The calls of this crate on lent numbers: what each is answered, and what it leaves.
-use Prim.Native.Nat.{ℕ, _≤_}
+use Prim.Native.Nat.{ℕ, _+_, _≤_}
 use mathlib.Core.Path.{_≡_}
 use mathlib.Core.List.{List, [], _∷_, _++_}
-use lib.ListN.{length, drop}
+use lib.ListN.{length, take, drop}
 use Rattle.terms.specs.declared.Refusal.the-variants.{SmallRoom}
+use Rattle.terms.specs.declared.Event.{Event}
+use Rattle.terms.specs.declared.Settings.{Settings}
 use Rattle.terms.specs.declared.Verdict.{Verdict}
 use Rattle.terms.specs.declared.Verdict.the-variants.{Fine, Refused}
+use Rattle.terms.specs.Sizes.{lineRoom}
 use Rattle.terms.specs.Refusals.{unless, firstFailed}
 use Rattle.state_law.specs.declared.Session.{Session}
-use Rattle.state_law.specs.Opening.{fixedSession}
+use Rattle.state_law.specs.Opening.{openingOf, fixedSession}
 use Rattle.engine_law.specs.Calls.{roomy}
+use Rattle.lines_text_law.specs.Grammar.{whole}
 use Rattle.lines_reading_law.specs.Answers.{readEvent, readSettings}
 use Rattle.lines_writing_law.specs.declared.Wrote.{Wrote}
 use Rattle.feed_law.specs.declared.Run.{Run}
@@ -17,8 +21,9 @@ use Rattle.feed_law.specs.declared.Stage.{Stage}
 use Rattle.feed_law.specs.declared.Stop.{Stop}
 use Rattle.feed_law.specs.declared.Turned.{Turned}
 use Rattle.feed_law.specs.declared.Taken.{Taken}
+use Rattle.feed_law.specs.Texts.{recordText, endText}
 use Rattle.feed_law.specs.Worlds.{Lent, lentOf, calls}
-use Rattle.feed_law.specs.Turns.{Turn, settingsTurn, eventTurn, turnOf, Fed, halted, fedIn, endBehind}
+use Rattle.feed_law.specs.Turns.{Turn, ends, openTurn, settingsTurn, eventTurn, turnOf, Fed, halted, fedIn, endBehind}
 
 -- text at the start of an output room, the rest of which is untouched
 abbrev pub laid : List ℕ → List ℕ → List ℕ
@@ -28,6 +33,20 @@ laid out text = text ++ drop (length text) out
 pub record Prints (out text : List ℕ) (wrote : ℕ) (out′ : List ℕ) : Type 0 where
   pub count : wrote ≡ length text
   pub laid : out′ ≡ laid out text
+
+-- the same from place n of the room on
+pub record PrintsFrom (n : ℕ) (out text : List ℕ) (wrote : ℕ) (out′ : List ℕ) : Type 0 where
+  pub count : wrote ≡ length text
+  pub laid : out′ ≡ take n out ++ laid (drop n out) text
+
+-- THE CONTRACTS of what the end of the input prints, and of the line of a record: neither is longer than a line may be
+pub record EndTold (stage : Stage) (rest : ℕ) (out : List ℕ) (wrote : ℕ) (out′ : List ℕ) : Type 0 where
+  pub printed : Prints out (endText stage rest) wrote out′
+  pub short : wrote ≤ lineRoom
+
+pub record RecordTold (room : List ℕ) (at : ℕ) (out : List ℕ) (wrote : ℕ) (out′ : List ℕ) : Type 0 where
+  pub printed : Prints out (recordText (drop at room)) wrote out′
+  pub short : wrote ≤ lineRoom
 
 -- how many bytes a writer wrote
 abbrev pub wroteLength : Wrote → ℕ
@@ -57,6 +76,16 @@ pub record TurnedAs (t : Turn Lent) (out buys′ sells′ room′ out′ : List 
 abbrev pub TablesAside : Session → (Lent → Turn Lent) → List ℕ → List ℕ → Turned → Type 0
 TablesAside s t out out′ r = (buys sells room : List ℕ) → TurnedAs (t (lentOf s buys sells room)) out buys sells room out′ r
 
+-- THE CONTRACTS of a bad line, of whole settings, and of a whole event
+pub record BadTurned (session : Session) (place : ℕ) (out out′ : List ℕ) (r : Turned) : Type 0 where
+  pub turned : TablesAside session (λ l. ends calls l place) out out′ r
+
+pub record OpenTurned (settings : Settings) (used : ℕ) (out out′ : List ℕ) (r : Turned) : Type 0 where
+  pub turned : TablesAside fixedSession (λ l. openTurn calls l used (openingOf settings)) out out′ r
+
+pub record WholeTurned (session : Session) (event : Event) (used : ℕ) (buys sells room out buys′ sells′ room′ out′ : List ℕ) (r : Turned) : Type 0 where
+  pub turned : TurnedAs (eventTurn calls (lentOf session buys sells room) (whole event used)) out buys′ sells′ room′ out′ r
+
 -- THE CONTRACTS of a line of settings, of an event's line, and of either
 pub record SettingsTurned (session : Session) (bytes out out′ : List ℕ) (r : Turned) : Type 0 where
   pub turned : TablesAside session (λ l. settingsTurn calls l (readSettings bytes)) out out′ r
@@ -68,6 +97,15 @@ pub record TurnTaken (run : Run) (buys sells room bytes out buys′ sells′ roo
   pub turned : TurnedAs (turnBy run buys sells room bytes) out buys′ sells′ room′ out′ r
   pub used-there : r .used ≤ length bytes
   pub wrote-there : r .wrote ≤ length out
+
+-- the same of the line from a place of the bytes on, printed behind what was written
+pub record LineTaken (run : Run) (buys sells room bytes : List ℕ) (at wrote : ℕ) (out buys′ sells′ room′ out′ : List ℕ) (r : Turned) : Type 0 where
+  pub stage : r .run .stage ≡ turnBy run buys sells room (drop at bytes) .stage
+  pub world : lentOf (r .run .session) buys′ sells′ room′ ≡ turnBy run buys sells room (drop at bytes) .world
+  pub used : r .used ≡ turnBy run buys sells room (drop at bytes) .used
+  pub printed : PrintsFrom wrote out (turnBy run buys sells room (drop at bytes) .text) (r .wrote) out′
+  pub used-there : at + r .used ≤ length bytes
+  pub wrote-there : wrote + r .wrote ≤ length out
 
 -- ---- all lines
 
@@ -113,7 +151,7 @@ abbrev pub takenTo : Run → ℕ → ℕ → Stop → Taken
 takenTo run used wrote stop = record { run = run; used = used; wrote = wrote; stop = stop }
 
 -- what the end of the input makes of lines that were taken: of whatever they come to, and whatever the tables hold
-abbrev pub EndsBehind : Taken → ℕ → List ℕ → List ℕ → Taken → Type 0
-EndsBehind t bytes out out′ r =
-    (f : Fed Lent) (out₀ buys sells room : List ℕ) → TakenAs f out₀ buys sells room out t → length out ≡ length out₀ →
-    TakenAs (endBehind calls (length out₀) bytes f) out₀ buys sells room out′ r
+pub record EndsBehind (t : Taken) (bytes : ℕ) (out out′ : List ℕ) (r : Taken) : Type 0 where
+  pub ends :
+      (f : Fed Lent) (out₀ buys sells room : List ℕ) → TakenAs f out₀ buys sells room out t → length out ≡ length out₀ →
+      TakenAs (endBehind calls (length out₀) bytes f) out₀ buys sells room out′ r

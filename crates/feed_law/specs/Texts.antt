@@ -2,7 +2,7 @@
 use Prim.Native.Nat.{ℕ, zero, suc, _*_}
 use mathlib.Core.Bool.{cond}
 use mathlib.Core.List.{List, [], _∷_, _++_}
-use lib.ListN.{getD, drop}
+use lib.ListN.{drop}
 use lib.Dec.{eqb}
 use Rattle.terms.specs.declared.Event.{Event}
 use Rattle.terms.specs.declared.Report.{Report}
@@ -15,7 +15,7 @@ use Rattle.tables.specs.Lengths.{reportsMost, recordLength}
 use Rattle.lines_text_law.specs.Numerals.{allWritable}
 use Rattle.lines_writing_law.specs.Lines.{reportNumbers, renderReport, refusedNumbers, renderRefused, badNumbers, renderBad}
 use Rattle.records_law.specs.declared.ReadRecord.{ReadRecord}
-use Rattle.records_law.specs.Back.{reportFrom}
+use Rattle.records_law.specs.Back.{reportIn}
 use Rattle.feed_law.specs.declared.Stage.{Stage}
 
 -- the most that an event can print: a line for each of its reports
@@ -77,13 +77,9 @@ abbrev pub toldText : ReadRecord → List ℕ
 toldText (ReadRecord.Told r) = reportText r
 toldText ReadRecord.Nothing = []
 
--- what the first six of some numbers tell
-abbrev pub firstRecord : List ℕ → ReadRecord
-firstRecord ns = reportFrom (getD ns 0 0) (getD ns 1 0) (getD ns 2 0) (getD ns 3 0) (getD ns 4 0) (getD ns 5 0)
-
--- the line of that record; of numbers that are no report's, none
+-- the line of the record that the first six of some numbers are; of numbers that are no report's, none
 unfoldable pub recordText : List ℕ → List ℕ
-recordText ns = toldText (firstRecord ns)
+recordText ns = toldText (reportIn ns)
 
 unfoldable pub recordsText : ℕ → List ℕ → List ℕ
 recordsText zero room = []

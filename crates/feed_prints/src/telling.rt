@@ -6,12 +6,12 @@ use tables::lengths;
 use terms::Refusal;
 ghost use mathlib.Core.Path.{_≡_};
 ghost use Prim.Native.Nat.{_+_, _*_, _≤_};
-ghost use lib.ListN.{length, drop};
+ghost use lib.ListN.{length};
 ghost use Rattle.terms.specs.Sizes.{lineRoom};
 ghost use Rattle.tables.specs.Lengths.{recordLength};
-ghost use Rattle.feed_law.specs.Texts.{recordText, recordsText, refusedText, badText, endText};
+ghost use Rattle.feed_law.specs.Texts.{recordsText, refusedText, badText, endText};
 ghost use Rattle.feed_law.specs.declared.Stage.{Stage};
-ghost use Rattle.feed_law.specs.Feeds.{Prints, wroteLength};
+ghost use Rattle.feed_law.specs.Feeds.{Prints, EndTold, RecordTold, wroteLength};
 
 // How many bytes a writer wrote.
 fn length_of(w: Wrote) -> usize
@@ -53,7 +53,7 @@ fn tell_tail(rest: usize, out: &mut [u8]) -> usize
 // What the end of the input prints, by where the run stands.
 pub fn tell_end(stage: Stage, rest: usize, out: &mut [u8]) -> usize
     requires { ⌜ lineRoom ≤ length (now out) ⌝ }
-    ensures { λ r. ⌜ Prints (now (out .entry)) (endText stage rest) r (now (out .exit)) × (r ≤ lineRoom) ⌝ }
+    ensures { λ r. ⌜ EndTold stage rest (now (out .entry)) r (now (out .exit)) ⌝ }
 {
     match stage {
         Stage::Awaiting => tell_bad(Refusal::LineUnfinished, rest, out),
@@ -65,7 +65,7 @@ pub fn tell_end(stage: Stage, rest: usize, out: &mut [u8]) -> usize
 // The line of the record that stands in the room from `at` on.
 fn tell_record(room: &[u64], at: usize, out: &mut [u8]) -> usize
     requires { ⌜ (at + recordLength ≤ length (now room)) × (lineRoom ≤ length (now out)) ⌝ }
-    ensures { λ r. ⌜ Prints (now (out .entry)) (recordText (drop at (now (room .entry)))) r (now (out .exit)) × (r ≤ lineRoom) ⌝ }
+    ensures { λ r. ⌜ RecordTold (now (room .entry)) at (now (out .entry)) r (now (out .exit)) ⌝ }
 {
     match records::read_record(room, at) {
         ReadRecord::Told(report) => length_of(lines_writing_reports::write_report(report, out)),

@@ -17,12 +17,8 @@ ghost use Prim.Native.Nat.{_≤_};
 ghost use mathlib.Core.Path.{_≡_};
 ghost use lib.ListN.{length};
 ghost use Rattle.terms.specs.Sizes.{lineRoom};
-ghost use Rattle.lines_text_law.specs.Grammar.{whole};
-ghost use Rattle.state_law.specs.Opening.{openingOf, fixedSession};
 ghost use Rattle.feed_law.specs.Texts.{textMost, mostAt};
-ghost use Rattle.feed_law.specs.Worlds.{lentOf, calls};
-ghost use Rattle.feed_law.specs.Turns.{ends, openTurn, eventTurn};
-ghost use Rattle.feed_law.specs.Feeds.{turnedTo, TurnedAs, TablesAside, SettingsTurned, EventTurned, TurnTaken};
+ghost use Rattle.feed_law.specs.Feeds.{turnedTo, BadTurned, OpenTurned, WholeTurned, SettingsTurned, EventTurned, TurnTaken};
 
 // Where a run stands after a line.
 fn turned(stage: Stage, session: Session, used: usize, wrote: usize) -> Turned
@@ -41,7 +37,7 @@ fn turned(stage: Stage, session: Session, used: usize, wrote: usize) -> Turned
 // A bad line: it is told, and the run is over.
 fn bad_line(session: Session, place: usize, out: &mut [u8]) -> Turned
     requires { ⌜ lineRoom ≤ length (now out) ⌝ }
-    ensures { λ r. ⌜ TablesAside session (λ l. ends calls l place) (now (out .entry)) (now (out .exit)) r ⌝ }
+    ensures { λ r. ⌜ BadTurned session place (now (out .entry)) (now (out .exit)) r ⌝ }
 {
     let wrote = telling::tell_bad(Refusal::LineWrong, place, out);
     turned(Stage::Over, session, 0, wrote)
@@ -50,7 +46,7 @@ fn bad_line(session: Session, place: usize, out: &mut [u8]) -> Turned
 // A whole line of settings: the session opens, or the run is over.
 fn opens(settings: Settings, used: usize, out: &mut [u8]) -> Turned
     requires { ⌜ lineRoom ≤ length (now out) ⌝ }
-    ensures { λ r. ⌜ TablesAside fixedSession (λ l. openTurn calls l used (openingOf settings)) (now (out .entry)) (now (out .exit)) r ⌝ }
+    ensures { λ r. ⌜ OpenTurned settings used (now (out .entry)) (now (out .exit)) r ⌝ }
 {
     let o = opening::begin(settings);
     let verdict = o.verdict;
@@ -87,7 +83,7 @@ fn goes(
     out: &mut [u8],
 ) -> Turned
     requires { ⌜ textMost ≤ length (now out) ⌝ }
-    ensures { λ r. ⌜ TurnedAs (eventTurn calls (lentOf session (now (buys .entry)) (now (sells .entry)) (now (room .entry))) (whole event used)) (now (out .entry)) (now (buys .exit)) (now (sells .exit)) (now (room .exit)) (now (out .exit)) r ⌝ }
+    ensures { λ r. ⌜ WholeTurned session event used (now (buys .entry)) (now (sells .entry)) (now (room .entry)) (now (out .entry)) (now (buys .exit)) (now (sells .exit)) (now (room .exit)) (now (out .exit)) r ⌝ }
 {
     let time = event.time;
     let a = apply::apply(session, event, buys, sells, room);

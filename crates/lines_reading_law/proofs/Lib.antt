@@ -1,3 +1,4 @@
 pub mod EventLines
+pub mod Prices
 pub mod SettingsLines
 pub mod Walks

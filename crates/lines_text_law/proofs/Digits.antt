@@ -80,7 +80,7 @@ unfolding numeral
 length-most v = length-dec 8 v
 
 -- a number from 10 ^ k to below 10 ^ (k + 1) has k + 1 digits
-pub length-is : (k v : ℕ) → 10 ^ k ≤ v → v < 10 ^ suc k → v ≤ writtenMost → length (numeral v) ≡ suc k
+length-is : (k v : ℕ) → 10 ^ k ≤ v → v < 10 ^ suc k → v ≤ writtenMost → length (numeral v) ≡ suc k
 length-is zero v a b m = length-first v b
 length-is (suc k) v a b m =
     let q = pow-suc 10 k in
@@ -88,6 +88,16 @@ length-is (suc k) v a b m =
     let p : 10 ^ 0 ≤ 10 ^ k = pow-le-pow-right (omega arith) {i = 0} {j = k} (omega arith) in
     let i = length-is k (v / 10) (omega arith) (omega arith) (omega arith) in
     length-last v (omega arith) m ∙ (omega arith)
+
+-- the same as code comes to it, by the powers that the number lies between
+pub width-first : (v : ℕ) → v < 10 → 1 ≡ length (numeral v)
+width-first v h = sym (length-first v h)
+
+pub width-is : (k v : ℕ) → 10 ^ k ≤ v → v < 10 ^ suc k → v ≤ writtenMost → suc k ≡ length (numeral v)
+width-is k v a b m = sym (length-is k v a b m)
+
+pub width-last : (v : ℕ) → 10 ^ 8 ≤ v → v ≤ writtenMost → 9 ≡ length (numeral v)
+width-last v a m = width-is 8 v a (omega arith) m
 
 -- ---- a numeral is read to its end
 

@@ -15,7 +15,8 @@ use Rattle.terms.proofs.Logic.{cases, split, join}
 use Rattle.lines_text_law.specs.Numerals.{numeral, allWritable}
 use Rattle.terms.specs.Numbers.{Writable}
 use Rattle.lines_text_law.specs.Forms.{hole, piece, taken, fill, holes, longest}
-use Rattle.lines_text_law.specs.code.Room.{over, Put}
+use Rattle.lines_text_law.specs.declared.Spot.{Spot}
+use Rattle.lines_text_law.specs.code.Room.{over, Put, Placed, Fits, PieceFits}
 use Rattle.lines_text_law.proofs.Digits.{length-most, numeral-first, numeral-last, length-last}
 use Rattle.lines_text_law.proofs.Rooms.{over-over, set-over}
 
@@ -25,6 +26,11 @@ pub writable-at : (ns : List ℕ) (k : ℕ) → Writable ns → getD ns k 0 ≤ 
 writable-at [] k w = omega arith
 writable-at (n ∷ ns) zero w = w .0
 writable-at (n ∷ ns) (suc k) w = writable-at ns k (w .1)
+
+pub writable-take : (k : ℕ) (ns : List ℕ) → Writable ns → Writable (take k ns)
+writable-take zero ns w = tt
+writable-take (suc k) [] w = tt
+writable-take (suc k) (n ∷ ns) w = (w .0, writable-take k ns (w .1))
 
 pub tested-writable : (ns : List ℕ) → allWritable ns ≡ true → Writable ns
 unfolding allWritable
@@ -137,58 +143,85 @@ digit-turn d n w p a b q h =
 pub digit-end : (d : List ℕ) (n w : ℕ) → w < 10 → n < length d → over d n (numeral w) ≡ set d n (48 + w)
 digit-end d n w a h = rw (numeral-first w a, set-over d n (48 + w) h)
 
+-- ---- what one byte of a form stands for, put at a spot
+
+module _ {d : List ℕ} {from : Spot} {b : ℕ} {ns : List ℕ} (fits : PieceFits d from b ns) where
+  -- the next number
+  module _ (e : b ≡ hole) where
+    pub number-there : from .used < length ns
+    number-there = omega (arith, fits .enough, hole-taken b e)
+
+    pub number-fits : from .at + length (numeral (getD ns (from .used) 0)) ≤ length d
+    number-fits = omega (arith, fits .within, ap length (hole-piece b (getD ns (from .used) 0) e))
+
+    pub number-placed : {d′ : List ℕ} {end : ℕ} → Put d (from .at) (numeral (getD ns (from .used) 0)) d′ end
+        → Placed d from (piece b (getD ns (from .used) 0)) (taken b) d′ (record { at = end; used = from .used + 1 })
+    number-placed p = record { put = rw (hole-piece b (getD ns (from .used) 0) e) p; used = rw (hole-taken b e) }
+
+  -- or the byte itself
+  module _ (e : b ≡ hole → ⊥) where
+    pub byte-fits : from .at < length d
+    byte-fits = omega (arith, fits .within, ap length (byte-piece b (getD ns (from .used) 0) e))
+
+    pub byte-placed : Placed d from (piece b (getD ns (from .used) 0)) (taken b) (set d (from .at) b) (record { at = from .at + 1; used = from .used })
+    byte-placed =
+        record {
+          put = rw (byte-piece b (getD ns (from .used) 0) e) (record { next = refl; laid = set-over d (from .at) b byte-fits });
+          used = omega (arith, byte-taken b e);
+        }
+
 -- ---- a form, byte by byte
 
--- Of a form that is put into d₀ from place n₀ and the k₀-th number on, the part from byte i on is left: d is the room so far.
-pub record Left (d₀ f ns : List ℕ) (n₀ k₀ : ℕ) (d : List ℕ) (n k i : ℕ) : Type 0 where
+-- Of a form that is put into d₀ from a spot on, the part from byte i on is left: d is the room so far, and `to` the spot in it.
+pub record Left (d₀ f ns : List ℕ) (from : Spot) (d : List ℕ) (to : Spot) (i : ℕ) : Type 0 where
   pub inside : i ≤ length f
   pub same : length d ≡ length d₀
-  pub used : k + holes (drop i f) ≡ k₀ + holes f
-  pub place : n + length (fill (drop i f) (drop k ns)) ≡ n₀ + length (fill f (drop k₀ ns))
-  pub rest : over d₀ n₀ (fill f (drop k₀ ns)) ≡ over d n (fill (drop i f) (drop k ns))
+  pub used : to .used + holes (drop i f) ≡ from .used + holes f
+  pub place : to .at + length (fill (drop i f) (drop (to .used) ns)) ≡ from .at + length (fill f (drop (from .used) ns))
+  pub rest : over d₀ (from .at) (fill f (drop (from .used) ns)) ≡ over d (to .at) (fill (drop i f) (drop (to .used) ns))
 
-pub left-all : (d f ns : List ℕ) (n k : ℕ) → Left d f ns n k d n k 0
-left-all d f ns n k = record { inside = omega arith; same = refl; used = refl; place = refl; rest = refl }
+pub left-all : (d f ns : List ℕ) (from : Spot) → Left d f ns from d from 0
+left-all d f ns from = record { inside = omega arith; same = refl; used = refl; place = refl; rest = refl }
 
-module _ {d₀ f ns : List ℕ} {n₀ k₀ : ℕ} {d : List ℕ} {n k i : ℕ} (left : Left d₀ f ns n₀ k₀ d n k i) where
-  -- the next byte has its room and its number
-  pub left-room : i < length f → n₀ + length (fill f (drop k₀ ns)) ≤ length d₀ → n + length (piece (getD f i 0) (getD ns k 0)) ≤ length d
-  left-room h w =
-      let e = ap length (fill-turn f ns i k h) ∙ length-append (piece (getD f i 0) (getD ns k 0)) _ in
-      let p = left .place in
-      let s = left .same in
-      omega arith
+module _ {d₀ f ns : List ℕ} {from : Spot} {d : List ℕ} {to : Spot} {i : ℕ} (left : Left d₀ f ns from d to i) where
+  module _ (more : i < length f) (fits : Fits d₀ from f ns) where
+    abbrev next : List ℕ
+    next = piece (getD f i 0) (getD ns (to .used) 0)
 
-  pub left-number : i < length f → k₀ + holes f ≤ length ns → k + taken (getD f i 0) ≤ length ns
-  left-number h w = let e = holes-turn f ns i k h in let u = left .used in omega arith
+    turned : length (fill (drop i f) (drop (to .used) ns)) ≡ length next + length (fill (drop (i + 1) f) (drop (to .used + taken (getD f i 0)) ns))
+    turned = ap length (fill-turn f ns i (to .used) more) ∙ length-append next _
 
-  -- and is put
-  pub left-turn : {d′ : List ℕ} {n′ k′ : ℕ} → i < length f → n₀ + length (fill f (drop k₀ ns)) ≤ length d₀
-      → length d′ ≡ length d → Put d n (piece (getD f i 0) (getD ns k 0)) d′ n′ → k′ ≡ k + taken (getD f i 0) → Left d₀ f ns n₀ k₀ d′ n′ k′ (i + 1)
-  left-turn {d′} {n′} {k′} h w s p q =
-      let c = piece (getD f i 0) (getD ns k 0) in
-      let rest = fill (drop (i + 1) f) (drop (k + taken (getD f i 0)) ns) in
-      let e = fill-turn f ns i k h in
-      let l = ap length e ∙ length-append c rest in
-      let t = holes-turn f ns i k h in
-      let u = left .used in
-      let a = left .place in
-      let b = left .same in
-      let z = p .next in
-      record {
-        inside = omega arith;
-        same = s ∙ left .same;
-        used = omega arith;
-        place = rw q (omega arith);
-        rest = left .rest ∙ rw (e, q, p .laid) (sym (over-over d n c rest n′ (p .next) (omega arith)));
-      }
+    -- the next byte has its room and its number
+    pub left-fits : PieceFits d to (getD f i 0) ns
+    left-fits =
+        record {
+          within = omega (arith, turned, left .place, left .same, fits .within);
+          enough = omega (arith, holes-turn f ns i (to .used) more, left .used, fits .enough);
+          writable = writable-at ns (to .used) (fits .writable);
+        }
+
+    -- and is put
+    pub left-turn : {d′ : List ℕ} {to′ : Spot} → length d′ ≡ length d → Placed d to next (taken (getD f i 0)) d′ to′ → Left d₀ f ns from d′ to′ (i + 1)
+    left-turn {d′} {to′} s p =
+        let rest = fill (drop (i + 1) f) (drop (to .used + taken (getD f i 0)) ns) in
+        let z = p .put .next in
+        let u = p .used in
+        record {
+          inside = omega arith;
+          same = s ∙ left .same;
+          used = omega (arith, holes-turn f ns i (to .used) more, left .used);
+          place = rw u (omega (arith, turned, left .place));
+          rest =
+              left .rest
+              ∙ rw (fill-turn f ns i (to .used) more, u, p .put .laid)
+              (sym (over-over d (to .at) next rest (to′ .at) z (left-fits .within)));
+        }
 
   -- at the end all of it is there
-  pub left-none : length f ≤ i → (d ≡ over d₀ n₀ (fill f (drop k₀ ns))) × (n ≡ n₀ + length (fill f (drop k₀ ns))) × (k ≡ k₀ + holes f)
+  pub left-none : length f ≤ i → Placed d₀ from (fill f (drop (from .used) ns)) (holes f) d to
   left-none h =
-      let e = fill-end f (drop k ns) i h in
-      let t = holes-end f i h in
-      let u = left .used in
-      let l = ap length e in
-      let a = left .place in
-      (sym (left .rest ∙ rw e (over-none d n)), omega arith, omega arith)
+      let e = fill-end f (drop (to .used) ns) i h in
+      record {
+        put = record { next = omega (arith, left .place, ap length e); laid = sym (left .rest ∙ rw e (over-none d (to .at))) };
+        used = omega (arith, left .used, holes-end f i h);
+      }

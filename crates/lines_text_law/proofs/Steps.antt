@@ -4,6 +4,7 @@ use native.Mathlib.Nat.{pow-suc}
 use native.Mathlib.Numerals.{add-one}
 use native.Mathlib.Omega.{arith}
 use mathlib.Core.Path.{_≡_, refl, sym, ap, _∙_}
+use mathlib.Core.Bool.{false}
 use mathlib.Core.List.{List, [], _∷_}
 use lib.ListN.{length, getD, drop, length-drop, drop-of-length-le}
 use lib.Seq.{drop-cons}
@@ -15,7 +16,7 @@ use Rattle.lines_text_law.specs.declared.Found.{Found}
 use Rattle.lines_text_law.specs.Text.{bytes}
 use Rattle.lines_text_law.specs.Grammar.{Grammar, stop, byte, either, number, word, Answer, whole, unfinished, wrong, digit, more, look}
 use Rattle.lines_text_law.specs.code.Pieces.{at, wordOn, moreOn, numberOn, thenNumber, fieldOn, ended, thenEnd, lastOn, lastly}
-use Rattle.lines_text_law.proofs.Digits.{digit-yes, digit-low, digit-high}
+use Rattle.lines_text_law.proofs.Digits.{digit-yes, digit-low, digit-high, fewer}
 
 -- what is left of a list is empty, or a byte and what is left from there
 rest-cases : {P : Type 0} (s : List ℕ) (n : ℕ) → (drop n s ≡ [] → P) → (drop n s ≡ getD s n 0 ∷ drop (n + 1) s → P) → P
@@ -172,69 +173,121 @@ pub ruleset choices = (either-end, either-this, either-else, byte-this, byte-els
 
 pub ruleset steps = (pieces, choices)
 
--- ---- the loop over a word's bytes
+-- ---- a word and a number, as code joins them: r is what the word found
 
-module _ (w s : List ℕ) (i p : ℕ) where
-  pub word-past : length w ≤ i → wordOn (drop i w) (drop p s) p ≡ Passed.To p
-  word-past h = rw (drop-of-length-le w h)
+module _ (w s : List ℕ) (n : ℕ) (r : Passed) (found : r ≡ wordOn w (drop n s) n) where
+  pub field-on : (m : ℕ) (f : Found) → r ≡ Passed.To m → f ≡ numberOn (drop m s) m → f ≡ fieldOn w s n
+  unfolding fieldOn
+  field-on m f e h = h ∙ sym (rw (← found, e))
 
-  pub word-ends : i < length w → length s ≤ p → wordOn (drop i w) (drop p s) p ≡ Passed.Short
-  word-ends h k = rw (drop-cons w i 0 h, drop-of-length-le s k)
+  pub field-cut : r ≡ Passed.Short → Found.Short ≡ fieldOn w s n
+  unfolding fieldOn
+  field-cut e = sym (rw (← found, e))
 
-  pub word-differs : i < length w → p < length s → (getD s p 0 ≡ getD w i 0 → ⊥) → wordOn (drop i w) (drop p s) p ≡ Passed.Wrong p
-  word-differs h k n = rw (drop-cons w i 0 h, drop-cons s p 0 k, ne-eqb (getD s p 0) (getD w i 0) n)
+  pub field-off : (m : ℕ) → r ≡ Passed.Wrong m → Found.Wrong m ≡ fieldOn w s n
+  unfolding fieldOn
+  field-off m e = sym (rw (← found, e))
 
-  pub word-turn : i < length w → p < length s → getD s p 0 ≡ getD w i 0
-      → wordOn (drop i w) (drop p s) p ≡ wordOn (drop (i + 1) w) (drop (p + 1) s) (p + 1)
-  word-turn h k n = rw (drop-cons w i 0 h, drop-cons s p 0 k, eq-eqb (getD s p 0) (getD w i 0) n, add-one i, add-one p)
+-- and with the line's end: f is what the field found, r the newline
+module _ (w s : List ℕ) (n : ℕ) (f : Found) (found : f ≡ fieldOn w s n) where
+  pub last-cut : f ≡ Found.Short → Found.Short ≡ lastOn w s n
+  unfolding lastOn
+  last-cut e = sym (rw (← found, e))
 
--- ---- the loop over a number's digits
+  pub last-off : (m : ℕ) → f ≡ Found.Wrong m → Found.Wrong m ≡ lastOn w s n
+  unfolding lastOn
+  last-off m e = sym (rw (← found, e))
 
-module _ (s : List ℕ) (p : ℕ) where
-  pub number-ends : length s ≤ p → numberOn (drop p s) p ≡ Found.Short
-  number-ends h = rw (drop-of-length-le s h)
+  module _ (v m : ℕ) (r : Passed) (value : f ≡ Found.Value v m) (end : r ≡ wordOn (bytes "\n") (drop m s) m) where
+    pub last-on : (k : ℕ) → r ≡ Passed.To k → Found.Value v k ≡ lastOn w s n
+    unfolding lastOn
+    last-on k e = sym (rw (← found, value, ← end, e))
 
-  pub number-zero : p < length s → getD s p 0 ≡ 48 → numberOn (drop p s) p ≡ Found.Value 0 (p + 1)
-  number-zero h e = rw (drop-cons s p 0 h, e)
+    pub end-cut : r ≡ Passed.Short → Found.Short ≡ lastOn w s n
+    unfolding lastOn
+    end-cut e = sym (rw (← found, value, ← end, e))
 
-  pub number-low : p < length s → getD s p 0 < 48 → numberOn (drop p s) p ≡ Found.Wrong p
-  number-low h e = rw (drop-cons s p 0 h, ne-eqb (getD s p 0) 48 (λ q. omega arith), digit-low (getD s p 0) e)
+    pub end-off : (k : ℕ) → r ≡ Passed.Wrong k → Found.Wrong k ≡ lastOn w s n
+    unfolding lastOn
+    end-off k e = sym (rw (← found, value, ← end, e))
 
-  pub number-high : p < length s → 58 ≤ getD s p 0 → numberOn (drop p s) p ≡ Found.Wrong p
-  number-high h e = rw (drop-cons s p 0 h, ne-eqb (getD s p 0) 48 (λ q. omega arith), digit-high (getD s p 0) e)
+-- ---- the loop over a word's bytes: o is what the whole word comes to, and so does what is left of it
 
-  pub number-first : p < length s → 48 < getD s p 0 → getD s p 0 < 58
-      → numberOn (drop p s) p ≡ moreOn 8 (getD s p 0 - 48) (drop (p + 1) s) (p + 1)
-  number-first h a b =
-      rw (
-        drop-cons s p 0 h,
-        ne-eqb (getD s p 0) 48 (λ q. omega arith),
-        digit-yes (getD s p 0) (omega arith) b,
-        add-one p,
-      )
+module _ (w s : List ℕ) (i p : ℕ) (o : Passed) (rest : o ≡ wordOn (drop i w) (drop p s) p) where
+  pub word-past : length w ≤ i → Passed.To p ≡ o
+  word-past h = sym (rest ∙ rw (drop-of-length-le w h))
 
-  pub more-ends : (f v : ℕ) → length s ≤ p → moreOn f v (drop p s) p ≡ Found.Value v p
-  more-ends zero v h = refl
-  more-ends (suc f) v h = rw (drop-of-length-le s h)
+  pub word-ends : i < length w → length s ≤ p → Passed.Short ≡ o
+  word-ends h k = sym (rest ∙ rw (drop-cons w i 0 h, drop-of-length-le s k))
 
-  pub more-low : (f v : ℕ) → p < length s → getD s p 0 < 48 → moreOn f v (drop p s) p ≡ Found.Value v p
-  more-low zero v h e = refl
-  more-low (suc f) v h e = rw (drop-cons s p 0 h, digit-low (getD s p 0) e)
+  pub word-differs : i < length w → p < length s → (getD s p 0 ≡ getD w i 0 → ⊥) → Passed.Wrong p ≡ o
+  word-differs h k n = sym (rest ∙ rw (drop-cons w i 0 h, drop-cons s p 0 k, ne-eqb (getD s p 0) (getD w i 0) n))
 
-  pub more-high : (f v : ℕ) → p < length s → 58 ≤ getD s p 0 → moreOn f v (drop p s) p ≡ Found.Value v p
-  more-high zero v h e = refl
-  more-high (suc f) v h e = rw (drop-cons s p 0 h, digit-high (getD s p 0) e)
+  pub word-turn : i < length w → p < length s → getD s p 0 ≡ getD w i 0 → o ≡ wordOn (drop (i + 1) w) (drop (p + 1) s) (p + 1)
+  word-turn h k n = rest ∙ rw (drop-cons w i 0 h, drop-cons s p 0 k, eq-eqb (getD s p 0) (getD w i 0) n, add-one i, add-one p)
 
-  pub more-turn : (f v : ℕ) → p < length s → 48 ≤ getD s p 0 → getD s p 0 < 58 → 0 < f
-      → moreOn f v (drop p s) p ≡ moreOn (f - 1) (v * 10 + (getD s p 0 - 48)) (drop (p + 1) s) (p + 1)
-  more-turn zero v h a b z = absurd (let y : ⊥ = omega arith in y)
-  more-turn (suc f) v h a b z =
-      let e : suc f - 1 ≡ f = omega arith in
-      rw (drop-cons s p 0 h, digit-yes (getD s p 0) a b, e, add-one p)
+-- ---- a number's first byte, b
 
--- one digit more, one place less
-pub one-more : (left v d : ℕ) → 0 < left → left ≤ 8 → v < 10 ^ (9 - left) → d < 10 → v * 10 + d < 10 ^ (9 - (left - 1))
-one-more left v d a b c h =
-    let e : 9 - (left - 1) ≡ suc (9 - left) = omega arith in
-    let q = pow-suc 10 (9 - left) in
-    rw e (omega arith)
+pub number-ends : (s : List ℕ) (p : ℕ) → length s ≤ p → Found.Short ≡ numberOn (drop p s) p
+number-ends s p h = sym (rw (drop-of-length-le s h))
+
+module _ (s : List ℕ) (p b : ℕ) (there : p < length s) (read : b ≡ getD s p 0) where
+  pub number-zero : b ≡ 48 → Found.Value 0 (p + 1) ≡ numberOn (drop p s) p
+  number-zero e = sym (rw (drop-cons s p 0 there, ← read, e))
+
+  pub number-low : b < 48 → Found.Wrong p ≡ numberOn (drop p s) p
+  number-low e = sym (rw (drop-cons s p 0 there, ← read, ne-eqb b 48 (λ q. omega arith), digit-low b e))
+
+  pub number-high : 58 ≤ b → Found.Wrong p ≡ numberOn (drop p s) p
+  number-high e = sym (rw (drop-cons s p 0 there, ← read, ne-eqb b 48 (λ q. omega arith), digit-high b e))
+
+  pub number-first : (b ≡ 48 → ⊥) → 48 ≤ b → b < 58 → numberOn (drop p s) p ≡ moreOn 8 (b - 48) (drop (p + 1) s) (p + 1)
+  number-first n h k = rw (drop-cons s p 0 there, ← read, ne-eqb b 48 n, digit-yes b h k, add-one p)
+
+-- ---- the loop over its further digits, d each: o is what the whole number comes to
+
+module _ (s : List ℕ) (p f v : ℕ) (o : Found) (rest : o ≡ moreOn f v (drop p s) p) where
+  more-is : {x : Found} → moreOn f v (drop p s) p ≡ x → x ≡ o
+  more-is e = sym (rest ∙ e)
+
+  pub more-none : f ≤ 0 → Found.Value v p ≡ o
+  more-none h = let z : f ≡ 0 = omega arith in more-is (rw z)
+
+  pub more-ends : length s ≤ p → Found.Value v p ≡ o
+  more-ends h = more-is (go f)
+    where
+      go : (k : ℕ) → moreOn k v (drop p s) p ≡ Found.Value v p
+      go zero = refl
+      go (suc k) = rw (drop-of-length-le s h)
+
+  module _ (d : ℕ) (there : p < length s) (read : d ≡ getD s p 0) where
+    no-digit : digit d ≡ false → Found.Value v p ≡ o
+    no-digit e = more-is (go f)
+      where
+        go : (k : ℕ) → moreOn k v (drop p s) p ≡ Found.Value v p
+        go zero = refl
+        go (suc k) = rw (drop-cons s p 0 there, ← read, e)
+
+    pub more-low : d < 48 → Found.Value v p ≡ o
+    more-low e = no-digit (digit-low d e)
+
+    pub more-high : 58 ≤ d → Found.Value v p ≡ o
+    more-high e = no-digit (digit-high d e)
+
+    pub more-turn : 0 < f → 48 ≤ d → d < 58 → o ≡ moreOn (f - 1) (v * 10 + (d - 48)) (drop (p + 1) s) (p + 1)
+    more-turn z a b = rest ∙ go f z
+      where
+        go : (k : ℕ) → 0 < k → moreOn k v (drop p s) p ≡ moreOn (k - 1) (v * 10 + (d - 48)) (drop (p + 1) s) (p + 1)
+        go zero y = absurd (let x : ⊥ = omega arith in x)
+        go (suc k) y = let e : suc k - 1 ≡ k = omega arith in rw (drop-cons s p 0 there, ← read, digit-yes d a b, e, add-one p)
+
+-- one digit more, one place less; and never more than nine digits
+module _ (left v d : ℕ) (some : 0 < left) (few : left ≤ 8) (below : v < 10 ^ (9 - left)) (low : 48 ≤ d) (high : d < 58) where
+  pub one-more : v * 10 + (d - 48) < 10 ^ (9 - (left - 1))
+  one-more =
+      let e : 9 - (left - 1) ≡ suc (9 - left) = omega arith in
+      let q = pow-suc 10 (9 - left) in
+      rw e (omega arith)
+
+  pub nine-most : v * 10 + (d - 48) < 10 ^ 9
+  nine-most = fewer (9 - (left - 1)) 9 (v * 10 + (d - 48)) (omega arith) one-more

@@ -9,16 +9,20 @@ use Rattle.terms.specs.declared.Entry.{Entry}
 use Rattle.terms.specs.declared.Event.{Event}
 use Rattle.terms.specs.declared.Kind.{Kind}
 use Rattle.terms.specs.declared.Life.{Life}
+use Rattle.terms.specs.declared.Refusal.{Refusal}
 use Rattle.terms.specs.declared.Report.{Report}
 use Rattle.terms.specs.declared.Said.{Said}
 use Rattle.terms.specs.declared.Said.the-variants.{Cancel}
 use Rattle.terms.specs.declared.Ended.{Ended}
 use Rattle.terms.specs.declared.Settings.{Settings}
 use Rattle.terms.specs.declared.Side.{Side}
+use Rattle.terms.specs.Refusals.{numberOf}
 use Rattle.terms.specs.Reports.{whyOf}
+use Rattle.lines_text_law.specs.Text.{bytes}
+use Rattle.lines_text_law.specs.Forms.{holes}
 use Rattle.lines_reading_law.specs.Lines.{actHead, sideWord, orderForm, priceNumbers, actNumbers, eventForm, eventNumbers, renderEvent, settingsForm, settingsNumbers, renderSettings}
 use Rattle.lines_writing_law.specs.declared.Wrote.{Wrote}
-use Rattle.lines_writing_law.specs.Lines.{orderNumbers, saidNumbers, reportForm, reportNumbers, renderReport}
+use Rattle.lines_writing_law.specs.Lines.{orderNumbers, saidNumbers, saidHead, reportForm, reportNumbers, renderReport, refusedNumbers, renderRefused, badNumbers, renderBad}
 use Rattle.lines_writing_law.specs.Writes.{Writes, WritesForm}
 
 module _ {d d′ : List ℕ} {r : Wrote} where
@@ -48,5 +52,16 @@ module _ {d d′ : List ℕ} {r : Wrote} where
   pub by-ended : (p : Report) (e : Ended) (why : ℕ) → p .said ≡ Cancel e → why ≡ whyOf (e .why)
       → WritesForm d (reportForm (Cancel e)) (p .time ∷ e .number ∷ e .lots ∷ why ∷ []) r d′
       → Writes d (renderReport p) (reportNumbers p) r d′
-  unfolding renderReport
+  unfolding renderReport holes
   by-ended p e why q n w = rw (q, ← n) w
+
+  -- a refusal by its number
+  pub by-refused : (time : ℕ) (q : Refusal) (code : ℕ) → code ≡ numberOf q → WritesForm d (saidHead ++ bytes "refuse code=#\n") (time ∷ code ∷ []) r d′
+      → Writes d (renderRefused time q) (refusedNumbers time q) r d′
+  unfolding renderRefused
+  by-refused time q code n w = rw (← n) w
+
+  pub by-bad : (q : Refusal) (place code : ℕ) → code ≡ numberOf q → WritesForm d (bytes "say=bad" ++ bytes " code=# at=#\n") (code ∷ place ∷ []) r d′
+      → Writes d (renderBad q place) (badNumbers q place) r d′
+  unfolding renderBad
+  by-bad q place code n w = rw (← n) w

@@ -13,7 +13,7 @@ use Rattle.terms.specs.Reports.{whyOf}
 use Rattle.lines_text_law.specs.Text.{bytes, letter}
 use Rattle.lines_text_law.specs.Numerals.{numeral}
 use Rattle.terms.specs.Numbers.{Writable}
-use Rattle.lines_text_law.specs.Forms.{fill}
+use Rattle.lines_text_law.specs.Forms.{fill, holes}
 use Rattle.lines_text_law.specs.Grammar.{Grammar, stop, byte, either, number, word}
 use Rattle.lines_text_law.specs.code.Pieces.{lastly}
 use Rattle.lines_text_law.proofs.Grammars.{Spells, s-stop, s-byte, s-this, s-else, s-number, s-word, s-last, Plain, Agrees, agreed}
@@ -87,7 +87,7 @@ plain =
     )
 
 agrees : Agrees renderReport (λ r. Writable (reportNumbers r)) reportGrammar (λ x. x)
-unfolding reportGrammar says lastly word renderReport fill numeral
+unfolding reportGrammar says lastly word renderReport fill holes numeral
 agrees =
     λ t h. (
       (λ i k. (refl, (h, (k, tt)))),
@@ -134,7 +134,7 @@ reason-spells f OutsideBand = s-else (s-else (s-else (s-this (s-word (bytes "\n"
 reason-spells f DayEnd = s-else (s-else (s-else (s-else (s-byte (s-word (bytes "\n") s-stop)))))
 
 said-spells : (t : ℕ) (s : Said) → Writable (reportNumbers (report t s)) → Spells reportGrammar (report t s) (renderReport (report t s))
-unfolding says renderReport fill
+unfolding says renderReport fill holes
 said-spells t (Accept i) f = time-spells t (f .0) (s-this (s-last (bytes "ccept id=") (λ i. report t (Accept i)) i (f .1 .0)))
 said-spells t (Trade d) f =
     time-spells t (f .0)

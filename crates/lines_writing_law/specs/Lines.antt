@@ -1,15 +1,16 @@
 -- Document 01, "Session lines": the lines that are written and never read, those of reports and the program's own.
 use Prim.Native.Nat.{ℕ}
 use mathlib.Core.List.{List, [], _∷_, _++_}
+use lib.ListN.{take}
 use Rattle.terms.specs.declared.Entry.{Entry}
 use Rattle.terms.specs.declared.Said.{Said}
 use Rattle.terms.specs.declared.Said.the-variants.{Accept, Trade, Convert, Cancel, Slab, Ref, Close}
 use Rattle.terms.specs.declared.Report.{Report}
 use Rattle.terms.specs.declared.Refusal.{Refusal}
-use Rattle.terms.specs.Reports.{whyOf}
+use Rattle.tables.specs.Records.{fieldsOf}
 use Rattle.terms.specs.Refusals.{numberOf}
 use Rattle.lines_text_law.specs.Text.{bytes}
-use Rattle.lines_text_law.specs.Forms.{fill}
+use Rattle.lines_text_law.specs.Forms.{fill, holes}
 use Rattle.lines_reading_law.specs.Lines.{priceNumbers}
 
 -- ---- orders: the numbers of an order's line
@@ -28,14 +29,9 @@ saidForm (Slab band) = bytes "slab low=# high=#\n"
 saidForm (Ref price) = bytes "ref price=#\n"
 saidForm (Close closing) = bytes "close price=# base=#\n"
 
+-- the fields of its record, one for each # of its form
 abbrev pub saidNumbers : Said → List ℕ
-saidNumbers (Accept number) = number ∷ []
-saidNumbers (Trade d) = d .buy ∷ d .sell ∷ d .lots ∷ d .price ∷ []
-saidNumbers (Convert o) = o .number ∷ o .lots ∷ o .price ∷ []
-saidNumbers (Cancel e) = e .number ∷ e .lots ∷ whyOf (e .why) ∷ []
-saidNumbers (Slab b) = b .low ∷ b .high ∷ []
-saidNumbers (Ref price) = price ∷ []
-saidNumbers (Close c) = c .price ∷ c .base ∷ []
+saidNumbers s = take (holes (saidForm s)) (fieldsOf s)
 
 -- "t=# say=", which every report line begins with
 abbrev pub saidHead : List ℕ

@@ -4,9 +4,9 @@ use native.Mathlib.Omega.{arith}
 use native.Mathlib.Numerals.{add-one}
 use mathlib.Core.Path.{_≡_, refl, sym, ap, _∙_}
 use mathlib.Core.Bool.{Bool, true, false, cond, _&&_}
-use mathlib.Core.List.{List, [], _∷_}
-use lib.ListN.{length, getD, take, drop, length-take, length-drop}
-use lib.Seq.{drop-cons}
+use mathlib.Core.List.{List, [], _∷_, _++_}
+use lib.ListN.{length, getD, take, drop, length-append, length-take, length-drop}
+use lib.Seq.{drop-cons, take-at}
 use lib.Dec.{eqb}
 use borrow.Author.Tests.{eqb-true, eq-eqb, ne-eqb}
 use Rattle.terms.specs.declared.Report.{Report}
@@ -21,7 +21,7 @@ use Rattle.terms.proofs.Logic.{by, split}
 use Rattle.tables.proofs.Records.{length-record}
 use Rattle.records_law.specs.declared.ReadRecord.{ReadRecord}
 use Rattle.records_law.specs.declared.ReadWhy.{ReadWhy}
-use Rattle.records_law.specs.Back.{RecordRead, whyFrom, zeroTwo, zeroThree, toldIf, endedFrom, reportFrom}
+use Rattle.records_law.specs.Back.{RecordRead, whyFrom, zeroTwo, zeroThree, toldIf, endedFrom, reportFrom, reportIn}
 
 -- ---- a cascade of tests for a number, a `return` at a time: `search numbered`
 
@@ -40,10 +40,6 @@ pub ruleset numbered = (here, there, same)
 abbrev six : ℕ → ℕ → ℕ → ℕ → ℕ → ℕ → List ℕ
 six k t a b c d = k ∷ t ∷ a ∷ b ∷ c ∷ d ∷ []
 
--- what six numbers are told as
-abbrev from : List ℕ → ReadRecord
-from ns = reportFrom (getD ns 0 0) (getD ns 1 0) (getD ns 2 0) (getD ns 3 0) (getD ns 4 0) (getD ns 5 0)
-
 -- ---- a report is told back from its record
 
 told-why : (t : ℕ) (n l : ℕ) (w : Why) → endedFrom (whyFrom (whyOf w)) t n l 0 ≡ ReadRecord.Told (record { time = t; said = Cancel (record { number = n; lots = l; why = w }) })
@@ -53,7 +49,7 @@ told-why t n l OutOfRange = refl
 told-why t n l OutsideBand = refl
 told-why t n l DayEnd = refl
 
-told-said : (t : ℕ) (s : Said) → from (recordOf (record { time = t; said = s })) ≡ ReadRecord.Told (record { time = t; said = s })
+told-said : (t : ℕ) (s : Said) → reportIn (recordOf (record { time = t; said = s })) ≡ ReadRecord.Told (record { time = t; said = s })
 unfolding recordOf reportFrom
 told-said t (Accept n) = refl
 told-said t (Trade d) = refl
@@ -63,7 +59,7 @@ told-said t (Slab b) = refl
 told-said t (Ref p) = refl
 told-said t (Close c) = refl
 
-pub told-back : (r : Report) → from (recordOf r) ≡ ReadRecord.Told r
+pub told-back : (r : Report) → reportIn (recordOf r) ≡ ReadRecord.Told r
 told-back r = told-said (r .time) (r .said)
 
 -- ---- what is told has that record
@@ -136,11 +132,11 @@ told-right k t a b c d = go (reportFrom k t a b c d) refl (only k t a b c d)
   where
     go : (o : ReadRecord) → reportFrom k t a b c d ≡ o → Only (six k t a b c d) o → RecordRead (six k t a b c d) o
     go (ReadRecord.Told r) e h = h
-    go ReadRecord.Nothing e h = λ r q. not-told r (sym e ∙ ap from q ∙ told-back r)
+    go ReadRecord.Nothing e h = λ r q. not-told r (sym e ∙ ap reportIn q ∙ told-back r)
 
 -- and the only one
 pub told-only : (ns : List ℕ) (o q : ReadRecord) → RecordRead ns o → RecordRead ns q → o ≡ q
-told-only ns (ReadRecord.Told r) (ReadRecord.Told s) a b = sym (told-back r) ∙ ap from (sym a ∙ b) ∙ told-back s
+told-only ns (ReadRecord.Told r) (ReadRecord.Told s) a b = sym (told-back r) ∙ ap reportIn (sym a ∙ b) ∙ told-back s
 told-only ns (ReadRecord.Told r) ReadRecord.Nothing a b = absurd (b r a)
 told-only ns ReadRecord.Nothing (ReadRecord.Told s) a b = absurd (a s b)
 told-only ns ReadRecord.Nothing ReadRecord.Nothing a b = refl
@@ -157,6 +153,9 @@ too-few s n h r e =
     let m : length (take recordLength (drop n s)) ≤ length s - n = simp (length-take, length-drop) (omega arith) in
     omega arith
 
+pub past-end : (s : List ℕ) (n : ℕ) → length s < n → RecordRead (take recordLength (drop n s)) ReadRecord.Nothing
+past-end s n h = too-few s n (omega arith)
+
 next-at : (s : List ℕ) (i j : ℕ) → j ≡ i + 1 → i < length s → drop i s ≡ getD s i 0 ∷ drop j s
 next-at s i j e h = rw (e, add-one i) (drop-cons s i 0 h)
 
@@ -171,3 +170,20 @@ six-at s n h =
       next-at s (n + 4) (n + 5) (omega arith) (omega arith),
       next-at s (n + 5) (n + 6) (omega arith) (omega arith),
     )
+
+-- what code tells of the six numbers there
+pub told-there : (s : List ℕ) (n : ℕ) (o : ReadRecord) → n ≤ length s → recordLength ≤ length s - n
+    → o ≡ reportFrom (getD s n 0) (getD s (n + 1) 0) (getD s (n + 2) 0) (getD s (n + 3) 0) (getD s (n + 4) 0) (getD s (n + 5) 0)
+    → RecordRead (take recordLength (drop n s)) o
+told-there s n o h k e = rw (e, six-at s n (omega arith)) (told-right _ _ _ _ _ _)
+
+-- and what the first six of some numbers tell, however it was found
+pub told-first : (ns : List ℕ) (o : ReadRecord) → recordLength ≤ length ns → RecordRead (take recordLength ns) o → o ≡ reportIn ns
+told-first ns o h k = told-only (take recordLength ns) o (reportIn ns) k (told-there ns 0 (reportIn ns) (omega arith) (omega arith) refl)
+
+-- a report's record tells it, whatever follows
+pub told-front : (r : Report) (l : List ℕ) → reportIn (recordOf r ++ l) ≡ ReadRecord.Told r
+told-front r l =
+    let n = length-record r in
+    let long : recordLength ≤ length (recordOf r ++ l) = rw length-append (omega arith) in
+    sym (told-first (recordOf r ++ l) (ReadRecord.Told r) long (take-at (recordOf r) l recordLength n))

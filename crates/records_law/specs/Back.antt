@@ -3,6 +3,7 @@ use Prim.Native.Nat.{ℕ}
 use mathlib.Core.Path.{_≡_}
 use mathlib.Core.Bool.{Bool, true, cond, _&&_}
 use mathlib.Core.List.{List}
+use lib.ListN.{getD}
 use lib.Dec.{eqb}
 use Rattle.terms.specs.declared.Report.{Report}
 use Rattle.terms.specs.declared.Deal.{Deal}
@@ -56,3 +57,7 @@ reportFrom kind time a b c d =
     (cond (eqb kind 5) (toldIf (zeroTwo c d) time (Slab (record { low = a; high = b })))
     (cond (eqb kind 6) (toldIf (zeroThree b c d) time (Ref a))
     (cond (eqb kind 7) (toldIf (zeroTwo c d) time (Close (record { price = a; base = b }))) ReadRecord.Nothing))))))
+
+-- what the first six of some numbers tell
+abbrev pub reportIn : List ℕ → ReadRecord
+reportIn ns = reportFrom (getD ns 0 0) (getD ns 1 0) (getD ns 2 0) (getD ns 3 0) (getD ns 4 0) (getD ns 5 0)

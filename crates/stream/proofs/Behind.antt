@@ -1,19 +1,50 @@
--- A read behind what is kept.
-use Prim.Native.Nat.{ℕ, _+_, _-_, _≤_}
+-- A read behind what is kept, and what comes of it.
+use Prim.Native.Nat.{ℕ, _+_, _-_, _^_, _≤_, _<_}
 use native.Mathlib.Omega.{arith}
+use native.Mathlib.Nat.{le-of-lt}
 use mathlib.Core.Path.{_≡_, ap, _∙_, subst}
 use mathlib.Core.List.{List}
 use lib.ListN.{length, take, drop, length-drop}
+use borrow.Rule.Slice.PartMut.{putMid, same-len-mid}
+use mir.Syntax.{w64}
+use mir.Val.{Fits}
 use Rattle.descriptors.specs.declared.Got.{Got}
 use Rattle.descriptors.specs.Counted.{GotWithin}
 use Rattle.descriptors.proofs.Parts.{got-within}
+use Rattle.stream_law.specs.declared.Held.{Held}
+use Rattle.stream_law.specs.declared.Reading.{Reading}
+use Rattle.stream_law.specs.Streams.{heldAs, TakesIn, FrontKept, HearsOn}
 use Rattle.stream_law.proofs.Beginnings.{rest-is}
+use Rattle.stream_law.proofs.Hearing.{front-kept, hears-none, hears-some, off-done, off-failed}
+use Rattle.stream.specs.Front.{ReadBehind}
 
 -- what is read into the rest of a buffer is at most what is left of it
-pub within-rest : (buf : List ℕ) (have : ℕ) (r : Got) → GotWithin (length (take (length buf - have) (drop have buf))) r →
-    GotWithin (length buf - have) r
-within-rest buf have r h = subst (λ (n : ℕ). GotWithin n r) (ap length (rest-is buf have) ∙ length-drop have buf) h
+pub read-behind : {have : ℕ} {buf : List ℕ} (part′ : List ℕ) {r : Got} → have < length buf → GotWithin (length (take (length buf - have) (drop have buf))) r →
+    length part′ ≡ length (take (length buf - have) (drop have buf)) → ReadBehind have buf (putMid have (length buf - have) buf part′) r
+read-behind {have} {buf} part′ {r} h k e =
+    record {
+      kept = record { same = same-len-mid have (length buf - have) buf part′ e; front = front-kept buf _ have (le-of-lt h) };
+      got = subst (λ (n : ℕ). GotWithin n r) (ap length (rest-is buf have) ∙ length-drop have buf) k;
+    }
 
--- so many bytes came behind those that were kept
-pub end-within : (buf : List ℕ) {have n : ℕ} {r : Got} → have ≤ length buf → GotWithin (length buf - have) r → r ≡ Got.Bytes n → have + n ≤ length buf
-end-within buf h k e = let l = got-within k e in omega arith
+module _ {have n : ℕ} {buf buf₁ : List ℕ} {g : Got} (b : ReadBehind have buf buf₁ g) (some : g ≡ Got.Bytes n) (h : have < length buf) where
+  -- so many bytes came behind those that were kept
+  end-there : have + n ≤ length buf
+  end-there = let l = got-within (b .got) some in omega arith
+
+  pub end-within : have + n ≤ length buf₁
+  end-within = let l = end-there in let s = b .kept .same in omega arith
+
+  pub end-fits : length buf < 2 ^ 64 → Fits w64 (have + n)
+  end-fits w = record { fits = let l = end-there in omega arith }
+
+module _ {expected buys sells : List ℕ} {h r : Held} {buf buf₁ : List ℕ} {g : Got} (b : ReadBehind (h .have) buf buf₁ g) where
+  pub came-some : {n : ℕ} {buf′ buys′ sells′ : List ℕ} → g ≡ Got.Bytes n → TakesIn expected (h .run) buf₁ (h .have + n) buys sells (h .to) buf′ buys′ sells′ r →
+      HearsOn expected h buf buys sells buf′ buys′ sells′ r
+  came-some {n} e k = hears-some (b .kept) n k
+
+  pub came-none : h .have < length buf → r ≡ heldAs (h .run) (h .have) (h .to) Reading.Done → HearsOn expected h buf buys sells buf₁ buys sells r
+  came-none k e = hears-none (b .kept) off-done k e
+
+  pub came-failed : h .have < length buf → r ≡ heldAs (h .run) (h .have) (h .to) Reading.Failed → HearsOn expected h buf buys sells buf₁ buys sells r
+  came-failed k e = hears-none (b .kept) off-failed k e

@@ -12,21 +12,21 @@ use stream_law::Held;
 use stream_law::Reading;
 use stream_law::Sink;
 use tables::lengths;
-ghost use Prim.Native.Nat.{_-_, _<_};
+ghost use Prim.Native.Nat.{_<_};
 ghost use mathlib.Core.Path.{_≡_};
 ghost use mathlib.Core.List.{[]};
 ghost use lib.ListN.{length};
 ghost use Rattle.terms.specs.Sizes.{lineRoom};
-ghost use Rattle.descriptors.specs.Counted.{GotWithin};
 ghost use Rattle.feed_law.specs.Feeds.{begun};
-ghost use Rattle.stream_law.specs.Streams.{Tables, holding, isOn, heldAs, heldOn, FrontKept, Hears, isDone, ThroughAs, Compares, PrintedAs};
+ghost use Rattle.stream.specs.Front.{ReadBehind};
+ghost use Rattle.stream_law.specs.Streams.{Tables, holding, isOn, heldAs, Hears, HearsOn, isDone, ThroughAs, Compares, PrintedAs};
 
 // ---- reads
 
 // Reads once behind what is kept.
 fn read_behind(fd: i32, have: usize, buf: &mut [u8]) -> Got
     requires { ⌜ have < length (now buf) ⌝ }
-    ensures { λ r. ⌜ FrontKept have (now (buf .entry)) (now (buf .exit)) × GotWithin (length (now (buf .entry)) - have) r ⌝ }
+    ensures { λ r. ⌜ ReadBehind have (now (buf .entry)) (now (buf .exit)) r ⌝ }
 {
     reading::read_some(fd, &mut buf[have..])
 }
@@ -53,7 +53,7 @@ fn read_on(
 ) -> Held
     requires { ⌜ Tables (now buys) (now sells) ⌝ }
     requires { ⌜ h .have < length (now buf) ⌝ }
-    ensures { λ r. ⌜ Hears (now (expected .entry)) (heldOn (now (buf .entry)) (now (buys .entry)) (now (sells .entry)) h) (h .to) (now (buf .exit)) (now (buys .exit)) (now (sells .exit)) r ⌝ }
+    ensures { λ r. ⌜ HearsOn (now (expected .entry)) h (now (buf .entry)) (now (buys .entry)) (now (sells .entry)) (now (buf .exit)) (now (buys .exit)) (now (sells .exit)) r ⌝ }
 {
     let run = h.run;
     let have = h.have;

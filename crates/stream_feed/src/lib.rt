@@ -13,16 +13,15 @@ use stream_law::Reading;
 use stream_law::Sink;
 use tables::lengths;
 use terms::sizes;
-ghost use Prim.Native.Nat.{_-_, _≤_};
+ghost use Prim.Native.Nat.{_≤_};
 ghost use mathlib.Core.Path.{_≡_};
 ghost use mathlib.Core.Bool.{cond};
-ghost use lib.ListN.{length, take, drop};
+ghost use lib.ListN.{length};
 ghost use Rattle.terms.specs.Sizes.{lineRoom};
 ghost use Rattle.feed_law.specs.Texts.{endText};
-ghost use Rattle.feed_law.specs.Feeds.{fedOf};
 ghost use Rattle.stream_law.specs.declared.Reading.{Reading};
 ghost use Rattle.stream_law.specs.Sinks.{SentAs, isOpen};
-ghost use Rattle.stream_law.specs.Streams.{Tables, isFull, moreAfter, fedHere, HandedAs, handedTo, holding, OverAs, readingAfter, TakesIn, EndsAs};
+ghost use Rattle.stream_law.specs.Streams.{Tables, isFull, moreAfter, HandedIn, HandedFrom, holding, OverAs, readingAfter, ToFront, TakesIn, EndsAs};
 
 // The output room: what two lines of input can print at most, so that many go out in one write.
 const OUT: usize = lines::TEXT * 2;
@@ -58,7 +57,7 @@ fn hand_in(
     room: &mut [u64],
     out: &mut [u8],
 ) -> Handed
-    ensures { λ r. ⌜ HandedAs (fedOf run (now (buys .entry)) (now (sells .entry)) (now (room .entry)) (now (bytes .entry)) (now (out .entry))) (now (expected .entry)) to (now (buys .exit)) (now (sells .exit)) r × (r .used ≤ length (now (bytes .entry))) ⌝ }
+    ensures { λ r. ⌜ HandedIn run (now (buys .entry)) (now (sells .entry)) (now (room .entry)) (now (bytes .entry)) (now (out .entry)) (now (expected .entry)) to (now (buys .exit)) (now (sells .exit)) r ⌝ }
 {
     let t = lines::take_lines(run, bytes, buys, sells, room, out);
     let after = t.run;
@@ -75,34 +74,34 @@ fn hand_in(
     }
 }
 
-// One call of feed, in rooms that hold nothing before it.
+// One call of feed on the bytes from `at` on, in rooms that hold nothing before it.
 fn hand_some(
     to: Sink,
     expected: &[u8],
     run: Run,
     bytes: &[u8],
+    at: usize,
     buys: &mut [u64],
     sells: &mut [u64],
 ) -> Handed
-    ensures { λ r. ⌜ HandedAs (fedHere run (now (buys .entry)) (now (sells .entry)) (now (bytes .entry))) (now (expected .entry)) to (now (buys .exit)) (now (sells .exit)) r × (r .used ≤ length (now (bytes .entry))) ⌝ }
+    requires { ⌜ at ≤ length (now bytes) ⌝ }
+    ensures { λ r. ⌜ HandedFrom run (now (buys .entry)) (now (sells .entry)) (now (bytes .entry)) at (now (expected .entry)) to (now (buys .exit)) (now (sells .exit)) r ⌝ }
 {
     let mut room = [0u64; lengths::ROOM];
     let mut out = [0u8; OUT];
-    hand_in(to, expected, run, bytes, buys, sells, &mut room, &mut out)
+    hand_in(
+        to,
+        expected,
+        run,
+        &bytes[at..],
+        buys,
+        sells,
+        &mut room,
+        &mut out,
+    )
 }
 
 // ---- all whole lines
-
-fn handed(run: Run, used: usize, to: Sink) -> Handed
-    ensures { λ r. ⌜ r ≡ handedTo run used to ⌝ }
-{
-    Handed {
-        run: run,
-        used: used,
-        to: to,
-        more: false,
-    }
-}
 
 // Hands all whole lines over, one call after the other, while more may be sent.
 fn hand_over(
@@ -120,17 +119,27 @@ fn hand_over(
     let mut sink = to;
     let mut at: usize = 0;
     while at < bytes.len() {
-        let h = hand_some(sink, expected, now, &bytes[at..], buys, sells);
+        let h = hand_some(sink, expected, now, bytes, at, buys, sells);
         let used = h.used;
         let more = h.more;
         now = h.run;
         sink = h.to;
         at += used;
         if !more {
-            return handed(now, at, sink);
+            return Handed {
+                run: now,
+                used: at,
+                to: sink,
+                more: false,
+            };
         }
     }
-    handed(now, at, sink)
+    Handed {
+        run: now,
+        used: at,
+        to: sink,
+        more: false,
+    }
 }
 
 // ---- a buffer
@@ -138,7 +147,7 @@ fn hand_over(
 // Moves the bytes from a place up to an end to the front.
 fn to_front(buf: &mut [u8], start: usize, end: usize)
     requires { ⌜ (start ≤ end) × (end ≤ length (now buf)) ⌝ }
-    ensures { λ _. ⌜ take (end - start) (now (buf .exit)) ≡ drop start (take end (now (buf .entry))) ⌝ }
+    ensures { λ _. ⌜ ToFront (now (buf .entry)) start end (now (buf .exit)) ⌝ }
 {
     let n = end - start;
     let mut i: usize = 0;
@@ -180,7 +189,7 @@ pub fn take_in(
 ) -> Held
     requires { ⌜ Tables (now buys) (now sells) ⌝ }
     requires { ⌜ end ≤ length (now buf) ⌝ }
-    ensures { λ r. ⌜ TakesIn (now (expected .entry)) (holding run (now (buys .entry)) (now (sells .entry)) (take end (now (buf .entry)))) to (now (buf .exit)) (now (buys .exit)) (now (sells .exit)) r ⌝ }
+    ensures { λ r. ⌜ TakesIn (now (expected .entry)) run (now (buf .entry)) end (now (buys .entry)) (now (sells .entry)) to (now (buf .exit)) (now (buys .exit)) (now (sells .exit)) r ⌝ }
 {
     let h = hand_over(to, expected, run, &buf[0..end], buys, sells);
     let used = h.used;

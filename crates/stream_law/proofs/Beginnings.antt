@@ -4,7 +4,7 @@ use native.Mathlib.Omega.{arith}
 use native.Mathlib.Nat.{le-of-eq, le-of-lt}
 use native.Mathlib.Numerals.{add-one}
 use mathlib.Core.Path.{_≡_, refl, sym, ap, _∙_}
-use mathlib.Core.Bool.{true, false, cond, false≢true}
+use mathlib.Core.Bool.{Bool, true, false, cond, false≢true}
 use mathlib.Core.List.{List, [], _∷_, _++_}
 use lib.ListN.{length, getD, take, drop, length-append, length-drop, drop-of-length-le}
 use lib.Seq.{drop-cons, take-all}
@@ -107,6 +107,10 @@ pub past-end : (xs ys : List ℕ) (at : ℕ) → length ys < at → eqb (length 
 unfolding begins
 past-end [] ys at h = eq-eqb 0 0 refl
 past-end (x ∷ xs) ys at h = rw (drop-of-length-le ys (le-of-lt h)) (ne-eqb (suc (length xs)) 0 (λ e. omega arith))
+
+-- the bytes that follow it decide
+pub begins-there : (xs ys : List ℕ) (at : ℕ) {found : Bool} → found ≡ begins xs (take (length ys - at) (drop at ys)) → found ≡ begins xs (drop at ys)
+begins-there xs ys at e = e ∙ ap (begins xs) (rest-is ys at)
 
 -- bytes that follow a place end within the expected output, or there are none: so the place is a number like these two
 pub place-fits : (xs ys : List ℕ) (at most : ℕ) → begins xs (drop at ys) ≡ true → at < most → length ys < most → at + length xs < most

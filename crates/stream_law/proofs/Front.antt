@@ -7,6 +7,7 @@ use mathlib.Core.Path.{_≡_, refl, sym, ap, _∙_}
 use mathlib.Core.List.{List, [], _∷_, _++_}
 use lib.ListN.{length, getD, take, drop, set, length-set, length-drop}
 use lib.Seq.{take-suc, take-suc-set, drop-set-lt, drop-drop, getD-drop, take-nil}
+use Rattle.stream_law.specs.Streams.{ToFront}
 
 -- the first i were moved, and what stands behind them is as it was
 pub record Moved (buf₀ : List ℕ) (start i : ℕ) (buf : List ℕ) : Type 0 where
@@ -58,7 +59,9 @@ drop-take (x ∷ s) (suc start) (suc n) h =
     let e : suc n - suc start ≡ n - start = omega arith in
     drop-take s start n (omega arith) ∙ ap (λ (k : ℕ). take k (drop start s)) (sym e)
 
-pub moved-front : {buf₀ : List ℕ} {start i : ℕ} {buf : List ℕ} (end : ℕ) → Moved buf₀ start i buf → start ≤ end → i ≡ end - start →
-    take (end - start) buf ≡ drop start (take end buf₀)
-moved-front {buf₀} {start} {i} {buf} end m h e =
-    ap (λ (n : ℕ). take n buf) (sym e) ∙ m .front ∙ ap (λ (n : ℕ). take n (drop start buf₀)) e ∙ sym (drop-take buf₀ start end h)
+pub moved-front : {buf₀ : List ℕ} {start i end : ℕ} {buf : List ℕ} → Moved buf₀ start i buf → start ≤ end → i ≡ end - start → ToFront buf₀ start end buf
+moved-front {buf₀} {start} {i} {end} {buf} m h e =
+    record {
+      front =
+          ap (λ (n : ℕ). take n buf) (sym e) ∙ m .front ∙ ap (λ (n : ℕ). take n (drop start buf₀)) e ∙ sym (drop-take buf₀ start end h);
+    }

@@ -34,7 +34,8 @@ use Rattle.promises.proofs.Printing.{same-printed, fed-long}
 use Rattle.stream_law.specs.declared.Sink.{Sink}
 use Rattle.stream_law.specs.declared.Handed.{Handed}
 use Rattle.stream_law.specs.Sinks.{SentAs, isOpen}
-use Rattle.stream_law.specs.Streams.{outRoom, zeros, Tables, isFull, moreAfter, HandedAs, holding, Goes, NoLine}
+use Rattle.stream_law.specs.Streams.{outRoom, zeros, Tables, isFull, moreAfter, HandedAs, HandedIn, HandedFrom, holding, Goes, NoLine}
+use Rattle.stream_law.proofs.Beginnings.{rest-is, part-within}
 use Rattle.stream_law.proofs.Sends.{sent-none, sent-then}
 
 -- ---- nothing, and one after the other
@@ -79,23 +80,31 @@ room-text {out} {text} {out′} {n} p =
     let z : n - 0 ≡ n = omega arith in
     ap (λ (m : ℕ). take m out′) z ∙ (λ i. take (p .count i) (p .laid i)) ∙ take-append-seam text (drop (length text) out)
 
-pub handed : (expected bytes : List ℕ) (to s : Sink) {run : Run} {buys sells room out buys′ sells′ room′ out′ : List ℕ} {t : Taken} {more : Bool} →
+pub handed : {expected bytes : List ℕ} {to s : Sink} {run : Run} {buys sells room out buys′ sells′ room′ out′ : List ℕ} {t : Taken} {more : Bool} →
     TakenBy fedOf run buys sells room bytes out buys′ sells′ room′ out′ t → SentAs expected to (take (t .wrote - 0) out′) s → more ≡ moreAfter (t .stop) s →
-    HandedAs (fedOf run buys sells room bytes out) expected to buys′ sells′ (record { run = t .run; used = t .used; to = s; more = more })
-    × (t .used ≤ length bytes)
-handed expected bytes to s b h e =
-    let k = b .taken in (
-      record {
-        stage = k .stage;
-        session = ap (λ (l : Lent). l .session) (k .world);
-        buys = ap (λ (l : Lent). l .buys) (k .world);
-        sells = ap (λ (l : Lent). l .sells) (k .world);
-        used = k .used;
-        sent = subst (λ (x : List ℕ). SentAs expected to x s) (room-text (k .printed)) h;
-        more = e ∙ ap (λ (x : Stop). moreAfter x s) (k .stop);
-      },
-      b .used-there,
-    )
+    HandedIn run buys sells room bytes out expected to buys′ sells′ (record { run = t .run; used = t .used; to = s; more = more })
+handed {expected} {to = to} {s = s} b h e =
+    let k = b .taken in
+    record {
+      handed =
+          record {
+            stage = k .stage;
+            session = ap (λ (l : Lent). l .session) (k .world);
+            buys = ap (λ (l : Lent). l .buys) (k .world);
+            sells = ap (λ (l : Lent). l .sells) (k .world);
+            used = k .used;
+            sent = subst (λ (x : List ℕ). SentAs expected to x s) (room-text (k .printed)) h;
+            more = e ∙ ap (λ (x : Stop). moreAfter x s) (k .stop);
+          };
+      within = b .used-there;
+    }
+
+-- from a place on, in the program's rooms
+pub handed-from : {run : Run} {buys sells bytes : List ℕ} {at : ℕ} {expected : List ℕ} {to : Sink} {buys′ sells′ : List ℕ} {r : Handed} → at ≤ length bytes →
+    HandedIn run buys sells (zeros roomLength) (take (length bytes - at) (drop at bytes)) (zeros outRoom) expected to buys′ sells′ r →
+    HandedFrom run buys sells bytes at expected to buys′ sells′ r
+handed-from {bytes = bytes} {at = at} {r = r} there k =
+    record { handed = rw (rest-is bytes at) at (k .handed); within = part-within bytes at (r .used) there (k .within) }
 
 -- ---- what is lent is long enough
 

@@ -16,18 +16,18 @@ use Rattle.stream_law.specs.declared.Sink.{Sink}
 use Rattle.stream_law.specs.declared.Handed.{Handed}
 use Rattle.stream_law.specs.declared.Reading.{Reading}
 use Rattle.stream_law.specs.Sinks.{isOpen}
-use Rattle.stream_law.specs.Streams.{outRoom, zeros, fedHere, Tables, HandedAs, holding, Goes, NoLine, handedTo, OverAs, readingAfter, TakesIn}
-use Rattle.stream_law.proofs.Beginnings.{rest-is, part-within}
+use Rattle.stream_law.specs.Streams.{outRoom, zeros, fedHere, Tables, HandedFrom, holding, Goes, NoLine, handedTo, OverAs, readingAfter, ToFront, TakesIn}
+use Rattle.stream_law.proofs.Beginnings.{rest-is}
 use Rattle.stream_law.proofs.Goes.{goes-none, goes-then, rooms-wide, out-wide, handed-goes, handed-none, handed-some}
 
 -- ---- the loop: so many bytes were taken, and how it stands
 
-pub record Handing (expected : List ℕ) (a : Holding) (to : Sink) (now : Run) (buys sells : List ℕ) (at : ℕ) (sink : Sink) : Type 0 where
-  pub within : at ≤ length (a .kept)
-  pub goes : Goes expected a to [] (holding now buys sells (drop at (a .kept))) sink
+pub record Handing (expected : List ℕ) (run : Run) (buys₀ sells₀ bytes : List ℕ) (to : Sink) (now : Run) (buys sells : List ℕ) (at : ℕ) (sink : Sink) : Type 0 where
+  pub within : at ≤ length bytes
+  pub goes : Goes expected (holding run buys₀ sells₀ bytes) to [] (holding now buys sells (drop at bytes)) sink
 
 pub handing-start : (expected bytes : List ℕ) (run : Run) (buys sells : List ℕ) (to : Sink) →
-    Handing expected (holding run buys sells bytes) to run buys sells 0 to
+    Handing expected run buys sells bytes to run buys sells 0 to
 handing-start expected bytes run buys sells to = record { within = omega arith; goes = goes-none expected _ to }
 
 -- no bytes are left
@@ -37,55 +37,47 @@ none-left run buys sells bytes at h =
     let e = drop-of-length-le bytes h in
     subst (λ (x : List ℕ). NoLine (holding run buys sells x)) (sym e) (record { end = refl; short = λ _. omega arith })
 
-over-as : {expected : List ℕ} {a : Holding} {to : Sink} {now : Run} {buys sells : List ℕ} {at : ℕ} {sink : Sink} {r : Handed} →
-    Handing expected a to now buys sells at sink → r ≡ handedTo now at sink →
-    (isOpen sink ≡ true → NoLine (holding now buys sells (drop at (a .kept)))) → OverAs expected a to buys sells r
-over-as {expected} {a} {to} {now} {buys} {sells} g e k =
-    subst (OverAs expected a to buys sells) (sym e) (record { within = g .within; goes = g .goes; lines = k })
+module _ {expected : List ℕ} {run : Run} {buys₀ sells₀ bytes : List ℕ} {to : Sink} {now : Run} {buys sells : List ℕ} {at : ℕ} {sink : Sink}
+    (g : Handing expected run buys₀ sells₀ bytes to now buys sells at sink) where
+  over-as : {r : Handed} → r ≡ handedTo now at sink → (isOpen sink ≡ true → NoLine (holding now buys sells (drop at bytes))) →
+      OverAs expected (holding run buys₀ sells₀ bytes) to buys sells r
+  over-as e k = subst (OverAs expected (holding run buys₀ sells₀ bytes) to buys sells) (sym e) (record { within = g .within; goes = g .goes; lines = k })
 
-module _ {expected : List ℕ} {a : Holding} {to : Sink} {now : Run} {buys sells : List ℕ} {at : ℕ} {sink : Sink}
-    (g : Handing expected a to now buys sells at sink) where
-  pub handing-end : {r : Handed} → length (a .kept) ≤ at → r ≡ handedTo now at sink → OverAs expected a to buys sells r
-  handing-end h e = over-as g e (λ _. none-left now buys sells (a .kept) at h)
+  pub handing-end : {r : Handed} → length bytes ≤ at → r ≡ handedTo now at sink → OverAs expected (holding run buys₀ sells₀ bytes) to buys sells r
+  handing-end h e = over-as e (λ _. none-left now buys sells bytes at h)
 
-  module _ (t : Tables buys sells) {buys′ sells′ : List ℕ} {h : Handed}
-      (k : HandedAs (fedHere now buys sells (take (length (a .kept) - at) (drop at (a .kept)))) expected sink buys′ sells′ h
-      × (h .used ≤ length (take (length (a .kept) - at) (drop at (a .kept))))) where
-    abbrev bytes : List ℕ
-    bytes = drop at (a .kept)
+  module _ (t : Tables buys sells) {buys′ sells′ : List ℕ} {h : Handed} (k : HandedFrom now buys sells bytes at expected sink buys′ sells′ h) where
+    further : drop (h .used) (drop at bytes) ≡ drop (at + h .used) bytes
+    further = drop-drop (h .used) at bytes
 
-    whole : HandedAs (fedHere now buys sells bytes) expected sink buys′ sells′ h
-    whole = rw (rest-is (a .kept) at) at (k .0)
-
-    -- what was taken is there
-    pub handing-within : at + h .used ≤ length (a .kept)
-    handing-within = part-within (a .kept) at (h .used) (g .within) (k .1)
-
-    further : drop (h .used) bytes ≡ drop (at + h .used) (a .kept)
-    further = drop-drop (h .used) at (a .kept)
-
-    pub handing-on : Handing expected a to (h .run) buys′ sells′ (at + h .used) (h .to)
+    pub handing-on : Handing expected run buys₀ sells₀ bytes to (h .run) buys′ sells′ (at + h .used) (h .to)
     handing-on =
         record {
-          within = handing-within;
+          within = k .within;
           goes =
               goes-then (g .goes)
-              (subst (λ (x : List ℕ). Goes expected (holding now buys sells bytes) sink [] (holding (h .run) buys′ sells′ x) (h .to)) further
-              (handed-goes now buys sells (zeros roomLength) bytes (zeros outRoom) (rooms-wide buys sells t) out-wide whole));
+              (subst (λ (x : List ℕ). Goes expected (holding now buys sells (drop at bytes)) sink [] (holding (h .run) buys′ sells′ x) (h .to)) further
+              (handed-goes now buys sells (zeros roomLength) (drop at bytes) (zeros outRoom) (rooms-wide buys sells t) out-wide (k .handed)));
         }
 
     -- a further call has fewer bytes
-    pub handing-less : not (h .more) ≡ false → 0 < h .used
+    pub handing-less : not (h .more) ≡ false → length bytes - (at + h .used) < length bytes - at
     handing-less m =
-        handed-some now buys sells (zeros roomLength) bytes (zeros outRoom) (rooms-wide buys sells t) out-wide whole (not-false (h .more) m)
+        let u = handed-some now buys sells (zeros roomLength) (drop at bytes) (zeros outRoom) (rooms-wide buys sells t) out-wide (k .handed) (not-false (h .more) m) in
+        let w = k .within in
+        omega arith
 
-    -- no further call: the room was not full, so no whole line is there; or the sink is shut
-    pub handing-stops : {r : Handed} → r ≡ handedTo (h .run) (at + h .used) (h .to) → not (h .more) ≡ true → OverAs expected a to buys′ sells′ r
-    handing-stops e m =
-        over-as handing-on e
-        (λ o.
+    -- the room was not full, so no whole line is there; or the sink is shut
+    stops-there : not (h .more) ≡ true → isOpen (h .to) ≡ true → NoLine (holding (h .run) buys′ sells′ (drop (at + h .used) bytes))
+    stops-there m o =
         subst (λ (x : List ℕ). NoLine (holding (h .run) buys′ sells′ x)) further
-        (handed-none now buys sells (zeros roomLength) bytes (zeros outRoom) (rooms-wide buys sells t) out-wide whole o (not-true (h .more) m)))
+        (handed-none now buys sells (zeros roomLength) (drop at bytes) (zeros outRoom) (rooms-wide buys sells t) out-wide (k .handed) o (not-true (h .more) m))
+
+-- no further call
+pub handing-stops : {expected : List ℕ} {run : Run} {buys₀ sells₀ bytes : List ℕ} {to : Sink} {now : Run} {buys sells : List ℕ} {at : ℕ} {sink : Sink} {buys′ sells′ : List ℕ} {h r : Handed} →
+    Handing expected run buys₀ sells₀ bytes to now buys sells at sink → Tables buys sells → HandedFrom now buys sells bytes at expected sink buys′ sells′ h →
+    r ≡ handedTo (h .run) (at + h .used) (h .to) → not (h .more) ≡ true → OverAs expected (holding run buys₀ sells₀ bytes) to buys′ sells′ r
+handing-stops g t k e m = over-as (handing-on g t k) e (stops-there g t k m)
 
 -- ---- a buffer: its bytes up to an end are handed over, and the rest is moved to its front
 
@@ -99,12 +91,11 @@ on-if Stage.Awaiting to e = (open-if (isOpen to) e, λ p. let z : _≡_ {A = ℕ
 on-if Stage.Trading to e = (open-if (isOpen to) e, λ p. let z : _≡_ {A = ℕ} 0 1 = cc in omega arith)
 on-if Stage.Over to e = absurd (let z : _≡_ {A = ℕ} 0 1 = cc in omega arith)
 
-pub takes-in : (expected buf : List ℕ) (end : ℕ) (to : Sink) (run : Run) (buys sells : List ℕ) {buf′ buys′ sells′ : List ℕ} {h : Handed}
-    {reading : Reading} → end ≤ length buf → length buf′ ≡ length buf → OverAs expected (holding run buys sells (take (end - 0) buf)) to buys′ sells′ h →
-    take (end - h .used) buf′ ≡ drop (h .used) (take end buf) → reading ≡ readingAfter (h .run .stage) (h .to) →
-    TakesIn expected (holding run buys sells (take end buf)) to buf′ buys′ sells′
-    (record { run = h .run; have = end - h .used; to = h .to; reading = reading })
-takes-in expected buf end to run buys sells {buf′} {buys′} {sells′} {h} {reading} there same k moved e =
+pub takes-in : {expected buf : List ℕ} {end : ℕ} {to : Sink} {run : Run} {buys sells buf′ buys′ sells′ : List ℕ} {h : Handed} {reading : Reading} →
+    end ≤ length buf → length buf′ ≡ length buf → OverAs expected (holding run buys sells (take (end - 0) buf)) to buys′ sells′ h →
+    ToFront buf (h .used) end buf′ → reading ≡ readingAfter (h .run .stage) (h .to) →
+    TakesIn expected run buf end buys sells to buf′ buys′ sells′ (record { run = h .run; have = end - h .used; to = h .to; reading = reading })
+takes-in {expected} {buf} {end} {to} {run} {buys} {sells} {buf′} {buys′} {sells′} {h} {reading} there same k moved e =
     let z : end - 0 ≡ end = omega arith in
     let k′ : OverAs expected (holding run buys sells (take end buf)) to buys′ sells′ h = rw z at k in
     record {
@@ -120,6 +111,6 @@ takes-in expected buf end to run buys sells {buf′} {buys′} {sells′} {h} {r
           };
       goes =
           subst (λ (x : List ℕ). Goes expected (holding run buys sells (take end buf)) to [] (holding (h .run) buys′ sells′ x) (h .to))
-          (sym moved) (k′ .goes);
+          (sym (moved .front)) (k′ .goes);
       reading = e;
     }

@@ -11,7 +11,7 @@ use lib.Dec.{eqb}
 use borrow.Author.Tests.{eqb-true, eqb-false}
 use Rattle.stream_law.specs.declared.Sink.{Sink}
 use Rattle.stream_law.specs.declared.Finish.{Finish}
-use Rattle.stream_law.specs.Sinks.{begins, matchedBy, matched, Takes, SentAs, comparedBy, finishOf}
+use Rattle.stream_law.specs.Sinks.{begins, matchedBy, matched, Takes, StandsAs, SentAs, comparedBy, finishOf}
 use Rattle.stream_law.specs.Streams.{Tells, Finished, PrintedAs}
 use Rattle.stream_law.proofs.Beginnings.{begins-is, begins-self, begins-append}
 
@@ -28,8 +28,18 @@ module _ (expected : List ℕ) where
 
   -- ---- a sink that is known
 
-  pub sent-by : (text : List ℕ) (r : Sink) {to s : Sink} → to ≡ s → SentAs expected s text r → SentAs expected to text r
-  sent-by text r {to} {s} e h = subst (λ (x : Sink). SentAs expected x text r) (sym e) h
+  module _ {text : List ℕ} {to r : Sink} where
+    pub sent-print : to ≡ Sink.Print → Takes r → SentAs expected to text r
+    sent-print e h = record { stands = rw e h }
+
+    pub sent-match : {at : ℕ} → to ≡ Sink.Match at → r ≡ matched expected at text → SentAs expected to text r
+    sent-match e h = record { stands = rw e h }
+
+  pub sent-differs : {text : List ℕ} {to : Sink} → to ≡ Sink.Differs → SentAs expected to text Sink.Differs
+  sent-differs e = record { stands = rw e refl }
+
+  pub sent-lost : {text : List ℕ} {to : Sink} → to ≡ Sink.Lost → SentAs expected to text Sink.Lost
+  sent-lost e = record { stands = rw e refl }
 
   pub finish-matched : (at : ℕ) {to : Sink} {same : Bool} {r : Finish} → to ≡ Sink.Match at → same ≡ eqb at (length expected) → r ≡ comparedBy same →
       r ≡ finishOf expected to
@@ -37,37 +47,43 @@ module _ (expected : List ℕ) where
 
   -- ---- nothing
 
-  pub sent-none : (to : Sink) → SentAs expected to [] to
+  stands-none : (to : Sink) → StandsAs expected to [] to
   unfolding begins
-  sent-none Sink.Print = tt
-  sent-none (Sink.Match at) = ap Sink.Match (omega arith)
-  sent-none Sink.Differs = refl
-  sent-none Sink.Lost = refl
+  stands-none Sink.Print = tt
+  stands-none (Sink.Match at) = ap Sink.Match (omega arith)
+  stands-none Sink.Differs = refl
+  stands-none Sink.Lost = refl
+
+  pub sent-none : (to : Sink) → SentAs expected to [] to
+  sent-none to = record { stands = stands-none to }
 
   -- ---- one text, and then another
 
   module _ (xs ys : List ℕ) where
-    print-then : (s r : Sink) → Takes s → SentAs expected s ys r → Takes r
+    print-then : (s r : Sink) → Takes s → StandsAs expected s ys r → Takes r
     print-then Sink.Print r h k = k
     print-then (Sink.Match at) r h k = absurd h
     print-then Sink.Differs r h k = absurd h
     print-then Sink.Lost r h k = subst Takes (sym k) tt
 
     matched-then : (at : ℕ) (b : Bool) (s r : Sink) → begins xs (drop at expected) ≡ b → s ≡ matchedBy b (at + length xs) →
-        SentAs expected s ys r → r ≡ matched expected at (xs ++ ys)
+        StandsAs expected s ys r → r ≡ matched expected at (xs ++ ys)
     matched-then at true s r e q k =
-        let k′ : r ≡ matched expected (at + length xs) ys = subst (λ (x : Sink). SentAs expected x ys r) q k in
+        let k′ : r ≡ matched expected (at + length xs) ys = subst (λ (x : Sink). StandsAs expected x ys r) q k in
         k′
         ∙ rw (begins-append xs ys (drop at expected), e, drop-drop (length xs) at expected, length-append xs ys, add-assoc at (length xs) (length ys))
     matched-then at false s r e q k =
-        let k′ : r ≡ Sink.Differs = subst (λ (x : Sink). SentAs expected x ys r) q k in
+        let k′ : r ≡ Sink.Differs = subst (λ (x : Sink). StandsAs expected x ys r) q k in
         k′ ∙ rw (begins-append xs ys (drop at expected), e)
 
+    stands-then : (to s r : Sink) → StandsAs expected to xs s → StandsAs expected s ys r → StandsAs expected to (xs ++ ys) r
+    stands-then Sink.Print s r h k = print-then s r h k
+    stands-then (Sink.Match at) s r h k = matched-then at (begins xs (drop at expected)) s r refl h k
+    stands-then Sink.Differs s r h k = subst (λ (x : Sink). StandsAs expected x ys r) h k
+    stands-then Sink.Lost s r h k = subst (λ (x : Sink). StandsAs expected x ys r) h k
+
     pub sent-then : (to s r : Sink) → SentAs expected to xs s → SentAs expected s ys r → SentAs expected to (xs ++ ys) r
-    sent-then Sink.Print s r h k = print-then s r h k
-    sent-then (Sink.Match at) s r h k = matched-then at (begins xs (drop at expected)) s r refl h k
-    sent-then Sink.Differs s r h k = subst (λ (x : Sink). SentAs expected x ys r) h k
-    sent-then Sink.Lost s r h k = subst (λ (x : Sink). SentAs expected x ys r) h k
+    sent-then to s r h k = record { stands = stands-then to s r (h .stands) (k .stands) }
 
   -- ---- the end
 
@@ -89,7 +105,7 @@ module _ (expected : List ℕ) where
     -- A COMPARISON TELLS "SAME" JUST WHERE WHAT WAS SENT IS WHAT WAS EXPECTED
     pub finish-tells : (r : Finish) → Finished expected (Sink.Match 0) text r → Tells text expected r
     finish-tells r f =
-        subst (Tells text expected) (sym (f .finish ∙ ap (finishOf expected) (f .sent))) (matches-by (begins text expected) refl)
+        subst (Tells text expected) (sym (f .finish ∙ ap (finishOf expected) (f .sent .stands))) (matches-by (begins text expected) refl)
 
     takes-printed : (s : Sink) → Takes s → PrintedAs (finishOf expected s)
     takes-printed Sink.Print h = tt
@@ -98,4 +114,4 @@ module _ (expected : List ℕ) where
     takes-printed Sink.Lost h = tt
 
     pub finish-printed : (r : Finish) → Finished expected Sink.Print text r → PrintedAs r
-    finish-printed r f = subst PrintedAs (sym (f .finish)) (takes-printed (f .sink) (f .sent))
+    finish-printed r f = subst PrintedAs (sym (f .finish)) (takes-printed (f .sink) (f .sent .stands))

@@ -23,10 +23,10 @@ unfolding printed fixedSession decode
 from-start buys sells input = refl
 
 -- all that was read, then the end
-pub run-whole : (expected buys sells : List ℕ) (to last : Sink) {buf′ buys′ sells′ : List ℕ} {h : Held} {r : Finish} →
+pub run-whole : {expected buys sells : List ℕ} {to last : Sink} {buf′ buys′ sells′ : List ℕ} {h : Held} {r : Finish} →
     Hears expected (holding begun buys sells []) to buf′ buys′ sells′ h →
     EndsAs expected (holding (h .run) buys′ sells′ (take (h .have - 0) buf′)) (h .to) last → r ≡ finishOf expected last → ThroughAs expected to r
-run-whole expected buys sells to last {buf′} {buys′} {sells′} {h} k e q =
+run-whole {expected} {buys} {sells} {to} {last} {buf′} {buys′} {sells′} {h} k e q =
     let b : Holding = heldOn buf′ buys′ sells′ h in
     let z : h .have - 0 ≡ h .have = omega arith in
     let e′ : EndsAs expected b (h .to) last = rw z at e in
@@ -37,15 +37,15 @@ run-whole expected buys sells to last {buf′} {buys′} {sells′} {h} k e q =
       sink = last;
       sent =
           subst (λ (x : List ℕ). SentAs expected to x last) (sym p)
-          (sent-then expected (k .goes .text) (toPrint b []) to (h .to) last (k .goes .sent) e′);
+          (sent-then expected (k .goes .text) (toPrint b []) to (h .to) last (k .goes .sent) (e′ .sent));
       finish = q;
     })
 
 -- ---- what is told
 
-pub through-compares : (expected : List ℕ) (r : Finish) → ThroughAs expected (Sink.Match 0) r → Compares expected r
-through-compares expected r (unread e) = record { input = []; tells = subst (Tells (printed []) expected) (sym e) tt }
-through-compares expected r (whole input f) = record { input = input; tells = finish-tells expected (printed input) r f }
+pub through-compares : {expected : List ℕ} {r : Finish} → ThroughAs expected (Sink.Match 0) r → Compares expected r
+through-compares {expected} {r} (unread e) = record { input = []; tells = subst (Tells (printed []) expected) (sym e) tt }
+through-compares {expected} {r} (whole input f) = record { input = input; tells = finish-tells expected (printed input) r f }
 
 pub through-prints : (expected : List ℕ) (r : Finish) → ThroughAs expected Sink.Print r → PrintedAs r
 through-prints expected r (unread e) = subst PrintedAs (sym e) tt

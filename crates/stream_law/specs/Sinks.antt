@@ -29,12 +29,16 @@ Takes (Sink.Match at) = ⊥
 Takes Sink.Differs = ⊥
 Takes Sink.Lost = Unit {0}
 
--- THE CONTRACT of `send`: how it stands after text was printed. After a difference or a failure nothing is compared or printed any more
-abbrev pub SentAs : List ℕ → Sink → List ℕ → Sink → Type 0
-SentAs expected Sink.Print text r = Takes r
-SentAs expected (Sink.Match at) text r = r ≡ matched expected at text
-SentAs expected Sink.Differs text r = r ≡ Sink.Differs
-SentAs expected Sink.Lost text r = r ≡ Sink.Lost
+-- how it stands after text was printed. After a difference or a failure nothing is compared or printed any more
+abbrev pub StandsAs : List ℕ → Sink → List ℕ → Sink → Type 0
+StandsAs expected Sink.Print text r = Takes r
+StandsAs expected (Sink.Match at) text r = r ≡ matched expected at text
+StandsAs expected Sink.Differs text r = r ≡ Sink.Differs
+StandsAs expected Sink.Lost text r = r ≡ Sink.Lost
+
+-- THE CONTRACT of `send`
+pub record SentAs (expected : List ℕ) (to : Sink) (text : List ℕ) (r : Sink) : Type 0 where
+  pub stands : StandsAs expected to text r
 
 -- more may be sent
 abbrev pub isOpen : Sink → Bool

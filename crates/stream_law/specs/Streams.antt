@@ -1,5 +1,5 @@
 -- A run whose input comes in pieces and whose output is sent on.
-use Prim.Native.Nat.{ℕ, _*_, _≤_}
+use Prim.Native.Nat.{ℕ, _+_, _-_, _*_, _≤_}
 use mathlib.Core.Path.{_≡_}
 use mathlib.Core.Bool.{Bool, true, false, cond, _&&_}
 use mathlib.Core.List.{List, [], _++_}
@@ -59,6 +59,15 @@ pub record HandedAs (f : Fed Lent) (expected : List ℕ) (to : Sink) (buys′ se
   pub sent : SentAs expected to (f .text) (r .to)
   pub more : r .more ≡ moreAfter (f .stop) (r .to)
 
+-- THE CONTRACTS of a call of feed in lent rooms, and of one in the program's rooms on the bytes from a place on
+pub record HandedIn (run : Run) (buys sells room bytes out expected : List ℕ) (to : Sink) (buys′ sells′ : List ℕ) (r : Handed) : Type 0 where
+  pub handed : HandedAs (fedOf run buys sells room bytes out) expected to buys′ sells′ r
+  pub within : r .used ≤ length bytes
+
+pub record HandedFrom (run : Run) (buys sells bytes : List ℕ) (at : ℕ) (expected : List ℕ) (to : Sink) (buys′ sells′ : List ℕ) (r : Handed) : Type 0 where
+  pub handed : HandedAs (fedHere run buys sells (drop at bytes)) expected to buys′ sells′ r
+  pub within : at + r .used ≤ length bytes
+
 -- ---- many calls, and reads between them
 
 abbrev pub holding : Run → List ℕ → List ℕ → List ℕ → Holding
@@ -115,10 +124,14 @@ pub record Room (buf : List ℕ) (h : Held) : Type 0 where
   pub within : h .have ≤ length buf
   pub short : h .reading ≡ Reading.On → h .have ≤ lineRoom
 
+-- the bytes from a place up to an end stand at a buffer's front
+pub record ToFront (buf : List ℕ) (start end : ℕ) (buf′ : List ℕ) : Type 0 where
+  pub front : take (end - start) buf′ ≡ drop start (take end buf)
+
 -- THE CONTRACT of `take_in`: what stands in the buffer is handed over, and what is left of it is moved to the front
-pub record TakesIn (expected : List ℕ) (a : Holding) (to : Sink) (buf′ buys′ sells′ : List ℕ) (r : Held) : Type 0 where
+pub record TakesIn (expected : List ℕ) (run : Run) (buf : List ℕ) (end : ℕ) (buys sells : List ℕ) (to : Sink) (buf′ buys′ sells′ : List ℕ) (r : Held) : Type 0 where
   pub room : Room buf′ r
-  pub goes : Goes expected a to [] (heldOn buf′ buys′ sells′ r) (r .to)
+  pub goes : Goes expected (holding run buys sells (take end buf)) to [] (heldOn buf′ buys′ sells′ r) (r .to)
   pub reading : r .reading ≡ readingAfter (r .run .stage) (r .to)
 
 -- a read behind what is kept leaves it as it was
@@ -132,11 +145,15 @@ pub record Hears (expected : List ℕ) (a : Holding) (to : Sink) (buf′ buys′
   pub got : List ℕ
   pub goes : Goes expected a to got (heldOn buf′ buys′ sells′ r) (r .to)
 
+-- the same from what is held on, with the buffer that it stands in
+pub record HearsOn (expected : List ℕ) (h : Held) (buf buys sells buf′ buys′ sells′ : List ℕ) (r : Held) : Type 0 where
+  pub hears : Hears expected (heldOn buf buys sells h) (h .to) buf′ buys′ sells′ r
+
 -- ---- the end
 
 -- THE CONTRACT of the end: what is printed for the bytes that are left is sent
-abbrev pub EndsAs : List ℕ → Holding → Sink → Sink → Type 0
-EndsAs expected a to r = SentAs expected to (toPrint a []) r
+pub record EndsAs (expected : List ℕ) (a : Holding) (to r : Sink) : Type 0 where
+  pub sent : SentAs expected to (toPrint a []) r
 
 -- ---- a whole run
 

@@ -1,7 +1,7 @@
 -- The form and the numbers are those of the definition.
 use native.Mathlib.Omega.{arith}
 use Rattle.lines_text_law.specs.Forms.{holes, longest}
-use Rattle.lines_writing_law.specs.Lines.{renderBad}
+use Rattle.lines_writing_law.proofs.ByKind.{by-bad}
 use borrow.Author.Needs.{needs}
 use Rattle.lines_writing_reports.proofs.write_bad.Statement.{statement}
 use Rattle.lines_writing_reports.proofs.write_bad.Tie as tie
@@ -26,8 +26,7 @@ same-length : tie.Need-same-length
 same-length c = search needs
 
 returns : tie.Need-returns
-unfolding renderBad
-returns c = rw (← c .before .before .before .before .before .before .before .of-refusal .ensures) (c .before .before .write .ensures)
+returns c = search by-bad
 
 pub write-bad-spec : {M : Type 1} → statement M
 write-bad-spec =

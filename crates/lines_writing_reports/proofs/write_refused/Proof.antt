@@ -1,7 +1,7 @@
 -- The form and the numbers are those of the definition.
 use native.Mathlib.Omega.{arith}
 use Rattle.lines_text_law.specs.Forms.{holes, longest}
-use Rattle.lines_writing_law.specs.Lines.{renderRefused}
+use Rattle.lines_writing_law.proofs.ByKind.{by-refused}
 use borrow.Author.Needs.{needs}
 use Rattle.lines_writing_reports.proofs.write_refused.Statement.{statement}
 use Rattle.lines_writing_reports.proofs.write_refused.Tie as tie
@@ -23,8 +23,7 @@ same-length : tie.Need-same-length
 same-length c = search needs
 
 returns : tie.Need-returns
-unfolding renderRefused
-returns c = rw (← c .before .before .before .before .before .before .of-refusal .ensures) (c .before .before .say .ensures)
+returns c = search by-refused
 
 pub write-refused-spec : {M : Type 1} → statement M
 write-refused-spec =

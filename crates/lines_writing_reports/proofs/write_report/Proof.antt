@@ -104,18 +104,21 @@ same-length : tie.Need-same-length
 same-length c = search needs
 
 returns : tie.Need-returns
+unfolding holes
 returns c = search by-said
 
 same-length-2 : tie.Need-same-length-2
 same-length-2 c = search needs
 
 returns-2 : tie.Need-returns-2
+unfolding holes
 returns-2 c = search by-said
 
 same-length-3 : tie.Need-same-length-3
 same-length-3 c = search needs
 
 returns-3 : tie.Need-returns-3
+unfolding holes
 returns-3 c = search by-said
 
 same-length-4 : tie.Need-same-length-4
@@ -128,18 +131,21 @@ same-length-5 : tie.Need-same-length-5
 same-length-5 c = search needs
 
 returns-5 : tie.Need-returns-5
+unfolding holes
 returns-5 c = search by-said
 
 same-length-6 : tie.Need-same-length-6
 same-length-6 c = search needs
 
 returns-6 : tie.Need-returns-6
+unfolding holes
 returns-6 c = search by-said
 
 same-length-7 : tie.Need-same-length-7
 same-length-7 c = search needs
 
 returns-7 : tie.Need-returns-7
+unfolding holes
 returns-7 c = search by-said
 
 pub write-report-spec : {M : Type 1} → statement M

@@ -1,41 +1,42 @@
-use borrow.Author.Needs.{needs}
-use denote.Ref.{now}
 use Rattle.stream_law.proofs.Goes.{handed}
+use borrow.Author.Needs.{needs}
 use Rattle.stream_feed.proofs.hand_in.Statement.{statement}
 use Rattle.stream_feed.proofs.hand_in.Tie as tie
 
+ruleset answers = (needs, handed)
+
 take-lines-requires : tie.Need-take-lines-requires
-take-lines-requires c κs = search needs
+take-lines-requires c κs = search answers
 
 sub-send : tie.Need-sub-send
-sub-send c = search needs
+sub-send c = search answers
 
 part-send-start : tie.Need-part-send-start
-part-send-start c = search needs
+part-send-start c = search answers
 
 part-send-end : tie.Need-part-send-end
-part-send-end c = search needs
+part-send-end c = search answers
 
 send-requires : tie.Need-send-requires
-send-requires c κs = search needs
+send-requires c κs = search answers
 
 has-more-requires : tie.Need-has-more-requires
-has-more-requires c κs = search needs
+has-more-requires c κs = search answers
 
 same-length : tie.Need-same-length
-same-length c = search needs
+same-length c = search answers
 
 same-length-2 : tie.Need-same-length-2
-same-length-2 c = search needs
+same-length-2 c = search answers
 
 same-length-3 : tie.Need-same-length-3
-same-length-3 c = search needs
+same-length-3 c = search answers
 
 same-length-4 : tie.Need-same-length-4
-same-length-4 c = search needs
+same-length-4 c = search answers
 
 returns : tie.Need-returns
-returns c = handed (now (c .before .before .before .before .before .before .before .before .before .before .before .before .before .before .before .before .before .before .before .before .before .before .before .before .args .expected)) (now (c .before .before .before .before .before .before .before .before .before .before .before .before .before .before .before .before .before .before .before .before .before .before .before .before .args .bytes)) (c .before .before .before .before .before .before .before .before .before .before .before .before .before .before .before .before .before .before .before .before .before .before .before .before .args .to) _ (c .before .before .before .before .before .before .before .before .before .before .before .before .before .take-lines .ensures) (c .before .send .ensures) (c .has-more .ensures)
+returns c = search answers
 
 pub hand-in-spec : {M : Type 1} → statement M
 hand-in-spec =

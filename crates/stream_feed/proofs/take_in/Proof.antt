@@ -1,41 +1,42 @@
-use borrow.Author.Needs.{needs}
-use denote.Ref.{now}
 use Rattle.stream_law.proofs.Handing.{takes-in}
+use borrow.Author.Needs.{needs}
 use Rattle.stream_feed.proofs.take_in.Statement.{statement}
 use Rattle.stream_feed.proofs.take_in.Tie as tie
 
+ruleset answers = (needs, takes-in)
+
 sub-hand-over : tie.Need-sub-hand-over
-sub-hand-over c = search needs
+sub-hand-over c = search answers
 
 part-hand-over-start : tie.Need-part-hand-over-start
-part-hand-over-start c = search needs
+part-hand-over-start c = search answers
 
 part-hand-over-end : tie.Need-part-hand-over-end
-part-hand-over-end c = search needs
+part-hand-over-end c = search answers
 
 hand-over-requires : tie.Need-hand-over-requires
-hand-over-requires c κs = search needs
+hand-over-requires c κs = search answers
 
 to-front-requires : tie.Need-to-front-requires
-to-front-requires c κs = search needs
+to-front-requires c κs = search answers
 
 reading-after-requires : tie.Need-reading-after-requires
-reading-after-requires c κs = search needs
+reading-after-requires c κs = search answers
 
 sub-t15 : tie.Need-sub-t15
-sub-t15 c = search needs
+sub-t15 c = search answers
 
 same-length : tie.Need-same-length
-same-length c = search needs
+same-length c = search answers
 
 same-length-2 : tie.Need-same-length-2
-same-length-2 c = search needs
+same-length-2 c = search answers
 
 same-length-3 : tie.Need-same-length-3
-same-length-3 c = search needs
+same-length-3 c = search answers
 
 returns : tie.Need-returns
-returns c = takes-in (now (c .before .before .before .before .before .before .before .before .before .before .before .before .before .before .before .before .before .before .before .args .expected)) (now (c .before .before .before .before .before .before .before .before .before .before .before .before .before .before .before .before .before .before .before .args .buf)) (c .before .before .before .before .before .before .before .before .before .before .before .before .before .before .before .before .before .before .before .args .end) (c .before .before .before .before .before .before .before .before .before .before .before .before .before .before .before .before .before .before .before .args .to) (c .before .before .before .before .before .before .before .before .before .before .before .before .before .before .before .before .before .before .before .args .run) (now (c .before .before .before .before .before .before .before .before .before .before .before .before .before .before .before .before .before .before .before .args .buys)) (now (c .before .before .before .before .before .before .before .before .before .before .before .before .before .before .before .before .before .before .before .args .sells)) (search needs) (search (needs, c .before .before .before .to-front .kept)) (c .before .before .before .before .before .before .before .before .before .before .hand-over .ensures) (c .before .before .before .to-front .ensures) (c .reading-after .ensures)
+returns c = search answers
 
 pub take-in-spec : {M : Type 1} → statement M
 take-in-spec =

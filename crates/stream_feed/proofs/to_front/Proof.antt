@@ -40,7 +40,7 @@ same-length : tie.Need-same-length Inv-loop μ-loop
 same-length c = search needs
 
 returns : tie.Need-returns Inv-loop μ-loop
-returns c = moved-front (c .before .before .args .end) (c .before .loop .inv .1) (search needs) (search needs)
+returns c = moved-front (c .before .loop .inv .1) (search needs) (search needs)
 
 pub to-front-spec : {M : Type 1} → statement M
 to-front-spec =

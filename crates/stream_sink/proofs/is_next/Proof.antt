@@ -1,28 +1,27 @@
+use Rattle.stream_law.proofs.Beginnings.{past-end, begins-there}
 use borrow.Author.Needs.{needs}
-use mathlib.Core.Path.{_∙_, ap}
-use denote.Ref.{now}
-use Rattle.stream_law.specs.Sinks.{begins}
-use Rattle.stream_law.proofs.Beginnings.{rest-is, past-end}
 use Rattle.stream_sink.proofs.is_next.Statement.{statement}
 use Rattle.stream_sink.proofs.is_next.Tie as tie
 
+ruleset answers = (needs, past-end, begins-there)
+
 returns : tie.Need-returns
-returns c = past-end (now (c .before .before .before .args .bytes)) (now (c .before .before .before .args .expected)) (c .before .before .before .args .at) (c .if1 .taken)
+returns c = search answers
 
 sub-begins : tie.Need-sub-begins
-sub-begins c = search needs
+sub-begins c = search answers
 
 part-begins-start : tie.Need-part-begins-start
-part-begins-start c = search needs
+part-begins-start c = search answers
 
 part-begins-end : tie.Need-part-begins-end
-part-begins-end c = search needs
+part-begins-end c = search answers
 
 begins-requires : tie.Need-begins-requires
-begins-requires c κs = search needs
+begins-requires c κs = search answers
 
 returns-2 : tie.Need-returns-2
-returns-2 c = c .begins .ensures ∙ ap (begins (now (c .before .before .before .before .before .args .bytes))) (rest-is (now (c .before .before .before .before .before .args .expected)) (c .before .before .before .before .before .args .at))
+returns-2 c = search answers
 
 pub is-next-spec : {M : Type 1} → statement M
 is-next-spec =

@@ -1,39 +1,39 @@
+use Rattle.stream_law.proofs.Sends.{sent-print, sent-match, sent-differs, sent-lost}
 use borrow.Author.Needs.{needs}
-use mathlib.Core.Path.{refl}
-use denote.Ref.{now}
-use Rattle.stream_law.proofs.Sends.{sent-by}
 use Rattle.stream_sink.proofs.send.Statement.{statement}
 use Rattle.stream_sink.proofs.send.Tie as tie
 
+ruleset answers = (needs, sent-print, sent-match, sent-differs, sent-lost)
+
 enum-told : tie.Need-enum-told
-enum-told c = search needs
+enum-told c = search answers
 
 print-requires : tie.Need-print-requires
-print-requires c κs = search needs
+print-requires c κs = search answers
 
 enum-known-to : tie.Need-enum-known-to
-enum-known-to c = search needs
+enum-known-to c = search answers
 
 hold-requires : tie.Need-hold-requires
-hold-requires c κs = search needs
+hold-requires c κs = search answers
 
 enum-told-2 : tie.Need-enum-told-2
-enum-told-2 c = search needs
+enum-told-2 c = search answers
 
 enum-told-3 : tie.Need-enum-told-3
-enum-told-3 c = search needs
+enum-told-3 c = search answers
 
 returns : tie.Need-returns
-returns c = sent-by (now (c .before .before .before .before .before .args .expected)) (now (c .before .before .before .before .before .args .bytes)) _ (c .before .enum-told .given .1) (c .print .ensures)
+returns c = search answers
 
 returns-2 : tie.Need-returns-2
-returns-2 c = sent-by (now (c .before .before .before .before .before .before .args .expected)) (now (c .before .before .before .before .before .before .args .bytes)) _ (c .before .before .to .given .1) (c .hold .ensures)
+returns-2 c = search answers
 
 returns-3 : tie.Need-returns-3
-returns-3 c = sent-by (now (c .before .before .before .before .args .expected)) (now (c .before .before .before .before .args .bytes)) _ (c .enum-told2 .given .1) refl
+returns-3 c = search answers
 
 returns-4 : tie.Need-returns-4
-returns-4 c = sent-by (now (c .before .before .before .before .args .expected)) (now (c .before .before .before .before .args .bytes)) _ (c .enum-told3 .given .1) refl
+returns-4 c = search answers
 
 pub send-spec : {M : Type 1} → statement M
 send-spec =

@@ -1,5 +1,5 @@
-use borrow.Author.Needs.{needs}
 use Rattle.feed_law.proofs.Ending.{end-full, end-ended, end-refused}
+use borrow.Author.Needs.{needs}
 use Rattle.feed.proofs.lines.end_behind.Statement.{statement}
 use Rattle.feed.proofs.lines.end_behind.Tie as tie
 
@@ -24,7 +24,7 @@ same-length : tie.Need-same-length
 same-length c = search answers
 
 returns : tie.Need-returns
-returns c = c .before .before .finish .ensures (c .before .before .before .before .enum-told .given .1)
+returns c = search answers
 
 returns-2 : tie.Need-returns-2
 returns-2 c = search answers

@@ -1,5 +1,5 @@
-use borrow.Author.Needs.{needs}
 use Rattle.feed_law.proofs.Calls.{took-end}
+use borrow.Author.Needs.{needs}
 use Rattle.feed.proofs.lines.take_end.Statement.{statement}
 use Rattle.feed.proofs.lines.take_end.Tie as tie
 
@@ -24,7 +24,7 @@ same-length-4 : tie.Need-same-length-4
 same-length-4 c = search answers
 
 returns : tie.Need-returns
-returns c = took-end (c .before .before .before .before .before .before .before .before .before .before .before .before .take-lines .ensures) (search (needs, c .before .before .before .before .before .before .before .before .before .before .before .before .take-lines .kept)) (c .before .before .end-behind .ensures) (search (needs, c .before .before .before .before .before .before .before .before .before .before .before .before .take-lines .kept, c .before .before .end-behind .kept))
+returns c = search answers
 
 pub take-end-spec : {M : Type 1} → statement M
 take-end-spec =

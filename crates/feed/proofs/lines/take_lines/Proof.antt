@@ -1,43 +1,45 @@
-use borrow.Author.Needs.{needs}
 use Rattle.feed_law.proofs.Calls.{took-none, took-lines}
+use borrow.Author.Needs.{needs}
 use Rattle.feed.proofs.lines.take_lines.Statement.{statement}
 use Rattle.feed.proofs.lines.take_lines.Tie as tie
 
+ruleset answers = (needs, took-none, took-lines)
+
 is-roomy-requires : tie.Need-is-roomy-requires
-is-roomy-requires c κs = search needs
+is-roomy-requires c κs = search answers
 
 taken-requires : tie.Need-taken-requires
-taken-requires c κs = search needs
+taken-requires c κs = search answers
 
 same-length : tie.Need-same-length
-same-length c = search needs
+same-length c = search answers
 
 same-length-2 : tie.Need-same-length-2
-same-length-2 c = search needs
+same-length-2 c = search answers
 
 same-length-3 : tie.Need-same-length-3
-same-length-3 c = search needs
+same-length-3 c = search answers
 
 returns : tie.Need-returns
-returns c = took-none (c .before .before .is-roomy .ensures) (c .before .if1 .taken) (c .taken .ensures)
+returns c = search answers
 
 while-room-requires : tie.Need-while-room-requires
-while-room-requires c κs = search needs
+while-room-requires c κs = search answers
 
 same-length-4 : tie.Need-same-length-4
-same-length-4 c = search needs
+same-length-4 c = search answers
 
 same-length-5 : tie.Need-same-length-5
-same-length-5 c = search needs
+same-length-5 c = search answers
 
 same-length-6 : tie.Need-same-length-6
-same-length-6 c = search needs
+same-length-6 c = search answers
 
 same-length-7 : tie.Need-same-length-7
-same-length-7 c = search needs
+same-length-7 c = search answers
 
 returns-2 : tie.Need-returns-2
-returns-2 c = took-lines (c .before .before .before .before .before .before .before .before .before .before .before .before .before .before .is-roomy .ensures) (c .before .before .before .before .before .before .before .before .before .before .before .before .before .if1 .left) (c .before .before .before .before .before .before .before .before .while-room .ensures) (search (needs, c .before .before .before .before .before .before .before .before .while-room .kept))
+returns-2 c = search answers
 
 pub take-lines-spec : {M : Type 1} → statement M
 take-lines-spec =

@@ -1,5 +1,5 @@
-use borrow.Author.Needs.{needs}
 use Rattle.feed_law.proofs.Ending.{end-awaiting, end-trading, end-over}
+use borrow.Author.Needs.{needs}
 use Rattle.feed_prints.proofs.telling.tell_end.Statement.{statement}
 use Rattle.feed_prints.proofs.telling.tell_end.Tie as tie
 
@@ -24,13 +24,13 @@ same-length : tie.Need-same-length
 same-length c = search answers
 
 returns : tie.Need-returns
-returns c = end-awaiting _ _ (c .before .before .before .before .enum-told .given .1) (c .before .before .tell-bad .ensures)
+returns c = search answers
 
 same-length-2 : tie.Need-same-length-2
 same-length-2 c = search answers
 
 returns-2 : tie.Need-returns-2
-returns-2 c = end-trading _ _ (c .before .before .before .before .enum-told2 .given .1) (c .before .before .tell-tail .ensures)
+returns-2 c = search answers
 
 returns-3 : tie.Need-returns-3
 returns-3 c = search answers

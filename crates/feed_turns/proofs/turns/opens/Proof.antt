@@ -1,34 +1,36 @@
-use borrow.Author.Needs.{needs}
 use Rattle.feed_law.proofs.Taking.{opens-fine, opens-refused}
+use borrow.Author.Needs.{needs}
 use Rattle.feed_turns.proofs.turns.opens.Statement.{statement}
 use Rattle.feed_turns.proofs.turns.opens.Tie as tie
 
+ruleset answers = (needs, opens-fine, opens-refused)
+
 begin-requires : tie.Need-begin-requires
-begin-requires c κs = search needs
+begin-requires c κs = search answers
 
 enum-told : tie.Need-enum-told
-enum-told c = search needs
+enum-told c = search answers
 
 turned-requires : tie.Need-turned-requires
-turned-requires c κs = search needs
+turned-requires c κs = search answers
 
 enum-known-verdict : tie.Need-enum-known-verdict
-enum-known-verdict c = search needs
+enum-known-verdict c = search answers
 
 tell-bad-requires : tie.Need-tell-bad-requires
-tell-bad-requires c κs = search needs
+tell-bad-requires c κs = search answers
 
 turned-requires-2 : tie.Need-turned-requires-2
-turned-requires-2 c κs = search needs
+turned-requires-2 c κs = search answers
 
 returns : tie.Need-returns
-returns c = opens-fine (c .before .before .before .before .before .before .args .settings) _ (c .before .before .before .before .before .before .args .used) (c .before .before .before .before .begin .ensures) (c .before .enum-told .given .1) (c .turned .ensures)
+returns c = search answers
 
 same-length : tie.Need-same-length
-same-length c = search needs
+same-length c = search answers
 
 returns-2 : tie.Need-returns-2
-returns-2 c = opens-refused (c .before .before .before .before .before .before .before .before .before .before .before .args .settings) _ (c .before .before .before .before .before .before .before .before .before .before .before .args .used) (c .before .before .before .before .before .before .before .before .before .begin .ensures) _ (c .before .before .before .before .before .before .verdict .given .1) (c .before .before .before .tell-bad .ensures) (c .turned2 .ensures)
+returns-2 c = search answers
 
 pub opens-spec : {M : Type 1} → statement M
 opens-spec =

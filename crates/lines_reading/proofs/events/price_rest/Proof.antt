@@ -1,9 +1,11 @@
 -- By the kind, and what the pieces found.
 use Rattle.lines_text_law.proofs.Steps.{pieces}
-use Rattle.lines_reading_law.specs.Grammars.{priceRest}
+use Rattle.lines_reading_law.proofs.Prices.{price-due, end-due, stop-as}
 use borrow.Author.Needs.{needs}
 use Rattle.lines_reading.proofs.events.price_rest.Statement.{statement}
 use Rattle.lines_reading.proofs.events.price_rest.Tie as tie
+
+ruleset answers = (pieces, price-due, end-due, stop-as)
 
 slice-aggregate-last : tie.Need-slice-aggregate-last
 slice-aggregate-last c = search needs
@@ -42,28 +44,22 @@ enum-known-p-2 : tie.Need-enum-known-p-2
 enum-known-p-2 c = search needs
 
 returns : tie.Need-returns
-unfolding priceRest
-returns c = rw (c .before .before .before .before .before .before .if1 .taken, c .order .ensures) (search pieces)
+returns c = search answers
 
 returns-2 : tie.Need-returns-2
-unfolding priceRest
-returns-2 c = rw (c .before .before .before .before .if1 .taken) (search pieces)
+returns-2 c = search answers
 
 returns-3 : tie.Need-returns-3
-unfolding priceRest
-returns-3 c = rw (c .before .before .before .before .before .if1 .taken) (search pieces)
+returns-3 c = search answers
 
 returns-4 : tie.Need-returns-4
-unfolding priceRest
-returns-4 c = rw (c .before .before .before .before .before .before .if1 .left, c .order2 .ensures) (search pieces)
+returns-4 c = search answers
 
 returns-5 : tie.Need-returns-5
-unfolding priceRest
-returns-5 c = rw (c .before .before .before .before .if1 .left) (search pieces)
+returns-5 c = search answers
 
 returns-6 : tie.Need-returns-6
-unfolding priceRest
-returns-6 c = rw (c .before .before .before .before .before .if1 .left) (search pieces)
+returns-6 c = search answers
 
 pub price-rest-spec : {M : Type 1} → statement M
 price-rest-spec =

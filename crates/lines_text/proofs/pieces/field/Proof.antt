@@ -1,36 +1,34 @@
 -- By what the word found.
+use Rattle.lines_text_law.proofs.Steps.{field-on, field-cut, field-off}
 use borrow.Author.Needs.{needs}
-use mathlib.Core.Path.{_∙_, sym}
-use Rattle.lines_text_law.specs.code.Pieces.{fieldOn}
 use Rattle.lines_text.proofs.pieces.field.Statement.{statement}
 use Rattle.lines_text.proofs.pieces.field.Tie as tie
 
+ruleset answers = (needs, field-on, field-cut, field-off)
+
 word-requires : tie.Need-word-requires
-word-requires c κs = search needs
+word-requires c κs = search answers
 
 enum-known-n : tie.Need-enum-known-n
-enum-known-n c = search needs
+enum-known-n c = search answers
 
 number-requires : tie.Need-number-requires
-number-requires c κs = search needs
+number-requires c κs = search answers
 
 enum-told : tie.Need-enum-told
-enum-told c = search needs
+enum-told c = search answers
 
 enum-known-p : tie.Need-enum-known-p
-enum-known-p c = search needs
+enum-known-p c = search answers
 
 returns : tie.Need-returns
-unfolding fieldOn
-returns c = rw (sym (c .before .before .before .before .word .ensures) ∙ c .before .before .n .given .1) (c .number .ensures)
+returns c = search answers
 
 returns-2 : tie.Need-returns-2
-unfolding fieldOn
-returns-2 c = rw (sym (c .before .before .word .ensures) ∙ c .enum-told .given .1)
+returns-2 c = search answers
 
 returns-3 : tie.Need-returns-3
-unfolding fieldOn
-returns-3 c = rw (sym (c .before .before .before .word .ensures) ∙ c .before .p .given .1)
+returns-3 c = search answers
 
 pub field-spec : {M : Type 1} → statement M
 field-spec =

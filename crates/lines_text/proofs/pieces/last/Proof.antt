@@ -1,65 +1,52 @@
 -- By what the field found, and then the newline.
+use Rattle.lines_text_law.proofs.Steps.{last-on, last-cut, last-off, end-cut, end-off}
 use borrow.Author.Needs.{needs}
-use mathlib.Core.Path.{_∙_, sym}
-use Rattle.lines_text_law.specs.code.Pieces.{lastOn}
 use Rattle.lines_text.proofs.pieces.last.Statement.{statement}
 use Rattle.lines_text.proofs.pieces.last.Tie as tie
 
+ruleset answers = (needs, last-on, last-cut, last-off, end-cut, end-off)
+
 field-requires : tie.Need-field-requires
-field-requires c κs = search needs
+field-requires c κs = search answers
 
 enum-known-value : tie.Need-enum-known-value
-enum-known-value c = search needs
+enum-known-value c = search answers
 
 slice-aggregate-word : tie.Need-slice-aggregate-word
-slice-aggregate-word c = search needs
+slice-aggregate-word c = search answers
 
 word-requires : tie.Need-word-requires
-word-requires c κs = search needs
+word-requires c κs = search answers
 
 enum-known-n : tie.Need-enum-known-n
-enum-known-n c = search needs
+enum-known-n c = search answers
 
 enum-told : tie.Need-enum-told
-enum-told c = search needs
+enum-told c = search answers
 
 enum-known-p : tie.Need-enum-known-p
-enum-known-p c = search needs
+enum-known-p c = search answers
 
 enum-told-2 : tie.Need-enum-told-2
-enum-told-2 c = search needs
+enum-told-2 c = search answers
 
 enum-known-p-2 : tie.Need-enum-known-p-2
-enum-known-p-2 c = search needs
+enum-known-p-2 c = search answers
 
 returns : tie.Need-returns
-unfolding lastOn
-returns c =
-    let field = sym (c .before .before .before .before .before .before .before .before .field .ensures) ∙ c .before .before .before .before .before .before .value .given .1 in
-    let end = sym (c .before .before .before .word .ensures) ∙ c .before .n .given .1 in
-    rw (field, end)
+returns c = search answers
 
 returns-2 : tie.Need-returns-2
-unfolding lastOn
-returns-2 c =
-    let field = sym (c .before .before .before .before .before .before .before .field .ensures) ∙ c .before .before .before .before .before .value .given .1 in
-    let end = sym (c .before .before .word .ensures) ∙ c .enum-told .given .1 in
-    rw (field, end)
+returns-2 c = search answers
 
 returns-3 : tie.Need-returns-3
-unfolding lastOn
-returns-3 c =
-    let field = sym (c .before .before .before .before .before .before .before .before .field .ensures) ∙ c .before .before .before .before .before .before .value .given .1 in
-    let end = sym (c .before .before .before .word .ensures) ∙ c .before .p .given .1 in
-    rw (field, end)
+returns-3 c = search answers
 
 returns-4 : tie.Need-returns-4
-unfolding lastOn
-returns-4 c = rw (sym (c .before .before .field .ensures) ∙ c .enum-told2 .given .1)
+returns-4 c = search answers
 
 returns-5 : tie.Need-returns-5
-unfolding lastOn
-returns-5 c = rw (sym (c .before .before .before .field .ensures) ∙ c .before .p2 .given .1)
+returns-5 c = search answers
 
 pub last-spec : {M : Type 1} → statement M
 last-spec =

@@ -1,13 +1,14 @@
 -- The loop's invariant: the word is worth what is left of it from here.
 use Prim.Native.Nat.{_≤_, _-_}
-use native.Mathlib.Omega.{arith}
-use mathlib.Core.Path.{_≡_, _∙_, sym}
+use mathlib.Core.Path.{_≡_}
 use lib.ListN.{length, drop}
 use Rattle.lines_text_law.specs.code.Pieces.{wordOn}
 use Rattle.lines_text_law.proofs.Steps.{word-past, word-ends, word-differs, word-turn}
 use borrow.Author.Needs.{needs}
 use Rattle.lines_text.proofs.pieces.word.Statement.{statement}
 use Rattle.lines_text.proofs.pieces.word.Tie as tie
+
+ruleset answers = (needs, word-past, word-ends, word-differs, word-turn)
 
 abbrev Inv-loop : tie.InvT-loop
 Inv-loop s at w i₀ p₀ i p = (i ≤ length w) × (wordOn w (drop at s) at ≡ wordOn (drop i w) (drop p s) p)
@@ -19,10 +20,7 @@ loop-holds : tie.Need-loop-holds Inv-loop μ-loop
 loop-holds c = search needs
 
 returns : tie.Need-returns Inv-loop μ-loop
-returns c =
-    let a = c .before .before .before .args in
-    let l = c .before .before .loop in
-    sym (l .inv .1 ∙ word-ends (a .w .now) (a .s .now) (l .i) (l .p) (omega arith) (omega arith))
+returns c = search answers
 
 shared-slice-read-if2 : tie.Need-shared-slice-read-if2 Inv-loop μ-loop
 shared-slice-read-if2 c = search needs
@@ -31,10 +29,7 @@ shared-slice-read-if2-2 : tie.Need-shared-slice-read-if2-2 Inv-loop μ-loop
 shared-slice-read-if2-2 c = search needs
 
 returns-2 : tie.Need-returns-2 Inv-loop μ-loop
-returns-2 c =
-    let a = c .before .before .before .before .before .before .args in
-    let l = c .before .before .before .before .before .loop in
-    sym (l .inv .1 ∙ word-differs (a .w .now) (a .s .now) (l .i) (l .p) (omega arith) (omega arith) (c .if2 .taken))
+returns-2 c = search answers
 
 add-i : tie.Need-add-i Inv-loop μ-loop
 add-i c = search needs
@@ -46,18 +41,10 @@ loop-less : tie.Need-loop-less Inv-loop μ-loop
 loop-less c = search needs
 
 loop-again : tie.Need-loop-again Inv-loop μ-loop
-loop-again c =
-    let a = c .before .before .before .before .before .before .args in
-    let l = c .before .before .before .before .before .loop in (
-      omega arith,
-      l .inv .1 ∙ word-turn (a .w .now) (a .s .now) (l .i) (l .p) (omega arith) (omega arith) (c .if2 .left),
-    )
+loop-again c = search answers
 
 returns-3 : tie.Need-returns-3 Inv-loop μ-loop
-returns-3 c =
-    let a = c .before .before .args in
-    let l = c .before .loop in
-    sym (l .inv .1 ∙ word-past (a .w .now) (a .s .now) (l .i) (l .p) (omega arith))
+returns-3 c = search answers
 
 pub word-spec : {M : Type 1} → statement M
 word-spec =

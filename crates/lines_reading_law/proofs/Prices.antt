@@ -1,0 +1,29 @@
+-- The end of an order's line, by its kind: a limit's price is due, or none.
+use Prim.Native.Nat.{ℕ}
+use mathlib.Core.Path.{_≡_, _∙_, ap}
+use mathlib.Core.Bool.{Bool, true, false}
+use mathlib.Core.List.{List}
+use Rattle.terms.specs.declared.Event.{Event}
+use Rattle.terms.specs.declared.Kind.the-variants.{Limit, Market}
+use Rattle.terms.specs.declared.Life.{Life}
+use Rattle.terms.specs.declared.Side.{Side}
+use Rattle.lines_text_law.specs.Text.{bytes}
+use Rattle.lines_text_law.specs.Grammar.{Answer, whole, stop, word}
+use Rattle.lines_text_law.specs.code.Pieces.{at, lastly}
+use Rattle.lines_text_law.proofs.Steps.{at-stop}
+use Rattle.lines_reading_law.specs.Grammars.{order, priceRest}
+
+module _ (s : List ℕ) (n t : ℕ) (side : Side) (limit : Bool) (life : Life) (lots : ℕ) (o : Answer Event) where
+  pub price-due : limit ≡ true → o ≡ at s (lastly (bytes " price=") (λ price. order t side (Limit price) life lots)) n
+      → o ≡ at s (priceRest t side limit life lots) n
+  unfolding priceRest
+  price-due e h = rw e h
+
+  pub end-due : limit ≡ false → o ≡ at s (word (bytes "\n") (stop (order t side Market life lots))) n
+      → o ≡ at s (priceRest t side limit life lots) n
+  unfolding priceRest
+  end-due e h = rw e h
+
+-- the value that a line ends with, as code made it
+pub stop-as : (s : List ℕ) (e f : Event) (n : ℕ) → e ≡ f → whole e n ≡ at s (stop f) n
+stop-as s e f n q = ap (λ (x : Event). whole x n) q ∙ at-stop s f n
