@@ -1,4 +1,8 @@
 //! The paper's words as Rust types, and the runs of numbers that stand for them at the library's border.
+//!
+//! Prices are whole paise, quantities lots, times milliseconds from the open.
+
+use std::fmt;
 
 /// How many numbers a run of settings has.
 pub const SETTINGS: usize = 8;
@@ -21,19 +25,69 @@ pub const COUNTS: usize = 2;
 /// How many bytes of output room a feed asks for: what one line can print at most.
 pub const TEXT: usize = 66_560;
 
+/// Where each number of a session stands in its run.
+pub mod at {
+    /// The first of the eight settings.
+    pub const SETTINGS: usize = 0;
+    /// The time of the last accepted event.
+    pub const TIME: usize = 8;
+    /// 1 once the day is closed.
+    pub const CLOSED: usize = 9;
+    /// Live orders of the buy table.
+    pub const BUYS: usize = 10;
+    /// Live orders of the sell table.
+    pub const SELLS: usize = 11;
+    /// How often the band was widened: 0 or 1.
+    pub const WIDENED: usize = 12;
+    /// When the cooling-off ends; 0 where none runs.
+    pub const COOLING: usize = 13;
+    /// The reference price.
+    pub const REFERENCE: usize = 14;
+    /// The running minute's trades.
+    pub const MINUTE_COUNT: usize = 15;
+    /// The sum of their prices.
+    pub const MINUTE_SUM: usize = 16;
+    /// The underlying now; 0 where none is known.
+    pub const UNDER: usize = 17;
+    /// Order numbers given.
+    pub const GIVEN: usize = 18;
+    /// Trades made.
+    pub const TRADES: usize = 19;
+    /// The first of the prices of the last ten trades, oldest first.
+    pub const PRICES: usize = 20;
+    /// The first of their lots.
+    pub const SIZES: usize = 30;
+    /// Trades of the closing half hour.
+    pub const HALF_COUNT: usize = 40;
+    /// Their lots.
+    pub const HALF_LOTS: usize = 41;
+    /// The sum of price times lots.
+    pub const HALF_VALUE: usize = 42;
+}
+
+/// What sort of commodity it is: the percents of the band go by it.
 #[derive(Clone, Copy, PartialEq, Eq, Debug)]
 pub enum Category {
+    /// Broad: 4 percent, then 2 more.
     Broad,
+    /// Narrow: 4 percent, then 2 more.
     Narrow,
+    /// Sensitive: 3 percent, then 1 more.
     Sensitive,
+    /// Energy: 6 percent, then 3 more.
     Energy,
+    /// Metals: 6 percent, then 3 more.
     Metals,
+    /// Precious metals: 6 percent, then 3 more.
     Precious,
+    /// Gems: 3 percent, then 3 more.
     Gems,
+    /// All others: 6 percent, then 3 more.
     Other,
 }
 
 impl Category {
+    /// All of them, each at the place of its number.
     pub const ALL: [Category; 8] = [
         Category::Broad,
         Category::Narrow,
@@ -46,21 +100,29 @@ impl Category {
     ];
 }
 
-/// One contract on one day.
+/// One contract on one day. Base, close and settlement are multiples of the tick.
 #[derive(Clone, Copy, PartialEq, Eq, Debug)]
 pub struct Settings {
+    /// What sort of commodity it is.
     pub category: Category,
+    /// Base price, the middle of the band: 1 to 50,000,000.
     pub base: u64,
+    /// Previous close: 1 to 100,000,000.
     pub close: u64,
+    /// Previous settlement: 1 to 100,000,000.
     pub settle: u64,
+    /// Price step: 1 to 10,000.
     pub tick: u64,
+    /// Length of the day: 3,600,000 to 86,400,000.
     pub length: u64,
+    /// Days to maturity: 0 to 366.
     pub days: u64,
-    /// The underlying's price; 0 where none is known.
+    /// The underlying's price, up to 100,000,000; 0 where none is known.
     pub under: u64,
 }
 
 impl Settings {
+    /// The numbers that the library takes.
     pub fn to_run(&self) -> [u64; SETTINGS] {
         [self.category as u64, self.base, self.close, self.settle, self.tick, self.length, self.days, self.under]
     }
@@ -73,41 +135,77 @@ impl Settings {
     }
 }
 
+/// A side of the book.
 #[derive(Clone, Copy, PartialEq, Eq, Debug)]
 pub enum Side {
+    /// Those who buy.
     Buy,
+    /// Those who sell.
     Sell,
 }
 
+/// At which price an order trades.
 #[derive(Clone, Copy, PartialEq, Eq, Debug)]
 pub enum Kind {
+    /// At this price or a better one.
     Limit(u64),
+    /// At the market.
     Market,
 }
 
+/// What becomes of the part of an order that does not trade at once.
 #[derive(Clone, Copy, PartialEq, Eq, Debug)]
 pub enum Life {
+    /// It rests until the close; of a market order, as a limit order.
     Day,
+    /// Immediate or cancel: it is cancelled at once.
     Ioc,
 }
 
+/// What an event does.
 #[derive(Clone, Copy, PartialEq, Eq, Debug)]
 pub enum Act {
-    Order { side: Side, kind: Kind, life: Life, lots: u64 },
-    Cancel { id: u64 },
-    Under { price: u64 },
+    /// An order comes in.
+    Order {
+        /// Whether it buys or sells.
+        side: Side,
+        /// Limit or market.
+        kind: Kind,
+        /// What becomes of its rest.
+        life: Life,
+        /// Lots, 1 to 10,000.
+        lots: u64,
+    },
+    /// A resting order is taken back.
+    Cancel {
+        /// The number that its accept gave.
+        id: u64,
+    },
+    /// A new price of the underlying.
+    Under {
+        /// 1 to 100,000,000.
+        price: u64,
+    },
+    /// Time passes: only the slab and reference steps that are due happen.
     Clock,
-    Close { settle: u64 },
+    /// The day ends.
+    Close {
+        /// Today's settlement, a multiple of the tick.
+        settle: u64,
+    },
 }
 
+/// Something that happens on a day.
 #[derive(Clone, Copy, PartialEq, Eq, Debug)]
 pub struct Event {
     /// Milliseconds from the open.
     pub time: u64,
+    /// What it does.
     pub act: Act,
 }
 
 impl Event {
+    /// The numbers that the library takes.
     pub fn to_run(&self) -> [u64; EVENT] {
         let t = self.time;
         match self.act {
@@ -167,14 +265,23 @@ pub enum Why {
     End,
 }
 
+/// What the exchange tells of an event; `time` is the event's.
 #[derive(Clone, Copy, PartialEq, Eq, Debug)]
+#[allow(missing_docs)] // the fields are those of the report lines: docs/LINES.md
 pub enum Report {
+    /// The order was taken and has this number.
     Accept { time: u64, id: u64 },
+    /// A trade of two orders, at the price of the one that rested.
     Trade { time: u64, buy: u64, sell: u64, lots: u64, price: u64 },
+    /// The rest of a market order rests now, as a limit order at this price.
     Convert { time: u64, id: u64, lots: u64, price: u64 },
+    /// These lots of the order are cancelled; it does not rest any more.
     Cancel { time: u64, id: u64, lots: u64, why: Why },
+    /// The band was widened: its ends now.
     Slab { time: u64, low: u64, high: u64 },
+    /// The reference price has changed.
     Reference { time: u64, price: u64 },
+    /// The day is over: close price, and the next day's base.
     Close { time: u64, price: u64, base: u64 },
 }
 
@@ -204,55 +311,85 @@ impl Report {
     }
 }
 
-/// The paper's refusal numbers.
-#[derive(Clone, Copy, PartialEq, Eq, Debug)]
-#[repr(u8)]
-pub enum Refusal {
-    ShortTable = 1,
-    Unsound = 2,
-    Closed = 3,
-    EventRange = 4,
-    Early = 5,
-    Length = 6,
-    EventTick = 7,
-    Band = 8,
-    NoSuchOrder = 9,
-    SideFull = 10,
-    DayFull = 11,
-    SettingsRange = 12,
-    SettingsTick = 13,
-    Unfinished = 14,
-    WrongLine = 15,
-    ShortLine = 16,
-    LargeNumber = 17,
+/// The refusals from their numbers, names and words, in one table.
+macro_rules! refusals {
+    ($($number:literal $name:ident $words:literal)*) => {
+        /// The paper's refusals, and any other that a library might answer. As an error it says what is wrong and what is allowed,
+        /// in the words of docs/LINES.md.
+        ///
+        /// ```
+        /// use kakoludar::Refusal;
+        /// assert_eq!(Refusal::Closed.number(), 3);
+        /// assert_eq!(Refusal::Closed.to_string(), "refused by 3: the session is closed already");
+        /// assert_eq!(Refusal::from_number(200), Some(Refusal::Unknown(200)));
+        /// ```
+        #[derive(Clone, Copy, PartialEq, Eq, Hash, Debug)]
+        #[non_exhaustive]
+        pub enum Refusal {
+            $(
+                #[doc = concat!(stringify!($number), ": ", $words, ".")]
+                $name,
+            )*
+            /// A code that this wrapper does not know: the library is of another version.
+            Unknown(u8),
+        }
+
+        impl Refusal {
+            /// Those of the paper, in the order of their numbers, from 1.
+            pub const ALL: [Refusal; 17] = [$(Refusal::$name),*];
+
+            /// Its number.
+            pub fn number(self) -> u64 {
+                match self {
+                    $(Refusal::$name => $number,)*
+                    Refusal::Unknown(number) => number.into(),
+                }
+            }
+
+            /// The refusal of an answer's code: none for 0, and a refusal for whatever else.
+            pub fn from_number(number: u64) -> Option<Refusal> {
+                match number {
+                    0 => None,
+                    $($number => Some(Refusal::$name),)*
+                    other => Some(Refusal::Unknown(u8::try_from(other).unwrap_or(u8::MAX))),
+                }
+            }
+
+            /// What is wrong and what is allowed.
+            pub fn words(self) -> &'static str {
+                match self {
+                    $(Refusal::$name => $words,)*
+                    Refusal::Unknown(_) => "a code that this wrapper does not know: the library is of another version",
+                }
+            }
+        }
+    };
 }
 
-impl Refusal {
-    pub const ALL: [Refusal; 17] = [
-        Refusal::ShortTable,
-        Refusal::Unsound,
-        Refusal::Closed,
-        Refusal::EventRange,
-        Refusal::Early,
-        Refusal::Length,
-        Refusal::EventTick,
-        Refusal::Band,
-        Refusal::NoSuchOrder,
-        Refusal::SideFull,
-        Refusal::DayFull,
-        Refusal::SettingsRange,
-        Refusal::SettingsTick,
-        Refusal::Unfinished,
-        Refusal::WrongLine,
-        Refusal::ShortLine,
-        Refusal::LargeNumber,
-    ];
+refusals! {
+    1 ShortTable "a table under 768 numbers, the report room under 3,120, or a run of numbers under its length"
+    2 Unsound "the session's numbers are not sound: they cannot be a session and its live orders"
+    3 Closed "the session is closed already"
+    4 EventRange "a number of the event is out of its range: time 0 to 86,400,000, lots 1 to 10,000, a price, settlement or underlying 1 to 100,000,000, order number 1 to 60,000"
+    5 Early "time below that of the last accepted event"
+    6 Length "a close before the length of the day, or anything else at or after it"
+    7 EventTick "limit or settlement not a multiple of the tick"
+    8 Band "limit outside the band, as it is at the event's time; its ends are allowed"
+    9 NoSuchOrder "a cancel of an order that does not rest: never given, traded in full, or cancelled"
+    10 SideFull "a day order, limit or market, whose own side holds 256 orders"
+    11 DayFull "an order, after 60,000 orders or more than 59,744 trades"
+    12 SettingsRange "a number of the settings is out of its range: category one of eight, base 1 to 50,000,000, close and settlement 1 to 100,000,000, tick 1 to 10,000, length 3,600,000 to 86,400,000, days 0 to 366, underlying 0 to 100,000,000"
+    13 SettingsTick "base, close or settlement of the settings not a multiple of the tick"
+    14 Unfinished "the bytes begin a line and hold no whole one; no bytes at all, too"
+    15 WrongLine "the bytes begin no line of the sort that is due"
+    16 ShortLine "line room under 128 bytes"
+    17 LargeNumber "a number above 999,999,999 is to be written"
+}
 
-    pub fn number(self) -> u64 {
-        self as u64
-    }
-
-    pub fn from_number(number: u64) -> Option<Refusal> {
-        Refusal::ALL.get(usize::try_from(number).ok()?.checked_sub(1)?).copied()
+impl fmt::Display for Refusal {
+    fn fmt(&self, f: &mut fmt::Formatter<'_>) -> fmt::Result {
+        write!(f, "refused by {}: {}", self.number(), self.words())
     }
 }
+
+impl std::error::Error for Refusal {}

@@ -58,14 +58,14 @@ fn apply(day: &mut Day, event: &[u64], tally: &mut Tally) -> u64 {
     tally.refusals[code as usize] += 1;
     if code == 0 {
         tally.accepted += 1;
-        tally.deepest = tally.deepest.max(day.session[10].max(day.session[11]));
+        tally.deepest = tally.deepest.max(day.session[at::BUYS].max(day.session[at::SELLS]));
         for record in &day.room.as_chunks::<RECORD>().0[..count as usize] {
             tally.kinds[record[0] as usize] += 1;
             if record[0] == 4 {
                 tally.whys[record[4] as usize] += 1;
             }
             if record[0] == 7 {
-                let case = match (day.session[40], day.session[19]) {
+                let case = match (day.session[at::HALF_COUNT], day.session[at::TRADES]) {
                     (10.., _) => 0,
                     (_, 10..) => 1,
                     (_, 1..) => 2,
@@ -111,12 +111,12 @@ fn play(seed: u64, style: Style, length: usize, trials: u64, tally: &mut Tally) 
     if rng.chance(12) {
         // late in a long day: many orders given, many trades made
         let trades = rng.pick(&[9_000, 59_700, 59_744, 59_745, 60_000]);
-        day.session[18] = rng.pick(&[1_000, 8_190, 30_000, 59_990, 60_000]);
-        day.session[19] = trades;
+        day.session[at::GIVEN] = rng.pick(&[1_000, 8_190, 30_000, 59_990, 60_000]);
+        day.session[at::TRADES] = trades;
         let band = day.plain().band();
         for i in 0..10 {
-            day.session[20 + i] = rng.pick(&[band.0, band.1, settings.base, settings.tick]);
-            day.session[30 + i] = rng.within(1, 10_000);
+            day.session[at::PRICES + i] = rng.pick(&[band.0, band.1, settings.base, settings.tick]);
+            day.session[at::SIZES + i] = rng.within(1, 10_000);
         }
     }
     let mut style = style;
@@ -138,7 +138,7 @@ fn play(seed: u64, style: Style, length: usize, trials: u64, tally: &mut Tally) 
     }
     if rng.chance(95) {
         let last = closing(&mut rng, &day).to_run();
-        let already = day.session[9];
+        let already = day.session[at::CLOSED];
         assert_eq!(desk::code(apply(&mut day, &last, tally)), 3 * already);
         look(&day, tally);
         for _ in 0..3 {
@@ -151,7 +151,7 @@ fn play(seed: u64, style: Style, length: usize, trials: u64, tally: &mut Tally) 
 
 /// Garbage behind the live parts and in the room.
 fn spill(rng: &mut Rng, day: &mut Day) {
-    let (buys, sells) = (3 * day.session[10] as usize, 3 * day.session[11] as usize);
+    let (buys, sells) = (3 * day.session[at::BUYS] as usize, 3 * day.session[at::SELLS] as usize);
     for number in day.buys[buys..].iter_mut().chain(&mut day.sells[sells..]).chain(&mut day.room) {
         *number = rng.next();
     }
@@ -286,8 +286,8 @@ fn the_two_engines_agree_on_openings() {
                 ]),
             };
         }
-        run.resize(if rng.chance(90) { 8 } else { rng.pick(&[9, 7, 0]) }, 3);
-        let length = if rng.chance(90) { 43 } else { rng.pick(&[44, 42, 0]) };
+        run.resize(if rng.chance(90) { SETTINGS } else { rng.pick(&[9, 7, 0]) }, 3);
+        let length = if rng.chance(90) { SESSION } else { rng.pick(&[SESSION + 1, SESSION - 1, 0]) };
         let mut session = rng.garbage(length);
         open(&run, &mut session, &mut tally);
     }

@@ -169,7 +169,9 @@ fn a_refused_feed_writes_nothing() {
     let mut rng = Rng(79);
     let least = [RUN, TABLE, TABLE, ROOM, COUNTS];
     let input = day(3, Style::Busy);
-    for (which, short, call) in (0..=least.len()).flat_map(|i| [(i, 1, raw::feed as raw::Feed), (i, 2, raw::feed), (i, 1, raw::end)]) {
+    for (which, short, call) in
+        (0..=least.len()).flat_map(|i| [(i, 1, raw::feed as raw::Feed), (i, 2, raw::feed), (i, 1, raw::end)])
+    {
         let lengths = std::array::from_fn::<_, 5, _>(|i| least[i] - if i == which { short } else { 0 });
         let mut numbers = lengths.map(|length| rng.garbage(length));
         if lengths[0] == RUN {
@@ -279,10 +281,10 @@ fn the_end_answers_any_bytes() {
 fn no_run_is_over() {
     let mut rng = Rng(80);
     let input = day(4, Style::Busy);
-    for (at, number) in [(0, 3), (0, u64::MAX), (1, 8), (10, 2)] {
+    for (place, number) in [(0, 3), (0, u64::MAX), (1 + at::SETTINGS, 8), (1 + at::CLOSED, 2)] {
         let mut run = vec![0; RUN];
         run[0] = 1;
-        run[at] = number;
+        run[place] = number;
         let [mut buys, mut sells, mut room] = [TABLE, TABLE, ROOM].map(|length| rng.garbage(length));
         let mut counts = [9; COUNTS];
         let mut out = vec![7; TEXT];

@@ -41,7 +41,7 @@ fn a_day_is_played_and_kept() {
     assert_eq!((day.time(), day.reference()), (5, 10_000));
 
     let (buys, sells) = day.tables();
-    let mut again = Session::resume(*day.numbers(), *buys, *sells);
+    let mut again = Session::from_numbers(*day.numbers(), *buys, *sells);
     let event = limit(6, Side::Buy, 5, 10_150);
     let reports: Vec<Report> = again.apply(&event).unwrap().collect();
     assert_eq!(reports, day.apply(&event).unwrap().collect::<Vec<_>>());
@@ -59,8 +59,8 @@ fn a_day_is_played_and_kept() {
 #[test]
 fn damaged_numbers_are_refused() {
     let mut numbers = *Session::open(&settings()).unwrap().numbers();
-    numbers[14] = 0;
-    let mut day = Session::resume(numbers, [0; 768], [0; 768]);
+    numbers[terms::at::REFERENCE] = 0;
+    let mut day = Session::from_numbers(numbers, [0; terms::TABLE], [0; terms::TABLE]);
     assert!(!day.is_sound());
     assert_eq!(day.apply(&limit(0, Side::Buy, 1, 10_000)).err(), Some(Refusal::Unsound));
 }

@@ -33,26 +33,41 @@ const SLABS: [(u64, u64); 8] = [(4, 2), (4, 2), (3, 1), (6, 3), (6, 3), (6, 3), 
 /// Everything a day remembers beside its two tables.
 #[derive(Clone, PartialEq, Eq, Debug)]
 pub struct Session {
+    /// What the day was opened with.
     pub settings: Settings,
+    /// The time of the last accepted event.
     pub time: u64,
+    /// Whether the day is over.
     pub closed: bool,
+    /// Live orders of the buy table.
     pub buys: u64,
+    /// Live orders of the sell table.
     pub sells: u64,
     /// How often the band was widened: 0 or 1.
     pub widened: u64,
     /// When the cooling-off ends; 0 where none runs.
     pub cooling: u64,
+    /// The reference price.
     pub reference: u64,
+    /// The running minute's trades.
     pub minute_count: u64,
+    /// The sum of their prices.
     pub minute_sum: u64,
+    /// The underlying now; 0 where none is known.
     pub under: u64,
+    /// Order numbers given.
     pub given: u64,
+    /// Trades made.
     pub trades: u64,
-    /// The last ten trades, oldest first.
+    /// Prices of the last ten trades, oldest first.
     pub prices: [u64; 10],
+    /// Their lots.
     pub sizes: [u64; 10],
+    /// Trades of the closing half hour.
     pub half_count: u64,
+    /// Their lots.
     pub half_lots: u64,
+    /// The sum of price times lots.
     pub half_value: u64,
 }
 
@@ -175,6 +190,7 @@ impl Session {
         }
     }
 
+    /// Opens a day. Refused by 12 or 13.
     pub fn open(settings: Settings) -> Result<Session, Refusal> {
         settings.check()?;
         let reference = if settings.under == 0 { settings.base } else { settings.theoretical(settings.under) };

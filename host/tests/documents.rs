@@ -1,0 +1,86 @@
+//! The wrapper, the header and docs/LINES.md say the same: sizes, places, numbers, versions, and the words of the refusals.
+
+use kakoludar::terms::*;
+use std::collections::BTreeMap;
+
+const HEADER: &str = include_str!("../kakoludar.h");
+const LINES: &str = include_str!("../../docs/LINES.md");
+
+/// The header's constants, without their common prefix.
+fn constants() -> BTreeMap<&'static str, u64> {
+    let mut found = BTreeMap::new();
+    for line in HEADER.lines() {
+        let words = line.split(|c: char| !(c.is_alphanumeric() || c == '_')).filter(|word| !word.is_empty());
+        let words: Vec<&str> = words.collect();
+        for pair in words.windows(2) {
+            if let (Some(name), Ok(number)) = (pair[0].strip_prefix("KAKOLUDAR_"), pair[1].parse()) {
+                assert!(found.insert(name, number).is_none(), "{name} twice");
+            }
+        }
+    }
+    found
+}
+
+#[test]
+fn sizes_and_places_are_the_headers() {
+    let header = constants();
+    let sizes = [
+        ("SETTINGS", SETTINGS),
+        ("SESSION", SESSION),
+        ("EVENT", EVENT),
+        ("RECORD", RECORD),
+        ("TABLE", TABLE),
+        ("ROOM", ROOM),
+        ("LINE", LINE),
+        ("RUN", RUN),
+        ("COUNTS", COUNTS),
+        ("TEXT", TEXT),
+    ];
+    for (name, size) in sizes {
+        assert_eq!(header[format!("SIZE_{name}").as_str()], size as u64, "{name}");
+    }
+    assert_eq!(RUN, 1 + SESSION);
+    let places = [
+        ("SETTINGS", at::SETTINGS),
+        ("TIME", at::TIME),
+        ("CLOSED", at::CLOSED),
+        ("BUYS", at::BUYS),
+        ("SELLS", at::SELLS),
+        ("WIDENED", at::WIDENED),
+        ("COOLING", at::COOLING),
+        ("REFERENCE", at::REFERENCE),
+        ("MINUTE_COUNT", at::MINUTE_COUNT),
+        ("MINUTE_SUM", at::MINUTE_SUM),
+        ("UNDER", at::UNDER),
+        ("GIVEN", at::GIVEN),
+        ("TRADES", at::TRADES),
+        ("PRICES", at::PRICES),
+        ("SIZES", at::SIZES),
+        ("HALF_COUNT", at::HALF_COUNT),
+        ("HALF_LOTS", at::HALF_LOTS),
+        ("HALF_VALUE", at::HALF_VALUE),
+    ];
+    for (name, place) in places {
+        assert_eq!(header[format!("SESSION_{name}").as_str()], place as u64, "{name}");
+    }
+    assert_eq!(header.keys().filter(|name| name.starts_with("SESSION_")).count(), places.len());
+}
+
+#[test]
+fn refusals_are_those_of_the_header_and_of_the_table() {
+    let refused: Vec<u64> = constants().iter().filter(|(name, _)| name.starts_with("REFUSED_")).map(|(_, &n)| n).collect();
+    assert_eq!(refused.len(), 1 + Refusal::ALL.len());
+    let table = LINES.split("## Refusal numbers").nth(1).expect("the table's section");
+    for (number, refusal) in (1..).zip(Refusal::ALL) {
+        assert_eq!((refusal.number(), Refusal::from_number(number)), (number, Some(refusal)));
+        assert!(refused.contains(&number));
+        let row = format!("| {number} | {} |", refusal.words());
+        assert!(table.contains(&row), "docs/LINES.md has no row {row}");
+        assert_eq!(refusal.to_string(), format!("refused by {number}: {}", refusal.words()));
+    }
+    assert_eq!(Refusal::from_number(0), None);
+    for unknown in 18..=255 {
+        let refusal = Refusal::from_number(unknown).expect("a code that is not 0 is a refusal");
+        assert_eq!((refusal, refusal.number()), (Refusal::Unknown(unknown as u8), unknown));
+    }
+}
