@@ -20,6 +20,8 @@ pub const ROOM: usize = 3_120;
 pub const LINE: usize = 128;
 /// How many numbers a run of text has: its stage, and the session's.
 pub const RUN: usize = 44;
+/// How many numbers a standing has.
+pub const STANDING: usize = 14;
 /// How many counts a feed gives: bytes taken, bytes printed.
 pub const COUNTS: usize = 2;
 /// How many bytes of output room a feed asks for: what one line can print at most.
@@ -308,6 +310,97 @@ impl Report {
             [7, time, price, base, 0, 0] => Report::Close { time, price, base },
             _ => return None,
         })
+    }
+}
+
+/// Two prices, both included.
+#[derive(Clone, Copy, PartialEq, Eq, Debug)]
+pub struct Ends {
+    /// The lowest.
+    pub low: u64,
+    /// The highest.
+    pub high: u64,
+}
+
+impl Ends {
+    /// Whether a price lies between them.
+    pub fn hold(self, price: u64) -> bool {
+        self.low <= price && price <= self.high
+    }
+}
+
+/// A trade's price and lots.
+#[derive(Clone, Copy, PartialEq, Eq, Debug)]
+pub struct Traded {
+    /// Its price.
+    pub price: u64,
+    /// Its lots.
+    pub lots: u64,
+}
+
+/// Where a day stands, as it is after its last accepted event. What the next event's time brings, a wider band or a new reference, is
+/// not in it.
+#[derive(Clone, Copy, PartialEq, Eq, Debug)]
+pub struct Standing {
+    /// The percent in force.
+    pub percent: u64,
+    /// The band: limits outside it are refused by 8.
+    pub band: Ends,
+    /// The execution range: no trade outside it. Its ends are whole paise, on the tick or not.
+    pub range: Ends,
+    /// The reference price.
+    pub reference: u64,
+    /// When the cooling-off ends that runs; none where none runs.
+    pub cooling: Option<u64>,
+    /// The last trade; none where there was none.
+    pub last: Option<Traded>,
+    /// Orders that rest on the buy side.
+    pub buys: u64,
+    /// Orders that rest on the sell side.
+    pub sells: u64,
+    /// Order numbers given.
+    pub given: u64,
+    /// Trades made.
+    pub trades: u64,
+}
+
+impl Standing {
+    /// The numbers that the library lays.
+    pub fn to_numbers(&self) -> [u64; STANDING] {
+        let last = self.last.unwrap_or(Traded { price: 0, lots: 0 });
+        [
+            self.percent,
+            self.band.low,
+            self.band.high,
+            self.range.low,
+            self.range.high,
+            self.reference,
+            self.cooling.is_some().into(),
+            self.cooling.unwrap_or(0),
+            last.price,
+            last.lots,
+            self.buys,
+            self.sells,
+            self.given,
+            self.trades,
+        ]
+    }
+
+    /// The standing of numbers that the library laid.
+    pub fn from_numbers(numbers: &[u64; STANDING]) -> Standing {
+        let [percent, low, high, bottom, top, reference, runs, end, price, lots, buys, sells, given, trades] = *numbers;
+        Standing {
+            percent,
+            band: Ends { low, high },
+            range: Ends { low: bottom, high: top },
+            reference,
+            cooling: (runs == 1).then_some(end),
+            last: (trades > 0).then_some(Traded { price, lots }),
+            buys,
+            sells,
+            given,
+            trades,
+        }
     }
 }
 

@@ -216,6 +216,31 @@ impl Session {
         }
     }
 
+    /// Where the day stands as it is: no clock step is taken. Refused by 1 or 2.
+    pub fn standing(&self, buys: &[u64], sells: &[u64]) -> Result<Standing, Refusal> {
+        if buys.len() < TABLE || sells.len() < TABLE {
+            return Err(Refusal::ShortTable);
+        }
+        if !self.sound(buys, sells) {
+            return Err(Refusal::Unsound);
+        }
+        let (initial, enhanced) = SLABS[self.settings.category as usize];
+        let (band, range) = (self.settings.band(self.widened == 1), self.range());
+        let newest = self.trades.min(10) as usize;
+        Ok(Standing {
+            percent: if self.widened == 1 { initial + enhanced } else { initial },
+            band: Ends { low: band.low, high: band.high },
+            range: Ends { low: range.low, high: range.high },
+            reference: self.reference,
+            cooling: (self.cooling != 0).then_some(self.cooling),
+            last: (newest > 0).then(|| Traded { price: self.prices[newest - 1], lots: self.sizes[newest - 1] }),
+            buys: self.buys,
+            sells: self.sells,
+            given: self.given,
+            trades: self.trades,
+        })
+    }
+
     fn ground(&self, buys: &[Order], sells: &[Order]) -> Option<Ground> {
         let tick = self.settings.check().ok()?;
         let remembered = self.trades.min(10) as usize;
@@ -556,4 +581,32 @@ fn order<const BUY: bool>(
         }
     };
     own.insert::<BUY>([id, price, left]);
+}
+
+#[cfg(test)]
+mod tests {
+    use super::*;
+
+    /// The paper: price x is in range when 200×|x−reference| is at most initial percent×reference.
+    #[test]
+    fn the_ends_of_the_range_are_the_last_prices_in_it() {
+        for category in Category::ALL {
+            let settings =
+                Settings { category, base: 100, close: 1, settle: 1, tick: 1, length: 3_600_000, days: 0, under: 0 };
+            let mut session = Session::open(settings).unwrap();
+            let (initial, _) = SLABS[category as usize];
+            let references = (1..2_000).chain([10_225, 9_999_999, REFERENCE_MOST - 1, REFERENCE_MOST]);
+            for reference in references {
+                session.reference = reference;
+                let range = session.range();
+                for x in [range.low.saturating_sub(1), range.low, reference, range.high, range.high + 1] {
+                    assert_eq!(
+                        range.holds(x),
+                        200 * x.abs_diff(reference) <= initial * reference,
+                        "{category:?} {reference} {x}"
+                    );
+                }
+            }
+        }
+    }
 }
