@@ -3,9 +3,12 @@
  * Prices are whole paise, quantities lots, times milliseconds from the open. docs/LINES.md has every line, refusal and formula.
  *
  * The calls in the order of a day:
+ *   kakoludar_version, kakoludar_layout
+ *                           which library this is, and which stored numbers are its own
  *   kakoludar_open          settings in, a session out
  *   kakoludar_apply         one event: an order, a cancel, a price of the underlying, time that passes, the close
  *   kakoludar_view          the orders that rest on a side, best first
+ *   kakoludar_standing      the band, the range and the rest of what an app shows of a day
  *   kakoludar_sound         whether numbers are a session and its live orders
  *   kakoludar_read_..       one line of text as settings or an event
  *   kakoludar_write_..      settings, an event or a report as a line of text
@@ -34,6 +37,25 @@
 #ifdef __cplusplus
 extern "C" {
 #endif
+
+/* ---- Version
+ *
+ * KAKOLUDAR_VERSION is 1,000,000 * major + 1,000 * minor + patch: this header is of 0.2.0. KAKOLUDAR_LAYOUT marks the layout of
+ * the numbers that an app may store, session, run and tables. It is number 0 of every session: numbers with another in that
+ * place, stored by another version, are no session's (2; a run: over). Layouts are counted from 101, since before they were
+ * marked a category, 0 to 7, stood in that place. */
+#define KAKOLUDAR_VERSION 2000
+#define KAKOLUDAR_LAYOUT 101
+
+/* The version of the library that is linked. Where it is not KAKOLUDAR_VERSION, this header is of another one.
+ *   Answers  the version (no code and no count).
+ *   Writes   nothing. */
+uint64_t kakoludar_version(void);
+
+/* The layout of the library that is linked.
+ *   Answers  the layout (no code and no count).
+ *   Writes   nothing. */
+uint64_t kakoludar_layout(void);
 
 /* ---- Answers
  *
@@ -71,17 +93,18 @@ enum kakoludar_refused {
  *
  * Each run of numbers is a slice of uint64_t at least so long; what lies past these lengths is never touched. */
 
-#define KAKOLUDAR_SIZE_SETTINGS 8 /* enum kakoludar_setting */
-#define KAKOLUDAR_SIZE_SESSION 43 /* enum kakoludar_session */
-#define KAKOLUDAR_SIZE_EVENT 6    /* enum kakoludar_event */
-#define KAKOLUDAR_SIZE_RECORD 6   /* enum kakoludar_record */
-#define KAKOLUDAR_SIZE_ORDER 3    /* enum kakoludar_order */
-#define KAKOLUDAR_SIZE_TABLE 768  /* a side: 256 orders, best first */
-#define KAKOLUDAR_SIZE_ROOM 3120  /* the report room: 520 records */
-#define KAKOLUDAR_SIZE_RUN 44     /* where text in and text out stands: its stage, then the session's numbers */
-#define KAKOLUDAR_SIZE_COUNTS 2   /* of a feed: the bytes taken, the bytes printed */
-#define KAKOLUDAR_SIZE_LINE 128   /* bytes that a writer asks for */
-#define KAKOLUDAR_SIZE_TEXT 66560 /* bytes of output room with which a feed always makes progress: 520 lines of 128 */
+#define KAKOLUDAR_SIZE_SETTINGS 8  /* enum kakoludar_setting */
+#define KAKOLUDAR_SIZE_SESSION 44  /* enum kakoludar_session */
+#define KAKOLUDAR_SIZE_EVENT 6     /* enum kakoludar_event */
+#define KAKOLUDAR_SIZE_RECORD 6    /* enum kakoludar_record */
+#define KAKOLUDAR_SIZE_ORDER 3     /* enum kakoludar_order */
+#define KAKOLUDAR_SIZE_TABLE 768   /* a side: 256 orders, best first */
+#define KAKOLUDAR_SIZE_ROOM 3120   /* the report room: 520 records */
+#define KAKOLUDAR_SIZE_RUN 45      /* where text in and text out stands: its stage, then the session's numbers */
+#define KAKOLUDAR_SIZE_STANDING 14 /* enum kakoludar_standing */
+#define KAKOLUDAR_SIZE_COUNTS 2    /* of a feed: the bytes taken, the bytes printed */
+#define KAKOLUDAR_SIZE_LINE 128    /* bytes that a writer asks for */
+#define KAKOLUDAR_SIZE_TEXT 66560  /* bytes of output room with which a feed always makes progress: 520 lines of 128 */
 
 /* ---- What each number of a run is */
 
@@ -108,26 +131,28 @@ enum kakoludar_category {
     KAKOLUDAR_CATEGORY_OTHER = 7
 };
 
-/* A session. An app reads these numbers; it has no need to write them. */
+/* A session, in groups: its layout, its settings, its clock with the underlying, its live counts, what the reference is reckoned
+ * from, its trades. An app reads these numbers; it has no need to write them. */
 enum kakoludar_session {
-    KAKOLUDAR_SESSION_SETTINGS = 0,      /* 0 to 7: the settings */
-    KAKOLUDAR_SESSION_TIME = 8,          /* of the last accepted event */
-    KAKOLUDAR_SESSION_CLOSED = 9,        /* 0 or 1 */
-    KAKOLUDAR_SESSION_BUYS = 10,         /* live orders of the buy table */
-    KAKOLUDAR_SESSION_SELLS = 11,        /* live orders of the sell table */
-    KAKOLUDAR_SESSION_WIDENED = 12,      /* how often the band was widened: 0 or 1 */
-    KAKOLUDAR_SESSION_COOLING = 13,      /* when the cooling-off ends; 0: none runs */
-    KAKOLUDAR_SESSION_REFERENCE = 14,    /* the reference price */
-    KAKOLUDAR_SESSION_MINUTE_COUNT = 15, /* the running minute's trades */
-    KAKOLUDAR_SESSION_MINUTE_SUM = 16,   /* the sum of their prices */
-    KAKOLUDAR_SESSION_UNDER = 17,        /* the underlying now; 0: none known */
-    KAKOLUDAR_SESSION_GIVEN = 18,        /* order numbers given */
-    KAKOLUDAR_SESSION_TRADES = 19,       /* trades made */
-    KAKOLUDAR_SESSION_PRICES = 20,       /* 20 to 29: prices of the last ten trades, oldest first */
-    KAKOLUDAR_SESSION_SIZES = 30,        /* 30 to 39: their lots */
-    KAKOLUDAR_SESSION_HALF_COUNT = 40,   /* trades of the closing half hour */
-    KAKOLUDAR_SESSION_HALF_LOTS = 41,    /* their lots */
-    KAKOLUDAR_SESSION_HALF_VALUE = 42    /* the sum of price times lots */
+    KAKOLUDAR_SESSION_LAYOUT = 0,        /* KAKOLUDAR_LAYOUT */
+    KAKOLUDAR_SESSION_SETTINGS = 1,      /* 1 to 8: the settings */
+    KAKOLUDAR_SESSION_TIME = 9,          /* of the last accepted event */
+    KAKOLUDAR_SESSION_CLOSED = 10,       /* 0 or 1 */
+    KAKOLUDAR_SESSION_WIDENED = 11,      /* how often the band was widened: 0 or 1 */
+    KAKOLUDAR_SESSION_COOLING = 12,      /* when the cooling-off ends; 0: none runs */
+    KAKOLUDAR_SESSION_UNDER = 13,        /* the underlying now; 0: none known */
+    KAKOLUDAR_SESSION_BUYS = 14,         /* live orders of the buy table */
+    KAKOLUDAR_SESSION_SELLS = 15,        /* live orders of the sell table */
+    KAKOLUDAR_SESSION_GIVEN = 16,        /* order numbers given */
+    KAKOLUDAR_SESSION_REFERENCE = 17,    /* the reference price */
+    KAKOLUDAR_SESSION_MINUTE_COUNT = 18, /* the running minute's trades */
+    KAKOLUDAR_SESSION_MINUTE_SUM = 19,   /* the sum of their prices */
+    KAKOLUDAR_SESSION_TRADES = 20,       /* trades made */
+    KAKOLUDAR_SESSION_PRICES = 21,       /* 21 to 30: prices of the last ten trades, oldest first */
+    KAKOLUDAR_SESSION_SIZES = 31,        /* 31 to 40: their lots */
+    KAKOLUDAR_SESSION_HALF_COUNT = 41,   /* trades of the closing half hour */
+    KAKOLUDAR_SESSION_HALF_LOTS = 42,    /* their lots */
+    KAKOLUDAR_SESSION_HALF_VALUE = 43    /* the sum of price times lots */
 };
 
 /* An order in a side's table. */
@@ -194,17 +219,35 @@ enum kakoludar_why {
     KAKOLUDAR_WHY_END = 5    /* the close */
 };
 
+/* Where a day stands: what an app shows of it. */
+enum kakoludar_standing {
+    KAKOLUDAR_STANDING_PERCENT = 0,     /* the percent in force */
+    KAKOLUDAR_STANDING_BAND_LOW = 1,    /* a limit below it is refused by 8 */
+    KAKOLUDAR_STANDING_BAND_HIGH = 2,   /* a limit above it is refused by 8 */
+    KAKOLUDAR_STANDING_RANGE_LOW = 3,   /* in whole paise, on the tick or not: a price is in range just where it lies */
+    KAKOLUDAR_STANDING_RANGE_HIGH = 4,  /* between these two, both included */
+    KAKOLUDAR_STANDING_REFERENCE = 5,   /* the reference price */
+    KAKOLUDAR_STANDING_COOLING = 6,     /* 1 where a cooling-off runs, else 0 */
+    KAKOLUDAR_STANDING_COOLING_END = 7, /* its end; 0 where none runs */
+    KAKOLUDAR_STANDING_LAST_PRICE = 8,  /* of the last trade; 0 where there was none */
+    KAKOLUDAR_STANDING_LAST_LOTS = 9,   /* its lots; 0 where there was none */
+    KAKOLUDAR_STANDING_BUYS = 10,       /* live orders of the buy table */
+    KAKOLUDAR_STANDING_SELLS = 11,      /* live orders of the sell table */
+    KAKOLUDAR_STANDING_GIVEN = 12,      /* order numbers given */
+    KAKOLUDAR_STANDING_TRADES = 13      /* trades made */
+};
+
 /* ---- The session */
 
 /* Opens a day.
  *   Answers  0; 1 for a short run; 12 or 13 for settings that are refused.
- *   Writes   the session's numbers; on 12 and 13 zeros, which are no sound session; on 1 nothing.
+ *   Writes   the session's numbers; on 12 and 13 the layout and zeros, which are no sound session; on 1 nothing.
  *   Never    touches a table: what stands in the tables before the first event does not matter. */
 uint64_t kakoludar_open(const uint64_t *settings, size_t settings_len, uint64_t *session, size_t session_len);
 
 /* Applies one event.
  *   Answers  0 with the count of reports, at most 520; else 1 to 11, the first that applies: 2 too for numbers that are no
- *            session's (category above 7, closed above 1), 4 too for numbers that are no event's.
+ *            session's (another layout, category above 7, closed above 1), 4 too for numbers that are no event's.
  *   Writes   the session and both tables as they are after the event (the tables' numbers past the live orders are 0 up to 768)
  *            and the reports, from the start of the room, in their order.
  *   Never    writes anything where it refuses: not the time, not the band, no order number is used. */
@@ -224,6 +267,14 @@ uint64_t kakoludar_sound(const uint64_t *session, size_t session_len, const uint
  *   Writes   nothing. */
 uint64_t kakoludar_view(uint64_t side, const uint64_t *session, size_t session_len, const uint64_t *buys, size_t buys_len,
                         const uint64_t *sells, size_t sells_len);
+
+/* Where a day stands (enum kakoludar_standing), by the same definitions that judge orders.
+ *   Answers  0; 1 for a short table or run, a standing under 14 numbers too; 2 for numbers that are not sound or no session's.
+ *   Writes   the standing's 14 numbers; where it refuses nothing.
+ *   Never    steps the clock: it is of the session as it is after its last accepted event. What the time of the next event brings,
+ *            a wider band or a new reference, is not in it; apply a clock event first to see it. A closed session answers too. */
+uint64_t kakoludar_standing(const uint64_t *session, size_t session_len, const uint64_t *buys, size_t buys_len,
+                            const uint64_t *sells, size_t sells_len, uint64_t *standing, size_t standing_len);
 
 /* ---- Lines
  *

@@ -23,9 +23,10 @@ from typing import Optional
 
 # ---- sizes and places, as in kakoludar.h
 
-SIZE_SETTINGS, SIZE_SESSION, SIZE_EVENT, SIZE_RECORD, SIZE_ORDER = 8, 43, 6, 6, 3
-SIZE_TABLE, SIZE_ROOM, SIZE_RUN, SIZE_COUNTS, SIZE_LINE, SIZE_TEXT = 768, 3120, 44, 2, 128, 66560
-SESSION_TIME, SESSION_CLOSED, SESSION_REFERENCE = 8, 9, 14
+VERSION, LAYOUT = 2000, 101
+SIZE_SETTINGS, SIZE_SESSION, SIZE_EVENT, SIZE_RECORD, SIZE_ORDER, SIZE_STANDING = 8, 44, 6, 6, 3, 14
+SIZE_TABLE, SIZE_ROOM, SIZE_RUN, SIZE_COUNTS, SIZE_LINE, SIZE_TEXT = 768, 3120, 45, 2, 128, 66560
+SESSION_LAYOUT, SESSION_TIME, SESSION_CLOSED, SESSION_REFERENCE = 0, 9, 10, 17
 STAGE_TRADING = 1
 STOP_WAITS, STOP_FULL, STOP_ENDED = 0, 1, 2
 
@@ -272,6 +273,34 @@ class Resting:
     lots: int
 
 
+@dataclass(frozen=True)
+class Standing:
+    """Where a day stands, as it is after its last accepted event: the percent in force; the ends of the band, outside of which a limit is
+    refused by 8; the ends of the execution range, in whole paise and both included; the reference; when the cooling-off ends that runs,
+    None where none runs; price and lots of the last trade, None where there was none; orders that rest on each side; order numbers given;
+    trades made. What the next event's time brings is not in it."""
+    percent: int
+    band_low: int
+    band_high: int
+    range_low: int
+    range_high: int
+    reference: int
+    cooling: Optional[int]
+    last_price: Optional[int]
+    last_lots: Optional[int]
+    buys: int
+    sells: int
+    given: int
+    trades: int
+
+    @staticmethod
+    def of(numbers):
+        """The standing of the numbers that the library laid."""
+        *ends, runs, end, price, lots, buys, sells, given, trades = numbers
+        last = (price, lots) if trades else (None, None)
+        return Standing(*ends, end if runs else None, *last, buys, sells, given, trades)
+
+
 # ---- the library
 
 
@@ -283,6 +312,10 @@ def _found():
 
 
 _library = ctypes.CDLL(_found())
+for _name in ('kakoludar_version', 'kakoludar_layout'):
+    getattr(_library, _name).restype = ctypes.c_uint64
+if (_library.kakoludar_version(), _library.kakoludar_layout()) != (VERSION, LAYOUT):
+    raise ImportError(f'{_found()} is of another version than this module')
 
 
 def _numbers(length, values=()):
@@ -380,6 +413,12 @@ class Session:
         table = self._buys if side == Side.BUY else self._sells
         live = _call('kakoludar_view', int(side), self._session, self._buys, self._sells)
         return [Resting(*table[i:i + SIZE_ORDER]) for i in range(0, live, SIZE_ORDER)]
+
+    def standing(self):
+        """Where the day stands: the band, the range and the rest of what an app shows. Raises Refused by 2."""
+        numbers = _numbers(SIZE_STANDING)
+        _done(_call('kakoludar_standing', self._session, self._buys, self._sells, numbers))
+        return Standing.of(numbers)
 
     @property
     def is_sound(self):

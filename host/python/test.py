@@ -78,7 +78,9 @@ def calls():
     assert day.apply(k.Order(5, k.Side.SELL, lots=1, price=10_300)) == [k.Accept(5, 2)]
     assert day.view(k.Side.SELL) == [k.Resting(1, 10_150, 4), k.Resting(2, 10_300, 1)] and day.view(k.Side.BUY) == []
     assert (day.time, day.reference, day.is_closed, day.is_sound) == (5, 10_000, False, True)
+    assert day.standing() == k.Standing(3, 9_700, 10_300, 9_850, 10_150, 10_000, None, None, None, 0, 2, 2, 0)
     assert day.apply(k.Order(6, k.Side.BUY, lots=5, price=10_150))[1] == k.Trade(6, 3, 1, 4, 10_150)
+    assert day.standing() == k.Standing(3, 9_700, 10_300, 9_850, 10_150, 10_000, None, 10_150, 4, 1, 1, 3, 1)
     assert day.apply(k.Close(3_600_000, 10_200)) == [
         k.Cancelled(3_600_000, 3, 1, k.Why.END), k.Cancelled(3_600_000, 2, 1, k.Why.END), k.Closed(3_600_000, 10_150, 10_200)]
     assert day.is_closed
@@ -88,6 +90,7 @@ def calls():
     unsound = k.Session.from_numbers(damaged, *day.tables)
     assert not unsound.is_sound
     refused(2, unsound.apply, k.Clock(3_600_000))
+    refused(2, unsound.standing)
     refused(12, k.Session.open, replace(SETTINGS, days=367))
     refused(13, k.Session.open, replace(SETTINGS, base=10_001))
     refused(14, k.read_event, b'')

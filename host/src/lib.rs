@@ -50,8 +50,8 @@ pub mod raw;
 pub mod terms;
 
 use std::fmt;
-use terms::{at, COUNTS, EVENT, LINE, RECORD, ROOM, RUN, SESSION, SETTINGS, TABLE, TEXT};
-pub use terms::{Act, Category, Event, Kind, Life, Refusal, Report, Settings, Side, Why};
+use terms::{at, COUNTS, EVENT, LINE, RECORD, ROOM, RUN, SESSION, SETTINGS, STANDING, TABLE, TEXT};
+pub use terms::{Act, Category, Ends, Event, Kind, Life, Refusal, Report, Settings, Side, Standing, Traded, Why};
 
 /// Takes an answer apart: the count, or the refusal and the count beside it. Only code 0 is a success.
 fn answered(answer: u64) -> Result<usize, (Refusal, usize)> {
@@ -100,9 +100,9 @@ impl Session {
 
     /// Applies an event and gives its reports, in their order. Refused by 2 to 11, the first that applies; a refused event changes
     /// nothing: not the time, not the band, and no order number is used.
-    pub fn apply(&mut self, event: &Event) -> Result<impl ExactSizeIterator<Item = Report> + '_, Refusal> {
+    pub fn apply(&mut self, event: &Event) -> Result<Reports<'_>, Refusal> {
         let records = self.apply_records(&event.to_run())?;
-        Ok(records.iter().map(|record| Report::from_record(record).expect("the library wrote it")))
+        Ok(Reports { records: records.iter() })
     }
 
     /// The same on an event's numbers, the reports as records.
@@ -120,6 +120,24 @@ impl Session {
         };
         let live = raw::view(number, &self.session, &self.buys, &self.sells) as usize;
         table[..live].as_chunks().0.iter().map(|&[id, price, lots]| Resting { id, price, lots })
+    }
+
+    /// Where the day stands: the band, the range and the rest of what an app shows. It is of the day as it is after its last accepted
+    /// event; what the time of the next one brings is not in it. Refused by 2.
+    ///
+    /// ```
+    /// use kakoludar::*;
+    /// let (settings, _) = read_settings(b"cat=sensitive base=1003 close=1003 settle=1003 tick=1 len=3600000 days=0 under=0\n").unwrap();
+    /// let stood = Session::open(&settings)?.standing()?;
+    /// assert_eq!((stood.percent, stood.band), (3, Ends { low: 973, high: 1_033 }));
+    /// assert_eq!((stood.reference, stood.range), (1_003, Ends { low: 988, high: 1_018 }));
+    /// assert_eq!((stood.cooling, stood.last), (None, None));
+    /// # Ok::<(), Refusal>(())
+    /// ```
+    pub fn standing(&self) -> Result<Standing, Refusal> {
+        let mut numbers = [0; STANDING];
+        answered(raw::standing(&self.session, &self.buys, &self.sells, &mut numbers)).map_err(|(refusal, _)| refusal)?;
+        Ok(Standing::from_numbers(&numbers))
     }
 
     /// Whether the numbers are a sound session.
@@ -152,6 +170,26 @@ impl Session {
         self.session[at::REFERENCE]
     }
 }
+
+/// The reports of an event that was applied, in their order.
+#[derive(Clone, Debug)]
+pub struct Reports<'a> {
+    records: std::slice::Iter<'a, [u64; RECORD]>,
+}
+
+impl Iterator for Reports<'_> {
+    type Item = Report;
+
+    fn next(&mut self) -> Option<Report> {
+        self.records.next().map(|record| Report::from_record(record).expect("the library wrote it"))
+    }
+
+    fn size_hint(&self) -> (usize, Option<usize>) {
+        self.records.size_hint()
+    }
+}
+
+impl ExactSizeIterator for Reports<'_> {}
 
 /// Why bytes are no line.
 #[derive(Clone, Copy, PartialEq, Eq, Debug)]

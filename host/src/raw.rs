@@ -2,6 +2,18 @@
 //! `kakoludar.h` says what each run of numbers holds.
 
 extern "C" {
+    fn kakoludar_version() -> u64;
+    fn kakoludar_layout() -> u64;
+    fn kakoludar_standing(
+        session: *const u64,
+        session_len: usize,
+        buys: *const u64,
+        buys_len: usize,
+        sells: *const u64,
+        sells_len: usize,
+        standing: *mut u64,
+        standing_len: usize,
+    ) -> u64;
     fn kakoludar_open(settings: *const u64, settings_len: usize, session: *mut u64, session_len: usize) -> u64;
     fn kakoludar_apply(
         session: *mut u64,
@@ -85,6 +97,16 @@ pub fn count(answer: u64) -> u64 {
 // Safety of every call below: each pointer and length are of one living slice, `&mut` slices overlap no other, and the library
 // keeps no pointer after it answers.
 
+/// The version of the library that is linked.
+pub fn version() -> u64 {
+    unsafe { kakoludar_version() }
+}
+
+/// The layout of the library that is linked.
+pub fn layout() -> u64 {
+    unsafe { kakoludar_layout() }
+}
+
 /// Opens a day: 0; 1; 12 or 13.
 pub fn open(settings: &[u64], session: &mut [u64]) -> u64 {
     unsafe { kakoludar_open(settings.as_ptr(), settings.len(), session.as_mut_ptr(), session.len()) }
@@ -116,6 +138,22 @@ pub fn sound(session: &[u64], buys: &[u64], sells: &[u64]) -> u64 {
 /// How many numbers of a side's table are live, from its start; the side is 1 for buy, 2 for sell.
 pub fn view(side: u64, session: &[u64], buys: &[u64], sells: &[u64]) -> u64 {
     unsafe { kakoludar_view(side, session.as_ptr(), session.len(), buys.as_ptr(), buys.len(), sells.as_ptr(), sells.len()) }
+}
+
+/// Where a day stands: 0; 1 or 2.
+pub fn standing(session: &[u64], buys: &[u64], sells: &[u64], standing: &mut [u64]) -> u64 {
+    unsafe {
+        kakoludar_standing(
+            session.as_ptr(),
+            session.len(),
+            buys.as_ptr(),
+            buys.len(),
+            sells.as_ptr(),
+            sells.len(),
+            standing.as_mut_ptr(),
+            standing.len(),
+        )
+    }
 }
 
 /// Reads a settings line: how many bytes it has; 1, 14, 15 with the place.

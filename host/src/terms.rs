@@ -4,10 +4,14 @@
 
 use std::fmt;
 
+/// The version of the library that this package is of: 1,000,000 × major + 1,000 × minor + patch.
+pub const VERSION: u64 = 2_000;
+/// The layout of the numbers that may be stored: number 0 of every session.
+pub const LAYOUT: u64 = 101;
 /// How many numbers a run of settings has.
 pub const SETTINGS: usize = 8;
 /// How many numbers a session has.
-pub const SESSION: usize = 43;
+pub const SESSION: usize = 44;
 /// How many numbers an event has.
 pub const EVENT: usize = 6;
 /// How many numbers a report has.
@@ -19,7 +23,7 @@ pub const ROOM: usize = 3_120;
 /// How many bytes a writer asks for.
 pub const LINE: usize = 128;
 /// How many numbers a run of text has: its stage, and the session's.
-pub const RUN: usize = 44;
+pub const RUN: usize = 45;
 /// How many numbers a standing has.
 pub const STANDING: usize = 14;
 /// How many counts a feed gives: bytes taken, bytes printed.
@@ -29,42 +33,44 @@ pub const TEXT: usize = 66_560;
 
 /// Where each number of a session stands in its run.
 pub mod at {
+    /// The layout, [`super::LAYOUT`].
+    pub const LAYOUT: usize = 0;
     /// The first of the eight settings.
-    pub const SETTINGS: usize = 0;
+    pub const SETTINGS: usize = 1;
     /// The time of the last accepted event.
-    pub const TIME: usize = 8;
+    pub const TIME: usize = 9;
     /// 1 once the day is closed.
-    pub const CLOSED: usize = 9;
-    /// Live orders of the buy table.
-    pub const BUYS: usize = 10;
-    /// Live orders of the sell table.
-    pub const SELLS: usize = 11;
+    pub const CLOSED: usize = 10;
     /// How often the band was widened: 0 or 1.
-    pub const WIDENED: usize = 12;
+    pub const WIDENED: usize = 11;
     /// When the cooling-off ends; 0 where none runs.
-    pub const COOLING: usize = 13;
-    /// The reference price.
-    pub const REFERENCE: usize = 14;
-    /// The running minute's trades.
-    pub const MINUTE_COUNT: usize = 15;
-    /// The sum of their prices.
-    pub const MINUTE_SUM: usize = 16;
+    pub const COOLING: usize = 12;
     /// The underlying now; 0 where none is known.
-    pub const UNDER: usize = 17;
+    pub const UNDER: usize = 13;
+    /// Live orders of the buy table.
+    pub const BUYS: usize = 14;
+    /// Live orders of the sell table.
+    pub const SELLS: usize = 15;
     /// Order numbers given.
-    pub const GIVEN: usize = 18;
+    pub const GIVEN: usize = 16;
+    /// The reference price.
+    pub const REFERENCE: usize = 17;
+    /// The running minute's trades.
+    pub const MINUTE_COUNT: usize = 18;
+    /// The sum of their prices.
+    pub const MINUTE_SUM: usize = 19;
     /// Trades made.
-    pub const TRADES: usize = 19;
+    pub const TRADES: usize = 20;
     /// The first of the prices of the last ten trades, oldest first.
-    pub const PRICES: usize = 20;
+    pub const PRICES: usize = 21;
     /// The first of their lots.
-    pub const SIZES: usize = 30;
+    pub const SIZES: usize = 31;
     /// Trades of the closing half hour.
-    pub const HALF_COUNT: usize = 40;
+    pub const HALF_COUNT: usize = 41;
     /// Their lots.
-    pub const HALF_LOTS: usize = 41;
+    pub const HALF_LOTS: usize = 42;
     /// The sum of price times lots.
-    pub const HALF_VALUE: usize = 42;
+    pub const HALF_VALUE: usize = 43;
 }
 
 /// What sort of commodity it is: the percents of the band go by it.

@@ -1,5 +1,6 @@
 //! The wrapper, the header and docs/LINES.md say the same: sizes, places, numbers, versions, and the words of the refusals.
 
+use kakoludar::raw;
 use kakoludar::terms::*;
 use std::collections::BTreeMap;
 
@@ -35,12 +36,14 @@ fn sizes_and_places_are_the_headers() {
         ("RUN", RUN),
         ("COUNTS", COUNTS),
         ("TEXT", TEXT),
+        ("STANDING", STANDING),
     ];
     for (name, size) in sizes {
         assert_eq!(header[format!("SIZE_{name}").as_str()], size as u64, "{name}");
     }
     assert_eq!(RUN, 1 + SESSION);
     let places = [
+        ("LAYOUT", at::LAYOUT),
         ("SETTINGS", at::SETTINGS),
         ("TIME", at::TIME),
         ("CLOSED", at::CLOSED),
@@ -64,6 +67,15 @@ fn sizes_and_places_are_the_headers() {
         assert_eq!(header[format!("SESSION_{name}").as_str()], place as u64, "{name}");
     }
     assert_eq!(header.keys().filter(|name| name.starts_with("SESSION_")).count(), places.len());
+}
+
+#[test]
+fn one_version() {
+    let parts: Vec<u64> = env!("CARGO_PKG_VERSION").split('.').map(|part| part.parse().unwrap()).collect();
+    let package = 1_000_000 * parts[0] + 1_000 * parts[1] + parts[2];
+    let header = constants();
+    assert_eq!([package, header["VERSION"], raw::version()], [VERSION; 3]);
+    assert_eq!([header["LAYOUT"], raw::layout()], [LAYOUT; 2]);
 }
 
 #[test]

@@ -16,6 +16,8 @@ struct Tally {
     unsound: u64,
     openings: u64,
     views: u64,
+    /// Standings by their answer.
+    standings: [u64; 3],
     refusals: [u64; 18],
     kinds: [u64; 8],
     whys: [u64; 6],
@@ -78,8 +80,33 @@ fn apply(day: &mut Day, event: &[u64], tally: &mut Tally) -> u64 {
     answer
 }
 
-/// Soundness and both views in both engines.
+/// Where the day stands in both engines: every number of a standing of some length.
+fn stand(day: &Day, length: usize, tally: &mut Tally) {
+    let mut stood = vec![BLANK; length];
+    let mut other = stood.clone();
+    let answer = desk::standing(&day.session, &day.buys, &day.sells, &mut stood);
+    let expected = plain::standing(&day.session, &day.buys, &day.sells, &mut other);
+    assert_eq!((answer, &stood), (expected, &other), "session {:?}", day.session);
+    // it is refused just where the session is not sound, and then writes nothing
+    let short = day.session.len() < SESSION || day.buys.len() < TABLE || day.sells.len() < TABLE || length < STANDING;
+    let sound = desk::sound(&day.session, &day.buys, &day.sells) == 1;
+    assert_eq!(answer, if short { 1 } else { 2 * u64::from(!sound) });
+    let written = if answer == 0 { STANDING } else { 0 };
+    assert!(stood[written..].iter().all(|&number| number == BLANK));
+    tally.standings[answer as usize] += 1;
+}
+
+/// What no call writes.
+const BLANK: u64 = 0xa5a5_a5a5_a5a5_a5a5;
+
+/// Soundness, both views and the standing in both engines.
 fn look(day: &Day, tally: &mut Tally) {
+    stand(day, STANDING + tally.standings[0] as usize % 3, tally);
+    if tally.standings[0] % 50 == 0 {
+        for length in [0, 1, STANDING - 1] {
+            stand(day, length, tally);
+        }
+    }
     let sound = desk::sound(&day.session, &day.buys, &day.sells);
     same("sound", &[sound], &[plain::sound(&day.session, &day.buys, &day.sells)], day, &[]);
     tally.soundness += 1;
@@ -229,6 +256,8 @@ fn the_two_engines_agree_on_sessions() {
     print_counts("reports by kind", &tally.kinds);
     print_counts("cancels by why", &tally.whys);
     println!("closes by half hour, last ten, last trade, previous close: {:?}", tally.closes);
+    println!("standings given, refused by 1, refused by 2: {:?}", tally.standings);
+    assert!(tally.standings.iter().all(|&count| count > 500), "standings of a kind were not met");
     for refusal in 1..=11 {
         assert!(tally.refusals[refusal] > 0, "refusal {refusal} was not met");
     }
@@ -247,6 +276,7 @@ fn the_two_engines_agree_on_sessions() {
 fn look_anyhow(day: &Day, tally: &mut Tally) {
     let sound = desk::sound(&day.session, &day.buys, &day.sells);
     assert_eq!(sound, plain::sound(&day.session, &day.buys, &day.sells));
+    stand(day, STANDING, tally);
     tally.soundness += 1;
     tally.unsound += u64::from(sound == 0);
 }

@@ -16,6 +16,7 @@ impl Session {
     /// The session's numbers, each in its place.
     pub fn to_run(&self) -> [u64; SESSION] {
         let mut run = [0; SESSION];
+        run[at::LAYOUT] = LAYOUT;
         run[at::SETTINGS..][..SETTINGS].copy_from_slice(&self.settings.to_run());
         run[at::TIME] = self.time;
         run[at::CLOSED] = self.closed.into();
@@ -40,7 +41,7 @@ impl Session {
     /// Numbers that are no session are the fixed session.
     pub fn from_run(run: &[u64; SESSION]) -> Session {
         let settings = run[at::SETTINGS..].first_chunk().and_then(Settings::from_run);
-        let (Some(settings), closed @ (0 | 1)) = (settings, run[at::CLOSED]) else {
+        let (LAYOUT, Some(settings), closed @ (0 | 1)) = (run[at::LAYOUT], settings, run[at::CLOSED]) else {
             return Session::fixed();
         };
         Session {
@@ -107,6 +108,17 @@ pub fn view(side: u64, session: &[u64], buys: &[u64], sells: &[u64]) -> u64 {
         _ => return 0,
     };
     session.first_chunk().map_or(0, |run| Session::from_run(run).view(side, buys, sells).len() as u64)
+}
+
+/// As `kakoludar_standing`.
+pub fn standing(session: &[u64], buys: &[u64], sells: &[u64], standing: &mut [u64]) -> u64 {
+    let (Some(session), Some(standing)) = (session.first_chunk(), standing.first_chunk_mut()) else {
+        return Refusal::ShortTable.number();
+    };
+    answer(Session::from_run(session).standing(buys, sells).map(|stood| {
+        *standing = stood.to_numbers();
+        0
+    }))
 }
 
 fn read<T, const N: usize>(read: Result<(T, usize), NoLine>, run: &mut [u64], numbers: impl Fn(&T) -> [u64; N]) -> u64 {

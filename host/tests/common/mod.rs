@@ -436,6 +436,11 @@ pub fn damage_session(rng: &mut Rng, day: &mut Day) {
         1 => rng.pick(&edges),
         _ => rng.below(SESSION as u64) as usize,
     };
+    // what was stored before the layout was marked, or by another version
+    if place == at::LAYOUT {
+        day.session[place] = rng.pick(&[0, 6, 7, 8, LAYOUT - 1, LAYOUT + 1, u64::MAX]);
+        return;
+    }
     // what goes with the number is filled in at times, so that one condition alone is broken
     if place == at::TRADES && rng.chance(70) {
         for i in 0..10 {
