@@ -23,8 +23,8 @@ fn step_in(old: Session, s: Session, buys: &mut [u64], sells: &mut [u64], room: 
     requires { ⌜ Stepping old s (now buys) (now sells) (now room) ⌝ }
     ensures { λ r. ⌜ SteppedAs old s (now (buys .entry)) (now (sells .entry)) (now (room .entry)) (now (buys .exit)) (now (sells .exit)) (now (room .exit)) r ⌝ }
 {
-    let nbuys = old.buys as usize;
-    let nsells = old.sells as usize;
+    let nbuys = old.live.buys as usize;
+    let nsells = old.live.sells as usize;
     orders::clear_tail(buys, nbuys);
     orders::clear_tail(sells, nsells);
     telling::tell_clock(room, 0, old, s)
@@ -46,8 +46,8 @@ fn only_clock(
     let stepped = clock::step(s, t);
     let at = step_in(s, stepped, buys, sells, room);
     let mut r = stepped;
-    r.under = under;
-    counting::done(r, s.buys as usize, s.sells as usize, at)
+    r.clock.under = under;
+    counting::done(r, s.live.buys as usize, s.live.sells as usize, at)
 }
 
 // A cancel.
@@ -64,8 +64,8 @@ fn cancel(
 {
     let stepped = clock::step(s, t);
     let at = step_in(s, stepped, buys, sells, room);
-    let nbuys = s.buys as usize;
-    let nsells = s.sells as usize;
+    let nbuys = s.live.buys as usize;
+    let nsells = s.live.sells as usize;
     let w = withdrawing::withdraw(number, t, buys, nbuys, sells, nsells, room, at);
     counting::done(stepped, w.buys, w.sells, w.at)
 }
@@ -84,8 +84,8 @@ fn buy(
 {
     let stepped = clock::step(s, t);
     let at = step_in(s, stepped, buys, sells, room);
-    let nbuys = s.buys as usize;
-    let nsells = s.sells as usize;
+    let nbuys = s.live.buys as usize;
+    let nsells = s.live.sells as usize;
     let r = entering::enter(stepped, n, buys, nbuys, sells, nsells, room, at);
     let session = r.session;
     counting::done(session, r.mine, r.theirs, r.at)
@@ -105,8 +105,8 @@ fn sell(
 {
     let stepped = clock::step(s, t);
     let at = step_in(s, stepped, buys, sells, room);
-    let nbuys = s.buys as usize;
-    let nsells = s.sells as usize;
+    let nbuys = s.live.buys as usize;
+    let nsells = s.live.sells as usize;
     let r = entering::enter(stepped, n, sells, nsells, buys, nbuys, room, at);
     let session = r.session;
     counting::done(session, r.theirs, r.mine, r.at)
@@ -145,8 +145,8 @@ fn close(
 {
     let at = closing::finish(s, t, settle, buys, sells, room);
     let mut r = s;
-    r.time = t;
-    r.closed = true;
+    r.clock.time = t;
+    r.clock.closed = true;
     counting::done(r, 0, 0, at)
 }
 
@@ -167,7 +167,7 @@ pub fn carry_out(
         Act::Enter(n) => order(s, t, n, buys, sells, room),
         Act::Withdraw(number) => cancel(s, t, number, buys, sells, room),
         Act::Under(price) => only_clock(s, t, price, a, buys, sells, room),
-        Act::Clock => only_clock(s, t, s.under, a, buys, sells, room),
+        Act::Clock => only_clock(s, t, s.clock.under, a, buys, sells, room),
         Act::Finish(settle) => close(s, t, settle, buys, sells, room),
     }
 }

@@ -20,11 +20,11 @@ pub fn finish(
     room: &mut [u64],
 ) -> usize
     requires { ⌜ Steady s × (tableLength ≤ length (now buys)) × (tableLength ≤ length (now sells)) × (recordLength * (slots + slots + 1) ≤ length (now room)) ⌝ }
-    ensures { λ r. ⌜ Finished s time settle (decode (s .buys) (now (buys .entry))) (decode (s .sells) (now (sells .entry))) (now (buys .entry)) (now (sells .entry)) (now (room .entry)) (now (buys .exit)) (now (sells .exit)) (now (room .exit)) r ⌝ }
+    ensures { λ r. ⌜ Finished s time settle (decode (s .live .buys) (now (buys .entry))) (decode (s .live .sells) (now (sells .entry))) (now (buys .entry)) (now (sells .entry)) (now (room .entry)) (now (buys .exit)) (now (sells .exit)) (now (room .exit)) r ⌝ }
 {
     let tape = s.tape;
-    let nbuys = s.buys as usize;
-    let nsells = s.sells as usize;
+    let nbuys = s.live.buys as usize;
+    let nsells = s.live.sells as usize;
     let closing = close::closing(s.settings.tick, s.settings.close, tape, settle);
     let bought = telling::cancel_all(room, 0, time, buys, nbuys);
     let sold = telling::cancel_all(room, bought, time, sells, nsells);

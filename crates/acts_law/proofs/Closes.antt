@@ -12,10 +12,11 @@ use Rattle.terms.specs.declared.Said.{Said}
 use Rattle.terms.specs.declared.Said.the-variants.{Close}
 use Rattle.terms.specs.declared.Why.the-variants.{DayEnd}
 use Rattle.terms.specs.Reports.{whyOf}
+use Rattle.terms.specs.Options.{maybe}
 use Rattle.rules_law.specs.Close.{closingOf}
 use Rattle.book_law.specs.Matching.{reportAt}
 use Rattle.book_law.specs.Priority.{rests, removed, leftOf}
-use Rattle.book_law.specs.Tells.{maybe, tells}
+use Rattle.book_law.specs.Tells.{tells}
 use Rattle.state_law.specs.Day.{Day}
 use Rattle.acts_law.specs.Acts.{Acted, dropped, cancelReports, closeReport, finished, does, act}
 
@@ -102,15 +103,15 @@ module _ (d : Day) (time settle : ℕ) where
 -- is, and so do the percent and the reference
 pub record Closed (d : Day) (time : ℕ) (d′ : Day) : Type 0 where
   pub orders : (d′ .buys ≡ []) × (d′ .sells ≡ [])
-  pub live : (d′ .session .buys ≡ 0) × (d′ .session .sells ≡ 0)
-  pub time-is : d′ .session .time ≡ time
-  pub closed : d′ .session .closed ≡ true
+  pub live : (d′ .session .live .buys ≡ 0) × (d′ .session .live .sells ≡ 0)
+  pub time-is : d′ .session .clock .time ≡ time
+  pub closed : d′ .session .clock .closed ≡ true
   pub settings : d′ .session .settings ≡ d .session .settings
-  pub widened : d′ .session .widened ≡ d .session .widened
-  pub cooling : d′ .session .cooling ≡ d .session .cooling
+  pub widened : d′ .session .clock .widened ≡ d .session .clock .widened
+  pub cooling : d′ .session .clock .cooling ≡ d .session .clock .cooling
   pub reckoning : d′ .session .reckoning ≡ d .session .reckoning
-  pub underlying : d′ .session .under ≡ d .session .under
-  pub given : d′ .session .given ≡ d .session .given
+  pub underlying : d′ .session .clock .under ≡ d .session .clock .under
+  pub given : d′ .session .live .given ≡ d .session .live .given
   pub tape : d′ .session .tape ≡ d .session .tape
 
 pub close-keeps : (d : Day) (time settle : ℕ) → Closed d time (act d (closeAt time settle) .day)

@@ -14,9 +14,9 @@ use Rattle.terms.proofs.Logic.{by, no-both}
 use Rattle.state_law.specs.declared.Session.{Session}
 use Rattle.state_law.specs.Set.{setUnder}
 use Rattle.state_law.specs.Clock.{clockStep}
-use Rattle.state_law.specs.Day.{Day, own, across}
+use Rattle.state_law.specs.Day.{Day, own, across, dayBy}
 use Rattle.refusal_law.specs.Carried.{carries}
-use Rattle.acts_law.specs.Acts.{Acted, sweepIn, entered, withdrawn, silent, finished, andThen, dayBy, stepped, timed, begun, does, act}
+use Rattle.acts_law.specs.Acts.{Acted, sweepIn, entered, withdrawn, silent, finished, andThen, stepped, timed, begun, does, act}
 
 -- ---- an act that tells nothing and moves no order
 
@@ -30,11 +30,11 @@ pub record Alike (s : Session) (a : Act) (s′ : Session) : Type 0 where
   pub entry : carries a .entry ≡ none
   pub stays : carries a .closes ≡ false
   pub settings : s′ .settings ≡ s .settings
-  pub time : s′ .time ≡ s .time
-  pub closed : s′ .closed ≡ s .closed
-  pub widened : s′ .widened ≡ s .widened
+  pub time : s′ .clock .time ≡ s .clock .time
+  pub closed : s′ .clock .closed ≡ s .clock .closed
+  pub widened : s′ .clock .widened ≡ s .clock .widened
   pub reckoning : s′ .reckoning ≡ s .reckoning
-  pub given : s′ .given ≡ s .given
+  pub given : s′ .live .given ≡ s .live .given
   pub tape : s′ .tape ≡ s .tape
 
 pub sets-alike : {s s′ : Session} {a : Act} → Sets s a s′ → Alike s a s′
@@ -49,7 +49,7 @@ abbrev pub enters : Day → Entry → Acted
 enters d n = entered (d .session) n (own (n .side) d) (sweepIn (d .session) n (across (n .side) d))
 
 abbrev pub ends : Day → ℕ → Acted
-ends d settle = finished (d .session) (d .session .time) settle (d .buys) (d .sells)
+ends d settle = finished (d .session) (d .session .clock .time) settle (d .buys) (d .sells)
 
 -- a property of what an act does
 pub does-by : (P : Acted → Type 0) (d : Day) (a : Act) →

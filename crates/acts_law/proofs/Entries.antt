@@ -15,13 +15,12 @@ use Rattle.terms.specs.declared.Kind.{Kind}
 use Rattle.terms.specs.declared.Said.the-variants.{Accept}
 use Rattle.terms.specs.Sizes.{recordLength}
 use Rattle.terms.proofs.Logic.{cases}
-use Rattle.rules_law.specs.Reference.{RangeFits}
-use Rattle.rules_law.proofs.Rows.{row-small}
 use Rattle.tables.specs.Tables.{decode}
 use Rattle.tables.proofs.Slots.{length-decode}
 use Rattle.book_law.specs.Matching.{Fate, Done, Rests, Turns, Ends, reportAt, tradeReports, fateOf}
 use Rattle.state_law.specs.declared.Session.{Session}
-use Rattle.state_law.specs.Now.{Clocked, bandNow, rangeNow}
+use Rattle.state_law.specs.Now.{bandNow}
+use Rattle.state_law.proofs.Fits.{range-fits}
 use Rattle.acts_law.specs.declared.Remainder.{Remainder}
 use Rattle.acts_law.specs.declared.Met.{Met}
 use Rattle.acts_law.specs.declared.Placed.{Placed}
@@ -35,9 +34,6 @@ back Done = refl
 back (Rests price) = refl
 back (Turns price) = refl
 back (Ends why) = refl
-
-range-fits : (s : Session) → Clocked s → RangeFits (rangeNow s)
-range-fits s c = record { percent-small = omega (arith, row-small (s .settings .category)); reference-small = c .reference-small }
 
 -- only an order that lives all day takes a place
 places : (life : Life) (kind : Kind) (band : Band) (last left : ℕ) (out : Bool) → takesPlace (remainderOf (fateFrom life kind band last left out)) ≡ true → life ≡ AllDay
@@ -54,7 +50,7 @@ module _ (s : Session) (n : Entry) (nmine : ℕ) (mine : List ℕ) (ntheirs : �
       record {
         banded = b;
         given-few = g .given-few;
-        ranged = range-fits s (g .clocked);
+        ranged = range-fits s _ (g .clocked) refl;
         holds = g .holds-theirs;
         space = omega (arith, g .space);
         fits = g .fits;
@@ -64,7 +60,7 @@ module _ (s : Session) (n : Entry) (nmine : ℕ) (mine : List ℕ) (ntheirs : �
   module _ (theirs′ room′ : List ℕ) (m : Met) (k : MetAs s n (decode ntheirs theirs) theirs room at theirs′ room′ m)
       (f : Remainder) (e : f ≡ remainderOf (fateFrom (n .life) (n .kind) band (m .last) (m .left) (m .out))) where
     abbrev accepted : List Report
-    accepted = reportAt (s .time) (Accept (s .given + 1)) ∷ tradeReports (s .time) (n .side) (s .given + 1) (sweepIn s n (decode ntheirs theirs) .fills)
+    accepted = reportAt (s .clock .time) (Accept (s .live .given + 1)) ∷ tradeReports (s .clock .time) (n .side) (s .live .given + 1) (sweepIn s n (decode ntheirs theirs) .fills)
 
     fate-is : fateBack f ≡ fateIn s n (sweepIn s n (decode ntheirs theirs))
     unfolding fateIn fateOf
@@ -84,7 +80,7 @@ module _ (s : Session) (n : Entry) (nmine : ℕ) (mine : List ℕ) (ntheirs : �
           place = λ p. g .place (places (n .life) (n .kind) band (m .last) (m .left) (m .out) (rw e at p));
         }
 
-    pub entered-as : (mine′ room″ : List ℕ) (p : Placed) → Settled (n .side) (s .time) (s .given + 1) (m .left) (fateBack f) (decode nmine mine) mine room′ (m .at) mine′ room″ p →
+    pub entered-as : (mine′ room″ : List ℕ) (p : Placed) → Settled (n .side) (s .clock .time) (s .live .given + 1) (m .left) (fateBack f) (decode nmine mine) mine room′ (m .at) mine′ room″ p →
         EnteredAs s n (decode nmine mine) (decode ntheirs theirs) mine theirs room at mine′ theirs′ room″ (record { session = m .session; mine = p .count; theirs = m .count; at = p .at })
     unfolding entered
     entered-as mine′ room″ p q =

@@ -24,10 +24,10 @@ use Rattle.book_sound_law.proofs.Facts.{book-fits}
 use Rattle.state_law.specs.declared.Session.{Session}
 use Rattle.state_law.specs.Now.{bandNow}
 use Rattle.state_law.specs.Clock.{clockStep}
-use Rattle.state_law.specs.Day.{Day, own, across}
+use Rattle.state_law.specs.Day.{Day, own, across, dayBy}
 use Rattle.soundness_law.specs.Sound.{sound}
 use Rattle.soundness_law.proofs.Days.{sound-day}
-use Rattle.acts_law.specs.Acts.{Acted, only, slabMoved, slabReport, refMoved, refReport, clockReports, sweepIn, fateIn, entered, dropped, cancelReports, closeReport, finished, dayBy, timed, does, act}
+use Rattle.acts_law.specs.Acts.{Acted, only, slabMoved, slabReport, refMoved, refReport, clockReports, sweepIn, fateIn, entered, dropped, cancelReports, closeReport, finished, timed, does, act}
 use Rattle.acts_law.proofs.Does.{ends, does-by, begun-by}
 
 pub only-few : (b : Bool) (r : Report) → length (only b r) ≤ 1
@@ -45,19 +45,19 @@ pub swept-few : (s : Session) (n : Entry) (theirs : List Order) → length (swee
 unfolding sweepIn
 swept-few s n theirs = sweep-fewer _ 0 (n .lots) theirs .fills
 
-fate-few : (s : Session) (n : Entry) (w : Swept) (number : ℕ) → length (fateReports (s .time) number (w .left) (fateIn s n w)) ≤ 1
+fate-few : (s : Session) (n : Entry) (w : Swept) (number : ℕ) → length (fateReports (s .clock .time) number (w .left) (fateIn s n w)) ≤ 1
 unfolding fateIn
-fate-few s n w number = fate-placed (n .side) number (s .time) [] (n .life) (n .kind) _ _ w .one
+fate-few s n w number = fate-placed (n .side) number (s .clock .time) [] (n .life) (n .kind) _ _ w .one
 
 entered-few : (s : Session) (n : Entry) (mine theirs : List Order) → length (entered s n mine (sweepIn s n theirs) .reports) ≤ 2 + length theirs
 unfolding entered
 entered-few s n mine theirs =
     let w : Swept = sweepIn s n theirs in
-    let number : ℕ = s .given + 1 in
+    let number : ℕ = s .live .given + 1 in
     omega (
       arith,
-      length-append (tradeReports (s .time) (n .side) number (w .fills)) (fateReports (s .time) number (w .left) (fateIn s n w)),
-      length-trades (s .time) (n .side) number (w .fills),
+      length-append (tradeReports (s .clock .time) (n .side) number (w .fills)) (fateReports (s .clock .time) number (w .left) (fateIn s n w)),
+      length-trades (s .clock .time) (n .side) number (w .fills),
       swept-few s n theirs,
       fate-few s n w number,
     )
@@ -70,7 +70,7 @@ cancels-few why t (o ∷ os) = omega (arith, cancels-few why t os)
 ends-few : (d : Day) (settle : ℕ) → length (ends d settle .reports) ≡ length (d .buys) + length (d .sells) + 1
 unfolding finished
 ends-few d settle =
-    let t : ℕ = d .session .time in
+    let t : ℕ = d .session .clock .time in
     let bs : List Report = cancelReports DayEnd t (d .buys) in
     let ss : List Report = cancelReports DayEnd t (d .sells) in
     let end : List Report = closeReport (d .session) t settle ∷ [] in
@@ -103,6 +103,6 @@ act-each d e =
 pub act-few : (d : Day) (e : Event) → sound d ≡ true → length (act d e .reports) ≤ reportsMost
 act-few d e h =
     let s : Session = d .session in
-    let f : BookFits (s .given) (s .settings .tick) (bandNow s) (d .buys) (d .sells) =
-    book-fits (s .given) (s .settings .tick) (bandNow s) (d .buys) (d .sells) (sound-day d h .book) in
+    let f : BookFits (s .live .given) (s .settings .tick) (bandNow s) (d .buys) (d .sells) =
+    book-fits (s .live .given) (s .settings .tick) (bandNow s) (d .buys) (d .sells) (sound-day d h .book) in
     omega (arith, act-each d e, f .few-buys, f .few-sells)

@@ -16,10 +16,11 @@ use Rattle.terms.specs.declared.Report.{Report}
 use Rattle.terms.specs.declared.Said.{Said}
 use Rattle.terms.specs.declared.Said.the-variants.{Trade}
 use Rattle.terms.proofs.Logic.{by, cases, split, join, or-left, or-last}
+use Rattle.terms.specs.Options.{maybe, If}
 use Rattle.rules_law.specs.Slabs.{slabOf, percentOf, bandAt, inBand, touches, coolingLength, coolingAfter}
 use Rattle.rules_law.specs.Reference.{rangeOf, inRange}
 use Rattle.book_law.specs.Matching.{reportAt}
-use Rattle.book_law.specs.Tells.{maybe, If, tells}
+use Rattle.book_law.specs.Tells.{tells}
 use Rattle.state_law.specs.declared.Session.{Session}
 use Rattle.state_law.specs.Now.{bandNow}
 use Rattle.acts_law.proofs.Pieces.{EachTold}
@@ -81,7 +82,7 @@ pub record Known : Type 0 where
   pub cooling : ℕ
 
 abbrev pub knownOf : Session → Known
-knownOf s = record { band = bandNow s; reference = s .reckoning .reference; time = s .time; cooling = s .cooling }
+knownOf s = record { band = bandNow s; reference = s .reckoning .reference; time = s .clock .time; cooling = s .clock .cooling }
 
 -- the listener knows it
 pub record Knows (g : Settings) (l : Listener) (k : Known) : Type 0 where

@@ -66,7 +66,7 @@ module _ (s : Session) (side : Side) (lots : ℕ) (w : Swept) (left : 1 ≤ w .l
 -- ---- "under (a new underlying, at least 1)": it is known from here on, and moves the reference at the next boundary, not at once
 
 pub under-waits : (d : Day) (t price : ℕ) →
-    (act d (record { time = t; act = Under price }) .day .session .under ≡ price)
+    (act d (record { time = t; act = Under price }) .day .session .clock .under ≡ price)
     × (act d (record { time = t; act = Under price }) .day .session .reckoning ≡ clockStep (d .session) t .reckoning)
 unfolding act
 under-waits d t price = (refl, refl)

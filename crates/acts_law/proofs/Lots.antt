@@ -14,6 +14,7 @@ use Rattle.terms.specs.declared.Report.{Report}
 use Rattle.terms.specs.declared.Said.{Said}
 use Rattle.terms.specs.declared.Why.{Why}
 use Rattle.terms.specs.declared.Why.the-variants.{Asked, DayEnd}
+use Rattle.terms.specs.Options.{maybe}
 use Rattle.book_law.specs.Priority.{removed}
 use Rattle.book_law.specs.Matching.{taker, Swept, tradeReports, settled, fateReports}
 use Rattle.book_law.specs.Over.{tally, mine, lotsOf}
@@ -22,9 +23,8 @@ use Rattle.book_law.proofs.Over.{mine-zero, lots-removed}
 use Rattle.book_law.proofs.Remainder.{total-append, Balanced, entered-balanced}
 use Rattle.state_law.specs.declared.Session.{Session}
 use Rattle.state_law.specs.Clock.{clockStep}
-use Rattle.state_law.specs.Day.{Day, own, across, dayWith}
-use Rattle.book_law.specs.Tells.{maybe}
-use Rattle.acts_law.specs.Acts.{Acted, clockReports, sweepIn, fateIn, entered, dropped, sideOf, cancelReports, closeReport, finished, dayBy, stepped, timed, does, act}
+use Rattle.state_law.specs.Day.{Day, own, across, dayWith, dayBy}
+use Rattle.acts_law.specs.Acts.{Acted, clockReports, sweepIn, fateIn, entered, dropped, sideOf, cancelReports, closeReport, finished, stepped, timed, does, act}
 use Rattle.acts_law.specs.Asked.{wanted, askedIn, askedBy, resting}
 use Rattle.acts_law.proofs.Does.{sets-alike, enters, ends, does-by, Chains, begun-by, act-by}
 use Rattle.acts_law.proofs.Pieces.{each-append, clock-each, trades-each, fate-each, cancels-each, finished-each, total-none}
@@ -76,22 +76,22 @@ resting-with id Sell s mine theirs = omega arith
 
 -- an order's trades and its remainder
 entry-balanced : (s : Session) (n : Entry) (id : ℕ) (mine theirs : List Order) →
-    Balanced id (s .time) (n .side) (s .given + 1) (n .lots) mine theirs (sweepIn s n theirs) (fateIn s n (sweepIn s n theirs))
+    Balanced id (s .clock .time) (n .side) (s .live .given + 1) (n .lots) mine theirs (sweepIn s n theirs) (fateIn s n (sweepIn s n theirs))
 unfolding sweepIn fateIn
-entry-balanced s n id mine theirs = entered-balanced id (s .time) (taker (n .side) (n .kind) _) (s .given + 1) (n .lots) (n .life) _ _ mine theirs
+entry-balanced s n id mine theirs = entered-balanced id (s .clock .time) (taker (n .side) (n .kind) _) (s .live .given + 1) (n .lots) (n .life) _ _ mine theirs
 
 -- what an order asks for
 entered-asks : (s : Session) (n : Entry) (id lots : ℕ) (mine₀ : List Order) (w : Swept) →
-    total (askedIn id lots) (entered s n mine₀ w .reports) ≡ mine id (s .given + 1) lots
+    total (askedIn id lots) (entered s n mine₀ w .reports) ≡ mine id (s .live .given + 1) lots
 unfolding entered total
 entered-asks s n id lots mine₀ w =
-    let ts : List Report = tradeReports (s .time) (n .side) (s .given + 1) (w .fills) in
-    let fs : List Report = fateReports (s .time) (s .given + 1) (w .left) (fateIn s n w) in
+    let ts : List Report = tradeReports (s .clock .time) (n .side) (s .live .given + 1) (w .fills) in
+    let fs : List Report = fateReports (s .clock .time) (s .live .given + 1) (w .left) (fateIn s n w) in
     omega (
       arith,
       total-none (askedIn id lots) (ts ++ fs)
-          (each-append _ ts fs (trades-each _ (s .time) (n .side) (s .given + 1) (w .fills) (λ deal. refl))
-          (fate-each _ (s .time) (s .given + 1) (w .left) (fateIn s n w) (λ o. refl) (λ e. refl))),
+          (each-append _ ts fs (trades-each _ (s .clock .time) (n .side) (s .live .given + 1) (w .fills) (λ deal. refl))
+          (fate-each _ (s .clock .time) (s .live .given + 1) (w .left) (fateIn s n w) (λ o. refl) (λ e. refl))),
     )
 
 entered-kept : (s : Session) (n : Entry) (id : ℕ) (own₀ theirs : List Order) →
@@ -101,7 +101,7 @@ entered-kept : (s : Session) (n : Entry) (id : ℕ) (own₀ theirs : List Order)
 unfolding entered total
 entered-kept s n id own₀ theirs =
     let w : Swept = sweepIn s n theirs in
-    let rest : resting id (entered s n own₀ w .day) ≡ lotsOf id (settled (n .side) (s .given + 1) (w .left) (fateIn s n w) own₀) + lotsOf id (w .rest) =
+    let rest : resting id (entered s n own₀ w .day) ≡ lotsOf id (settled (n .side) (s .live .given + 1) (w .left) (fateIn s n w) own₀) + lotsOf id (w .rest) =
     resting-with id (n .side) _ _ _ in
     omega (arith, entered-asks s n id (n .lots) own₀ w, entry-balanced s n id own₀ theirs, rest)
 
@@ -122,7 +122,7 @@ dropped-kept lots id d number why side =
 finished-kept : (lots id : ℕ) (d : Day) (settle : ℕ) → Accounted lots id d (ends d settle)
 unfolding finished total tally
 finished-kept lots id d settle =
-    let time : ℕ = d .session .time in
+    let time : ℕ = d .session .clock .time in
     let end : List Report = closeReport (d .session) time settle ∷ [] in
     let bs : List Report = cancelReports DayEnd time (d .buys) in
     let ss : List Report = cancelReports DayEnd time (d .sells) in
@@ -160,22 +160,22 @@ act-kept id d e =
 
 -- ---- what an act asks for is of the next number
 
-does-asks : (id : ℕ) (d : Day) (a : Act) → askedBy id a (does d a .reports) ≡ mine id (d .session .given + 1) (wanted a)
+does-asks : (id : ℕ) (d : Day) (a : Act) → askedBy id a (does d a .reports) ≡ mine id (d .session .live .given + 1) (wanted a)
 unfolding total dropped
 does-asks id d a =
-    let number : ℕ = d .session .given + 1 in
+    let number : ℕ = d .session .live .given + 1 in
     let none : wanted a ≡ 0 → 0 ≡ mine id number (wanted a) = λ z. rw z (sym (mine-zero id number)) in
     does-by (λ (x : Acted). askedBy id a (x .reports) ≡ mine id number (wanted a)) d a
     (λ n e. entered-asks (d .session) n id (wanted a) (own (n .side) d) _)
     (λ number e. none (ap wanted e))
     (λ s q. none (ap (maybe 0 (λ n. n .lots)) (sets-alike q .entry)))
     (λ settle e. total-none (askedIn id (wanted a)) (ends d settle .reports)
-    (finished-each _ (d .session) (d .session .time) settle (d .buys) (d .sells) (λ x. refl) (λ c. refl)) ∙ none (ap wanted e))
+    (finished-each _ (d .session) (d .session .clock .time) settle (d .buys) (d .sells) (λ x. refl) (λ c. refl)) ∙ none (ap wanted e))
 
-pub act-asks : (id : ℕ) (d : Day) (e : Event) → askedBy id (e .act) (act d e .reports) ≡ mine id (d .session .given + 1) (wanted (e .act))
+pub act-asks : (id : ℕ) (d : Day) (e : Event) → askedBy id (e .act) (act d e .reports) ≡ mine id (d .session .live .given + 1) (wanted (e .act))
 unfolding total clockStep
 act-asks id d e =
-    begun-by (λ (x : Acted). askedBy id (e .act) (x .reports) ≡ mine id (d .session .given + 1) (wanted (e .act))) d e
+    begun-by (λ (x : Acted). askedBy id (e .act) (x .reports) ≡ mine id (d .session .live .given + 1) (wanted (e .act))) d e
     (λ h. does-asks id (timed d (e .time) .day) (e .act))
     (λ h. let f : Said → ℕ = askedIn id (wanted (e .act)) in let s : Session = d .session in let s′ : Session = clockStep s (e .time) in
     omega (

@@ -45,9 +45,9 @@ deals-part : (o : Order) (k : ℕ) → 1 ≤ k → k ≤ o .lots → Deals o →
 deals-part o k l m d = record { price-small = d .price-small; lots-some = l; lots-small = omega (arith, d .lots-small) }
 
 module _ (s : Session) (band : Band) (n : Entry) (count : ℕ) (t room : List ℕ) (at : ℕ) (g : Meeting s band count t room at)
-    (x : Incoming) (xe : x ≡ incomingIn s n (s .given + 1)) (room₁ : List ℕ) (first : ℕ) (w : Written room at (reportAt (s .time) (Accept (s .given + 1)) ∷ []) room₁ first) where
+    (x : Incoming) (xe : x ≡ incomingIn s n (s .live .given + 1)) (room₁ : List ℕ) (first : ℕ) (w : Written room at (reportAt (s .clock .time) (Accept (s .live .given + 1)) ∷ []) room₁ first) where
   same-length : length room₁ ≡ length room
-  same-length = written-length room at (reportAt (s .time) (Accept (s .given + 1)) ∷ []) room₁ first w (omega (arith, g .space))
+  same-length = written-length room at (reportAt (s .clock .time) (Accept (s .live .given + 1)) ∷ []) room₁ first w (omega (arith, g .space))
 
   pub sweep-asks : Holds count t × (first + recordLength * count ≤ length room₁) × RangeFits (x .range)
   sweep-asks = (g .holds, omega (arith, g .space, w .behind, same-length), rw xe (g .ranged))
@@ -74,7 +74,7 @@ module _ (s : Session) (band : Band) (n : Entry) (count : ℕ) (t room : List �
     trades-is = ap (λ (r : Matched). r .trades) (k .answer) ∙ ap (λ (v : Swept). length (v .fills)) swept-is
 
     abbrev trade-reports : List Report
-    trade-reports = tradeReports (s .time) (n .side) (s .given + 1) (swept .fills)
+    trade-reports = tradeReports (s .clock .time) (n .side) (s .live .given + 1) (swept .fills)
 
     laid : room′ ≡ put room₁ first (recordsOf trade-reports)
     unfolding sweepIn
@@ -88,7 +88,7 @@ module _ (s : Session) (band : Band) (n : Entry) (count : ℕ) (t room : List �
 
     kept-length : length room′ ≡ length room₁
     kept-length = rw laid (length-put room₁ first (recordsOf trade-reports)
-        (omega (arith, trade-space, length-records trade-reports, length-trades (s .time) (n .side) (s .given + 1) (swept .fills))))
+        (omega (arith, trade-space, length-records trade-reports, length-trades (s .clock .time) (n .side) (s .live .given + 1) (swept .fills))))
 
     fills-deal : Each Deals (swept .fills)
     unfolding sweepIn
@@ -96,27 +96,27 @@ module _ (s : Session) (band : Band) (n : Entry) (count : ℕ) (t room : List �
         let e : EachSwept Deals swept = each-swept Deals deals-part _ 0 (n .lots) (decode count t) (g .deals) in
         e .fills
 
-    pub remember-asks : TradesFit (setGiven s (s .given + 1)) (m .trades) × (band ≡ bandNow s) × (m .trades ≤ slots) × (first + recordLength * m .trades ≤ length room′) × EachDeals (m .trades) (drop first room′)
+    pub remember-asks : TradesFit (setGiven s (s .live .given + 1)) (m .trades) × (band ≡ bandNow s) × (m .trades ≤ slots) × (first + recordLength * m .trades ≤ length room′) × EachDeals (m .trades) (drop first room′)
     remember-asks =
         rw (trades-is, stands) (
           omega (arith, g .fits, few),
           g .banded,
           omega (arith, few, g .holds .few),
           omega (arith, trade-space, kept-length),
-          record { at = deals-each (s .time) (n .side) (s .given + 1) (drop (length (recordsOf trade-reports)) (drop first room₁)) (swept .fills) fills-deal },
+          record { at = deals-each (s .clock .time) (n .side) (s .live .given + 1) (drop (length (recordsOf trade-reports)) (drop first room₁)) (swept .fills) fills-deal },
         )
 
-    pub met : (after : Session) → after ≡ withTrades (setGiven s (s .given + 1)) (fillsAt (m .trades) (drop first room′)) →
+    pub met : (after : Session) → after ≡ withTrades (setGiven s (s .live .given + 1)) (fillsAt (m .trades) (drop first room′)) →
         MetAs s n (decode count t) t room at t′ room′ (record { session = after; count = m .count; at = m .at; left = m .left; last = m .last; out = m .out })
     met after e =
         let a : m .at ≡ first + recordLength * length (swept .fills) = ap (λ (r : Matched). r .at) (k .answer) ∙ ap (λ (v : Swept). first + recordLength * length (v .fills)) swept-is in
         let told : Written room₁ first trade-reports room′ (m .at) =
-        record { laid = laid; behind = omega (arith, a, length-trades (s .time) (n .side) (s .given + 1) (swept .fills)) } in
+        record { laid = laid; behind = omega (arith, a, length-trades (s .clock .time) (n .side) (s .live .given + 1) (swept .fills)) } in
         record {
           book = k .book ∙ ap (λ (v : Swept). tableOf (v .rest) t) swept-is;
           count = ap (λ (r : Matched). r .count) (k .answer) ∙ ap (λ (v : Swept). length (v .rest)) swept-is;
-          told = written-then room at (reportAt (s .time) (Accept (s .given + 1)) ∷ []) room₁ first trade-reports room′ (m .at) w told (omega (arith, g .space));
-          session = e ∙ rw (trades-is, stands) (recalls (s .time) (n .side) (s .given + 1) (drop (length (recordsOf trade-reports)) (drop first room₁)) (setGiven s (s .given + 1)) (swept .fills));
+          told = written-then room at (reportAt (s .clock .time) (Accept (s .live .given + 1)) ∷ []) room₁ first trade-reports room′ (m .at) w told (omega (arith, g .space));
+          session = e ∙ rw (trades-is, stands) (recalls (s .clock .time) (n .side) (s .live .given + 1) (drop (length (recordsOf trade-reports)) (drop first room₁)) (setGiven s (s .live .given + 1)) (swept .fills));
           left = ap (λ (r : Matched). r .left) (k .answer) ∙ ap (λ (v : Swept). v .left) swept-is;
           last = ap (λ (r : Matched). r .last) (k .answer) ∙ last-is;
           out = ap (λ (r : Matched). r .out) (k .answer) ∙ ap (λ (v : Swept). v .out) swept-is;

@@ -12,6 +12,7 @@ use Rattle.terms.specs.declared.Act.{Act}
 use Rattle.terms.specs.declared.Side.{Side}
 use Rattle.terms.specs.declared.Side.the-variants.{Buy, Sell}
 use Rattle.terms.specs.declared.Report.{Report}
+use Rattle.terms.specs.Options.{maybe}
 use Rattle.book_law.specs.Matching.{Swept, tradeReports, Fate, settled, fateReports}
 use Rattle.state_law.specs.declared.Session.{Session}
 use Rattle.state_law.specs.Set.{setGiven}
@@ -19,7 +20,6 @@ use Rattle.state_law.specs.Clock.{clockStep}
 use Rattle.state_law.specs.Trades.{withTrades}
 use Rattle.state_law.specs.Day.{Day, own, across, dayWith}
 use Rattle.state_law.proofs.Leaves.{trades-leave}
-use Rattle.book_law.specs.Tells.{maybe}
 use Rattle.refusal_law.specs.Carried.{carries}
 use Rattle.acts_law.specs.Acts.{Acted, sweepIn, fateIn, entered, dropped, sideOf, withdrawn, silent, finished, stepped, timed, does, act}
 use Rattle.acts_law.specs.Asked.{acceptsIn, accepts, numbersTo}
@@ -42,19 +42,19 @@ accepts-none (r ∷ rs) h = λ i. (h .0 i) ++ (accepts-none rs (h .1) i)
 -- ---- an act
 
 abbrev pub Counts : Day → Acted → Type 0
-Counts d a = numbersTo (d .session .given) ++ accepts (a .reports) ≡ numbersTo (a .day .session .given)
+Counts d a = numbersTo (d .session .live .given) ++ accepts (a .reports) ≡ numbersTo (a .day .session .live .given)
 
-given-with : (side : Side) (s : Session) (mine theirs : List Order) → dayWith side s mine theirs .session .given ≡ s .given
+given-with : (side : Side) (s : Session) (mine theirs : List Order) → dayWith side s mine theirs .session .live .given ≡ s .live .given
 given-with Buy s mine theirs = refl
 given-with Sell s mine theirs = refl
 
 -- an order has the next number
-enter-given : (d : Day) (n : Entry) → enters d n .day .session .given ≡ d .session .given + 1
+enter-given : (d : Day) (n : Entry) → enters d n .day .session .live .given ≡ d .session .live .given + 1
 unfolding entered
 enter-given d n =
     let s : Session = d .session in
     let w : Swept = sweepIn s n (across (n .side) d) in
-    let number : ℕ = s .given + 1 in
+    let number : ℕ = s .live .given + 1 in
     given-with (n .side) (withTrades (setGiven s number) (w .fills)) (settled (n .side) number (w .left) (fateIn s n w) (own (n .side) d)) (w .rest)
     ∙ trades-leave (setGiven s number) (w .fills) .given
 
@@ -67,20 +67,20 @@ unfolding entered accepts
 enter-counts d n =
     let s : Session = d .session in
     let w : Swept = sweepIn s n (across (n .side) d) in
-    let number : ℕ = s .given + 1 in
+    let number : ℕ = s .live .given + 1 in
     let fate : Fate = fateIn s n w in
-    let ts : List Report = tradeReports (s .time) (n .side) number (w .fills) in
-    let fs : List Report = fateReports (s .time) number (w .left) fate in
+    let ts : List Report = tradeReports (s .clock .time) (n .side) number (w .fills) in
+    let fs : List Report = fateReports (s .clock .time) number (w .left) fate in
     let none : accepts (ts ++ fs) ≡ [] =
-    accepts-none (ts ++ fs) (each-append _ ts fs (trades-each _ (s .time) (n .side) number (w .fills) (λ deal. refl))
-    (fate-each _ (s .time) number (w .left) fate (λ o. refl) (λ e. refl))) in
-    ap (λ (l : List ℕ). numbersTo (s .given) ++ (number ∷ l)) none ∙ next-number (s .given) ∙ ap numbersTo (sym (enter-given d n))
+    accepts-none (ts ++ fs) (each-append _ ts fs (trades-each _ (s .clock .time) (n .side) number (w .fills) (λ deal. refl))
+    (fate-each _ (s .clock .time) number (w .left) fate (λ o. refl) (λ e. refl))) in
+    ap (λ (l : List ℕ). numbersTo (s .live .given) ++ (number ∷ l)) none ∙ next-number (s .live .given) ∙ ap numbersTo (sym (enter-given d n))
 
 -- what gives no number
-none-counts : (d : Day) (a : Acted) → EachTold (λ r. acceptsIn (r .said) ≡ []) (a .reports) → a .day .session .given ≡ d .session .given → Counts d a
+none-counts : (d : Day) (a : Acted) → EachTold (λ r. acceptsIn (r .said) ≡ []) (a .reports) → a .day .session .live .given ≡ d .session .live .given → Counts d a
 none-counts d a e f =
-    ap (λ (l : List ℕ). numbersTo (d .session .given) ++ l) (accepts-none (a .reports) e)
-    ∙ append-nil (numbersTo (d .session .given)) ∙ ap numbersTo (sym f)
+    ap (λ (l : List ℕ). numbersTo (d .session .live .given) ++ l) (accepts-none (a .reports) e)
+    ∙ append-nil (numbersTo (d .session .live .given)) ∙ ap numbersTo (sym f)
 
 does-counts : (d : Day) (a : Act) → Counts d (does d a)
 unfolding EachTold dropped finished
@@ -89,12 +89,12 @@ does-counts d a =
     (λ n e. enter-counts d n)
     (λ number e. none-counts d (withdrawn d number) (refl, tt) (given-with (sideOf number (d .buys)) (d .session) _ _))
     (λ s q. none-counts d (silent s d) tt (sets-alike q .given))
-    (λ settle e. none-counts d (ends d settle) (finished-each _ (d .session) (d .session .time) settle (d .buys) (d .sells) (λ x. refl) (λ c. refl)) refl)
+    (λ settle e. none-counts d (ends d settle) (finished-each _ (d .session) (d .session .clock .time) settle (d .buys) (d .sells) (λ x. refl) (λ c. refl)) refl)
 
 counts-then : Chains Counts
 counts-then d a b h k =
-    ap (λ (l : List ℕ). numbersTo (d .session .given) ++ l) (accepts-append (a .reports) (b .reports))
-    ∙ sym (append-assoc (numbersTo (d .session .given)) (accepts (a .reports)) (accepts (b .reports)))
+    ap (λ (l : List ℕ). numbersTo (d .session .live .given) ++ l) (accepts-append (a .reports) (b .reports))
+    ∙ sym (append-assoc (numbersTo (d .session .live .given)) (accepts (a .reports)) (accepts (b .reports)))
     ∙ ap (λ (l : List ℕ). l ++ accepts (b .reports)) h
     ∙ k
 
@@ -113,20 +113,20 @@ act-counts d e =
 abbrev pub givenBy : ℕ → Act → ℕ
 givenBy given a = maybe given (λ n. given + 1) (carries a .entry)
 
-does-given : (d : Day) (a : Act) → does d a .day .session .given ≡ givenBy (d .session .given) a
+does-given : (d : Day) (a : Act) → does d a .day .session .live .given ≡ givenBy (d .session .live .given) a
 unfolding dropped finished
 does-given d a =
-    let given : ℕ = d .session .given in
+    let given : ℕ = d .session .live .given in
     let same : carries a .entry ≡ none → given ≡ givenBy given a = λ e. rw e refl in
-    does-by (λ (x : Acted). x .day .session .given ≡ givenBy given a) d a
+    does-by (λ (x : Acted). x .day .session .live .given ≡ givenBy given a) d a
     (λ n e. rw e (enter-given d n))
     (λ number e. given-with (sideOf number (d .buys)) (d .session) _ _ ∙ rw e refl)
     (λ s q. sets-alike q .given ∙ same (sets-alike q .entry))
     (λ settle e. rw e refl)
 
-pub act-given : (d : Day) (e : Event) → act d e .day .session .given ≡ givenBy (d .session .given) (e .act)
+pub act-given : (d : Day) (e : Event) → act d e .day .session .live .given ≡ givenBy (d .session .live .given) (e .act)
 unfolding clockStep
 act-given d e =
-    begun-by (λ (x : Acted). x .day .session .given ≡ givenBy (d .session .given) (e .act)) d e
+    begun-by (λ (x : Acted). x .day .session .live .given ≡ givenBy (d .session .live .given) (e .act)) d e
     (λ h. does-given (timed d (e .time) .day) (e .act))
     (λ h. does-given (stepped d (e .time) .day) (e .act))

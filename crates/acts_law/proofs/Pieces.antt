@@ -62,16 +62,16 @@ module _ (P : Report → Type 0) where
   fate-each time number left (Turns price) convert cancel = (convert _, tt)
   fate-each time number left (Ends why) convert cancel = (cancel _, tt)
 
-  pub entered-each : (s : Session) (n : Entry) (mine : List Order) (w : Swept) → ((number : ℕ) → P (reportAt (s .time) (Accept number))) →
-      ((deal : Deal) → P (reportAt (s .time) (Trade deal))) → ((o : Order) → P (reportAt (s .time) (Convert o))) →
-      ((e : Ended) → P (reportAt (s .time) (Cancel e))) → EachTold P (entered s n mine w .reports)
+  pub entered-each : (s : Session) (n : Entry) (mine : List Order) (w : Swept) → ((number : ℕ) → P (reportAt (s .clock .time) (Accept number))) →
+      ((deal : Deal) → P (reportAt (s .clock .time) (Trade deal))) → ((o : Order) → P (reportAt (s .clock .time) (Convert o))) →
+      ((e : Ended) → P (reportAt (s .clock .time) (Cancel e))) → EachTold P (entered s n mine w .reports)
   unfolding EachTold entered
   entered-each s n mine w accept trade convert cancel =
-      let number : ℕ = s .given + 1 in
-      let ts : List Report = tradeReports (s .time) (n .side) number (w .fills) in
-      let fs : List Report = fateReports (s .time) number (w .left) (fateIn s n w) in
-      let remainder : EachTold P fs = fate-each (s .time) number (w .left) (fateIn s n w) convert cancel in
-      (accept number, each-append ts fs (trades-each (s .time) (n .side) number (w .fills) trade) remainder)
+      let number : ℕ = s .live .given + 1 in
+      let ts : List Report = tradeReports (s .clock .time) (n .side) number (w .fills) in
+      let fs : List Report = fateReports (s .clock .time) number (w .left) (fateIn s n w) in
+      let remainder : EachTold P fs = fate-each (s .clock .time) number (w .left) (fateIn s n w) convert cancel in
+      (accept number, each-append ts fs (trades-each (s .clock .time) (n .side) number (w .fills) trade) remainder)
 
   pub cancels-each : (why : Why) (time : ℕ) (os : List Order) → ((e : Ended) → P (reportAt time (Cancel e))) → EachTold P (cancelReports why time os)
   unfolding EachTold cancelReports

@@ -65,18 +65,18 @@ ranked-only k false r e = tt
 entered-order : (s : Session) (n : Entry) (mine : List Order) (w : Swept) → InOrder 3 (entered s n mine w .reports)
 unfolding InOrder entered
 entered-order s n mine w =
-    let number : ℕ = s .given + 1 in
-    let ts : List Report = tradeReports (s .time) (n .side) number (w .fills) in
-    let fs : List Report = fateReports (s .time) number (w .left) (fateIn s n w) in (
+    let number : ℕ = s .live .given + 1 in
+    let ts : List Report = tradeReports (s .clock .time) (n .side) number (w .fills) in
+    let fs : List Report = fateReports (s .clock .time) number (w .left) (fateIn s n w) in (
       omega arith,
-      ranked-then 3 4 ts fs (omega arith) (trades-each _ (s .time) (n .side) number (w .fills) (λ deal. refl))
-          (ranked-last 4 5 fs (omega arith) (fate-each _ (s .time) number (w .left) (fateIn s n w) (λ o. refl) (λ e. refl))),
+      ranked-then 3 4 ts fs (omega arith) (trades-each _ (s .clock .time) (n .side) number (w .fills) (λ deal. refl))
+          (ranked-last 4 5 fs (omega arith) (fate-each _ (s .clock .time) number (w .left) (fateIn s n w) (λ o. refl) (λ e. refl))),
     )
 
 ends-order : (d : Day) (settle : ℕ) → InOrder 3 (ends d settle .reports)
 unfolding InOrder finished
 ends-order d settle =
-    let t : ℕ = d .session .time in
+    let t : ℕ = d .session .clock .time in
     let bs : List Report = cancelReports DayEnd t (d .buys) in
     let ss : List Report = cancelReports DayEnd t (d .sells) in
     let end : List Report = closeReport (d .session) t settle ∷ [] in

@@ -100,16 +100,16 @@ unfolding coolingBy
 cooled-clock g c t past h = by (λ (x : ℕ). Cooled g x past) (overBy c t) 0 c (λ e. refl) (λ e. h)
 
 -- where a cooling-off is over, the band was the initial one and becomes the enhanced one
-over-widens : (s : Session) (t : ℕ) → (eqb (s .widened) 0 || eqb (s .cooling) 0) ≡ true → overBy (s .cooling) t ≡ true →
+over-widens : (s : Session) (t : ℕ) → (eqb (s .clock .widened) 0 || eqb (s .clock .cooling) 0) ≡ true → overBy (s .clock .cooling) t ≡ true →
     (bandNow s ≡ initialBand (s .settings)) × (bandNow (clockStep s t) ≡ enhancedBand (s .settings))
 unfolding clockStep widenedBy percentOf
 over-widens s t h e =
     let g : Settings = s .settings in
-    let z : s .widened ≡ 0 = not-widened (s .widened) (s .cooling) h (not-true _ (split (not (eqb (s .cooling) 0)) (leb (s .cooling) t) e .0)) in
+    let z : s .clock .widened ≡ 0 = not-widened (s .clock .widened) (s .clock .cooling) h (not-true _ (split (not (eqb (s .clock .cooling) 0)) (leb (s .clock .cooling) t) e .0)) in
     let band : ℕ → Band = λ w. bandAt (g .base) (g .tick) (percentOf (slabOf (g .category)) w) in
-    (ap band z, ap band (cond-true (overBy (s .cooling) t) (s .widened + 1) (s .widened) e ∙ ap (λ (w : ℕ). w + 1) z))
+    (ap band z, ap band (cond-true (overBy (s .clock .cooling) t) (s .clock .widened + 1) (s .clock .widened) e ∙ ap (λ (w : ℕ). w + 1) z))
 
-clock-tells : (s : Session) (t : ℕ) (l : Listener) → s .time ≤ t → (eqb (s .widened) 0 || eqb (s .cooling) 0) ≡ true → KnowsOf (s .settings) l s →
+clock-tells : (s : Session) (t : ℕ) (l : Listener) → s .clock .time ≤ t → (eqb (s .clock .widened) 0 || eqb (s .clock .cooling) 0) ≡ true → KnowsOf (s .settings) l s →
     TellsOf (s .settings) l (clockReports s (clockStep s t)) (clockStep s t)
 unfolding clockReports clockStep
 clock-tells s t l h i k =
@@ -119,13 +119,13 @@ clock-tells s t l h i k =
     append-tells g slab (knownOf s′) l _ _
     (slab-tells g l (knownOf s) slab (slabMoved s s′) k h refl
     (λ e. ap (bandAt (g .base) (g .tick)) (unchanged (percentNow s) (percentNow s′) e))
-    (λ e. let over : overBy (s .cooling) t ≡ true = percent-changes s t e in let bands = over-widens s t i over in record {
-      touched = over-touched g (s .cooling) t (l .past) (k .cooled) over;
+    (λ e. let over : overBy (s .clock .cooling) t ≡ true = percent-changes s t e in let bands = over-widens s t i over in record {
+      touched = over-touched g (s .clock .cooling) t (l .past) (k .cooled) over;
       before = k .band-same ∙ bands .0;
       told = bands .1;
       wider = λ x z. band-stays s t x (rw (k .band-same) at z);
     })
-    (cooled-clock g (s .cooling) t (l .past) (k .cooled)))
+    (cooled-clock g (s .clock .cooling) t (l .past) (k .cooled)))
     (λ m. ref-tells g _ slab (s′ .reckoning .reference) (refMoved s s′) m
     (λ e. unchanged (s .reckoning .reference) (s′ .reckoning .reference) e))
 
@@ -136,31 +136,31 @@ abbrev Good : Session → ℕ → Type 0
 Good s p = (inBand (bandNow s) p ≡ true) × (inRange (rangeNow s) p ≡ true)
 
 trade-next : (s s′ : Session) (l : Listener) (deal : Deal) (lots : ℕ) (rs : List Report) → KnowsOf (s .settings) l s → Good s (deal .price) →
-    (KnowsOf (s .settings) (listen l (reportAt (s .time) (Trade deal))) (withTrade s (deal .price) lots) →
-    TellsOf (s .settings) (listen l (reportAt (s .time) (Trade deal))) rs s′) →
-    TellsOf (s .settings) l (reportAt (s .time) (Trade deal) ∷ rs) s′
+    (KnowsOf (s .settings) (listen l (reportAt (s .clock .time) (Trade deal))) (withTrade s (deal .price) lots) →
+    TellsOf (s .settings) (listen l (reportAt (s .clock .time) (Trade deal))) rs s′) →
+    TellsOf (s .settings) l (reportAt (s .clock .time) (Trade deal) ∷ rs) s′
 unfolding withTrade
 trade-next s s′ l deal lots rs k p f =
-    let r : Report = reportAt (s .time) (Trade deal) in
+    let r : Report = reportAt (s .clock .time) (Trade deal) in
     next-tells (s .settings) (knownOf s′) l r rs
     (k .time-past, ((rw (k .band-same) (p .0), rw (k .reference-same) (p .1)), tt))
     (f (record {
       band-same = k .band-same;
       reference-same = k .reference-same;
-      time-past = le-refl (s .time);
-      cooled = cooled-trade (s .settings) (s .widened) (s .cooling) (s .time) deal (l .past) (k .cooled);
+      time-past = le-refl (s .clock .time);
+      cooled = cooled-trade (s .settings) (s .clock .widened) (s .clock .cooling) (s .clock .time) deal (l .past) (k .cooled);
     }))
 
 trades-tell : (s : Session) (l : Listener) (side : Side) (number : ℕ) (fs : List Order) → KnowsOf (s .settings) l s → EachPrice (Good s) fs →
-    TellsOf (s .settings) l (tradeReports (s .time) side number fs) (withTrades s fs)
+    TellsOf (s .settings) l (tradeReports (s .clock .time) side number fs) (withTrades s fs)
 unfolding tradeReports withTrades withTrade
 trades-tell s l side number [] k p = none-tells (s .settings) (knownOf s) l k
 trades-tell s l Buy number (f ∷ fs) k p =
-    trade-next s (withTrades (withTrade s (f .price) (f .lots)) fs) l (dealOf Buy number f) (f .lots) (tradeReports (s .time) Buy number fs) k (p .0)
-    (λ m. trades-tell (withTrade s (f .price) (f .lots)) (listen l (reportAt (s .time) (Trade (dealOf Buy number f)))) Buy number fs m (p .1))
+    trade-next s (withTrades (withTrade s (f .price) (f .lots)) fs) l (dealOf Buy number f) (f .lots) (tradeReports (s .clock .time) Buy number fs) k (p .0)
+    (λ m. trades-tell (withTrade s (f .price) (f .lots)) (listen l (reportAt (s .clock .time) (Trade (dealOf Buy number f)))) Buy number fs m (p .1))
 trades-tell s l Sell number (f ∷ fs) k p =
-    trade-next s (withTrades (withTrade s (f .price) (f .lots)) fs) l (dealOf Sell number f) (f .lots) (tradeReports (s .time) Sell number fs) k (p .0)
-    (λ m. trades-tell (withTrade s (f .price) (f .lots)) (listen l (reportAt (s .time) (Trade (dealOf Sell number f)))) Sell number fs m (p .1))
+    trade-next s (withTrades (withTrade s (f .price) (f .lots)) fs) l (dealOf Sell number f) (f .lots) (tradeReports (s .clock .time) Sell number fs) k (p .0)
+    (λ m. trades-tell (withTrade s (f .price) (f .lots)) (listen l (reportAt (s .clock .time) (Trade (dealOf Sell number f)))) Sell number fs m (p .1))
 
 -- ---- an order
 
@@ -203,18 +203,18 @@ entered-tells : (s : Session) (n : Entry) (mine : List Order) (w : Swept) (l : L
 unfolding entered
 entered-tells s n mine w l k p =
     let g : Settings = s .settings in
-    let number : ℕ = s .given + 1 in
+    let number : ℕ = s .live .given + 1 in
     let s′ : Session = withTrades (setGiven s number) (w .fills) in
-    let r : Report = reportAt (s .time) (Accept number) in
-    let ts : List Report = tradeReports (s .time) (n .side) number (w .fills) in
-    let fs : List Report = fateReports (s .time) number (w .left) (fateIn s n w) in
-    let plainly : PlainAt g (s .time) r = (plain-accept g number, refl) in
+    let r : Report = reportAt (s .clock .time) (Accept number) in
+    let ts : List Report = tradeReports (s .clock .time) (n .side) number (w .fills) in
+    let fs : List Report = fateReports (s .clock .time) number (w .left) (fateIn s n w) in
+    let plainly : PlainAt g (s .clock .time) r = (plain-accept g number, refl) in
     tells-with g l (r ∷ (ts ++ fs)) (n .side) s′ (settled (n .side) number (w .left) (fateIn s n w) mine) (w .rest)
     (next-tells g (knownOf s′) l r (ts ++ fs) (plain-fine g (knownOf s) l r plainly k)
     (append-tells g (knownOf s′) (knownOf s′) (listen l r) ts fs
     (trades-tell (setGiven s number) (listen l r) (n .side) number (w .fills) (knows-more g (knownOf s) l r plainly k) p)
     (λ m. let same = sym (trades-leave (setGiven s number) (w .fills) .time) in
-    plain-tells g (knownOf s′) fs (fate-each _ (s .time) number (w .left) (fateIn s n w) (λ o. (plain-convert g o, same)) (λ e. (plain-cancel g e, same))) _ m)))
+    plain-tells g (knownOf s′) fs (fate-each _ (s .clock .time) number (w .left) (fateIn s n w) (λ o. (plain-convert g o, same)) (λ e. (plain-cancel g e, same))) _ m)))
 
 -- ---- the other acts
 
@@ -222,7 +222,7 @@ dropped-tells : (s : Session) (number : ℕ) (why : Why) (side : Side) (mine the
     TellsOf (s .settings) l (dropped s number why side mine theirs .reports) (dropped s number why side mine theirs .day .session)
 unfolding dropped
 dropped-tells s number why side mine theirs l k =
-    let r : Report = ended (s .time) number (leftOf number mine) why in
+    let r : Report = ended (s .clock .time) number (leftOf number mine) why in
     tells-with (s .settings) l (r ∷ []) side s (removed number mine) theirs
     (plain-tells (s .settings) (knownOf s) (r ∷ []) (each-one _ r (plain-cancel (s .settings) _, refl)) l k)
 
@@ -237,7 +237,7 @@ unfolding finished
 ends-tells d settle l k =
     let s : Session = d .session in
     plain-tells (s .settings) (knownOf s) (ends d settle .reports)
-    (finished-each _ s (s .time) settle (d .buys) (d .sells) (λ e. (plain-cancel (s .settings) e, refl)) (λ c. (plain-close (s .settings) c, refl))) l k
+    (finished-each _ s (s .clock .time) settle (d .buys) (d .sells) (λ e. (plain-cancel (s .settings) e, refl)) (λ c. (plain-close (s .settings) c, refl))) l k
 
 -- ---- an act
 
@@ -266,18 +266,18 @@ does-tells d a h =
 across-banded : (side : Side) (d : Day) → sound d ≡ true → EachPrice (λ p. inBand (bandNow (d .session)) p ≡ true) (across side d)
 across-banded side d h =
     let s : Session = d .session in
-    let f : BookFits (s .given) (s .settings .tick) (bandNow s) (d .buys) (d .sells) =
-    book-fits (s .given) (s .settings .tick) (bandNow s) (d .buys) (d .sells) (sound-day d h .book) in
+    let f : BookFits (s .live .given) (s .settings .tick) (bandNow s) (d .buys) (d .sells) =
+    book-fits (s .live .given) (s .settings .tick) (bandNow s) (d .buys) (d .sells) (sound-day d h .book) in
     banded side s f
   where
-    inside : (s : Session) (os : List Order) → Each (OrderFits (s .given) (s .settings .tick) (bandNow s)) os →
+    inside : (s : Session) (os : List Order) → Each (OrderFits (s .live .given) (s .settings .tick) (bandNow s)) os →
         EachPrice (λ p. inBand (bandNow s) p ≡ true) os
-    inside s os e = each-map (OrderFits (s .given) (s .settings .tick) (bandNow s)) (λ o. inBand (bandNow s) (o .price) ≡ true) (λ o k. k .banded) os e
+    inside s os e = each-map (OrderFits (s .live .given) (s .settings .tick) (bandNow s)) (λ o. inBand (bandNow s) (o .price) ≡ true) (λ o k. k .banded) os e
 
-    banded : (side : Side) (s : Session) → BookFits (s .given) (s .settings .tick) (bandNow s) (d .buys) (d .sells) →
+    banded : (side : Side) (s : Session) → BookFits (s .live .given) (s .settings .tick) (bandNow s) (d .buys) (d .sells) →
         EachPrice (λ p. inBand (bandNow s) p ≡ true) (across side d)
-    banded Buy s f = inside s (d .sells) (each-fits (s .given) (s .settings .tick) (bandNow s) (d .sells) (f .each-sell))
-    banded Sell s f = inside s (d .buys) (each-fits (s .given) (s .settings .tick) (bandNow s) (d .buys) (f .each-buy))
+    banded Buy s f = inside s (d .sells) (each-fits (s .live .given) (s .settings .tick) (bandNow s) (d .sells) (f .each-sell))
+    banded Sell s f = inside s (d .buys) (each-fits (s .live .given) (s .settings .tick) (bandNow s) (d .buys) (f .each-buy))
 
 -- and stay in it over the clock steps
 still-banded : (d : Day) (t : ℕ) → sound d ≡ true → Banded (stepped d t .day)
@@ -290,17 +290,17 @@ timed-banded : (d : Day) (t : ℕ) → sound d ≡ true → Banded (timed d t .d
 timed-banded d t h side = rw (across-by side (setTime (d .session) t) d) (across-banded side d h)
 
 -- the time alone
-timed-tells : (d : Day) (t : ℕ) → d .session .time ≤ t → Heard (d .session .settings) d (timed d t)
+timed-tells : (d : Day) (t : ℕ) → d .session .clock .time ≤ t → Heard (d .session .settings) d (timed d t)
 timed-tells d t m l k =
     none-tells (d .session .settings) (knownOf (setTime (d .session) t)) l
     (record { band-same = k .band-same; reference-same = k .reference-same; time-past = omega (arith, k .time-past); cooled = k .cooled })
 
 -- a cooling-off runs only in the initial slab
-slab-initial : (d : Day) → sound d ≡ true → (eqb (d .session .widened) 0 || eqb (d .session .cooling) 0) ≡ true
+slab-initial : (d : Day) → sound d ≡ true → (eqb (d .session .clock .widened) 0 || eqb (d .session .clock .cooling) 0) ≡ true
 slab-initial d h = sound-day d h .parts .timed .initial
 
 -- EACH REPORT IS FINE by what was told before it
-pub act-tells : (d : Day) (e : Event) (l : Listener) → sound d ≡ true → d .session .time ≤ e .time → KnowsOf (d .session .settings) l (d .session) →
+pub act-tells : (d : Day) (e : Event) (l : Listener) → sound d ≡ true → d .session .clock .time ≤ e .time → KnowsOf (d .session .settings) l (d .session) →
     TellsOf (d .session .settings) l (act d e .reports) (act d e .day .session)
 unfolding clockStep
 act-tells d e l h m k =
@@ -316,21 +316,21 @@ act-tells d e l h m k =
 
 pub record Moved (s : Session) (t : ℕ) (s′ : Session) : Type 0 where
   pub settings : s′ .settings ≡ s .settings
-  pub time : s′ .time ≡ t
+  pub time : s′ .clock .time ≡ t
 
-moved-with : (side : Side) (s₀ : Session) (t : ℕ) (s : Session) (mine theirs : List Order) → s .settings ≡ s₀ .settings → s .time ≡ t →
+moved-with : (side : Side) (s₀ : Session) (t : ℕ) (s : Session) (mine theirs : List Order) → s .settings ≡ s₀ .settings → s .clock .time ≡ t →
     Moved s₀ t (dayWith side s mine theirs .session)
 moved-with Buy s₀ t s mine theirs e f = record { settings = e; time = f }
 moved-with Sell s₀ t s mine theirs e f = record { settings = e; time = f }
 
-does-moved : (d : Day) (a : Act) → Moved (d .session) (d .session .time) (does d a .day .session)
+does-moved : (d : Day) (a : Act) → Moved (d .session) (d .session .clock .time) (does d a .day .session)
 unfolding entered dropped finished
 does-moved d a =
     let s : Session = d .session in
-    does-by (λ (x : Acted). Moved s (s .time) (x .day .session)) d a
-    (λ n e. let u = trades-leave (setGiven s (s .given + 1)) (sweepIn s n (across (n .side) d) .fills) in
-    moved-with (n .side) s (s .time) (withTrades (setGiven s (s .given + 1)) _) _ _ (u .settings) (u .time))
-    (λ number e. moved-with (sideOf number (d .buys)) s (s .time) s _ _ refl refl)
+    does-by (λ (x : Acted). Moved s (s .clock .time) (x .day .session)) d a
+    (λ n e. let u = trades-leave (setGiven s (s .live .given + 1)) (sweepIn s n (across (n .side) d) .fills) in
+    moved-with (n .side) s (s .clock .time) (withTrades (setGiven s (s .live .given + 1)) _) _ _ (u .settings) (u .time))
+    (λ number e. moved-with (sideOf number (d .buys)) s (s .clock .time) s _ _ refl refl)
     (λ s′ q. record { settings = sets-alike q .settings; time = sets-alike q .time })
     (λ settle e. record { settings = refl; time = refl })
 

@@ -106,12 +106,12 @@ only-small false r h = tt
 slab-small : (s : Session) → Parts s → SmallReport (slabReport s)
 slab-small s p =
     let f = now-priced s (valid-facts (s .settings) (p .valid)) in
-    said-small (s .time) (Slab (bandNow s)) (p .timed .most)
+    said-small (s .clock .time) (Slab (bandNow s)) (p .timed .most)
     (four (bandNow s .low) (bandNow s .high) 0 0 (omega (arith, low-small f)) (omega (arith, high-small f)) (omega arith) (omega arith))
 
 ref-small : (s : Session) → Parts s → SmallReport (refReport s)
 ref-small s p =
-    said-small (s .time) (Ref (s .reckoning .reference)) (p .timed .most)
+    said-small (s .clock .time) (Ref (s .reckoning .reference)) (p .timed .most)
     (four (s .reckoning .reference) 0 0 0 (omega (arith, p .numbered .reference-small)) (omega arith) (omega arith) (omega arith))
 
 clock-small : (s s′ : Session) → Parts s′ → SmallReports (clockReports s s′)
@@ -129,10 +129,10 @@ record Small (o : Order) : Type 0 where
   price : o .price ≤ priceMost
   lots : o .lots ≤ lotsMost
 
-each-small : (s : Session) (os : List Order) → Parts s → Each (OrderFits (s .given) (s .settings .tick) (bandNow s)) os → Each Small os
+each-small : (s : Session) (os : List Order) → Parts s → Each (OrderFits (s .live .given) (s .settings .tick) (bandNow s)) os → Each Small os
 each-small s os p e =
     let f = now-priced s (valid-facts (s .settings) (p .valid)) in
-    each-map (OrderFits (s .given) (s .settings .tick) (bandNow s)) Small
+    each-map (OrderFits (s .live .given) (s .settings .tick) (bandNow s)) Small
     (λ o k. record {
       number = omega (arith, k .number-given, p .numbered .given-small);
       price = omega (arith, between-facts (bandNow s .low) (o .price) (bandNow s .high) (k .banded) .1, high-small f);
@@ -197,16 +197,16 @@ entered-small d n r =
     let s : Session = d .session in
     let side : Side = n .side in
     let w : Swept = sweepIn s n (across side d) in
-    let number : ℕ = s .given + 1 in
+    let number : ℕ = s .live .given + 1 in
     let p : Parts s = r .day .parts in
     let f = now-priced s (valid-facts (s .settings) (p .valid)) in
     let given : number ≤ numbersMost = omega (arith, r .given-few) in
     let left : w .left ≤ lotsMost = omega (arith, swept-left s n (across side d), r .admitted .few) in (
-      accept-small (s .time) number (p .timed .most) given,
-      append-small (tradeReports (s .time) side number (w .fills)) (fateReports (s .time) number (w .left) (fateIn s n w))
-          (trades-small (s .time) side number (w .fills) (p .timed .most) given
+      accept-small (s .clock .time) number (p .timed .most) given,
+      append-small (tradeReports (s .clock .time) side number (w .fills)) (fateReports (s .clock .time) number (w .left) (fateIn s n w))
+          (trades-small (s .clock .time) side number (w .fills) (p .timed .most) given
           (each-small s (w .fills) p (fills-fit s d (r .day .book) (n .life) (n .kind) _ (n .lots) side)))
-          (fate-small (s .time) number (w .left) (p .timed .most) given left (bandNow s) (omega (arith, high-small f)) (n .life) (n .kind) _ w),
+          (fate-small (s .clock .time) number (w .left) (p .timed .most) given left (bandNow s) (omega (arith, high-small f)) (n .life) (n .kind) _ w),
     )
 
 -- ---- the other acts
@@ -224,11 +224,11 @@ record Books (d : Day) : Type 0 where
 
 books : (s : Session) (d : Day) → Parts s → BookOf s (d .buys) (d .sells) → Books d
 books s d p b =
-    let f : BookFits (s .given) (s .settings .tick) (bandNow s) (d .buys) (d .sells) =
-    book-fits (s .given) (s .settings .tick) (bandNow s) (d .buys) (d .sells) b in
+    let f : BookFits (s .live .given) (s .settings .tick) (bandNow s) (d .buys) (d .sells) =
+    book-fits (s .live .given) (s .settings .tick) (bandNow s) (d .buys) (d .sells) b in
     record {
-      buys = each-small s (d .buys) p (each-fits (s .given) (s .settings .tick) (bandNow s) (d .buys) (f .each-buy));
-      sells = each-small s (d .sells) p (each-fits (s .given) (s .settings .tick) (bandNow s) (d .sells) (f .each-sell));
+      buys = each-small s (d .buys) p (each-fits (s .live .given) (s .settings .tick) (bandNow s) (d .buys) (f .each-buy));
+      sells = each-small s (d .sells) p (each-fits (s .live .given) (s .settings .tick) (bandNow s) (d .sells) (f .each-sell));
     }
 
 own-small : (side : Side) (d : Day) → Books d → Each Small (own side d)
@@ -239,7 +239,7 @@ dropped-small : (d : Day) (number : ℕ) (why : Why) (side : Side) → Ready d �
     SmallReports (dropped (d .session) number why side (own side d) (across side d) .reports)
 unfolding dropped
 dropped-small d number why side r n =
-    one-small _ (cancel-small (d .session .time) number (leftOf number (own side d)) why (r .parts .timed .most) n
+    one-small _ (cancel-small (d .session .clock .time) number (leftOf number (own side d)) why (r .parts .timed .most) n
     (left-of-small number (own side d) (own-small side d (books (d .session) d (r .parts) (r .book)))))
 
 cancels-small : (why : Why) (t : ℕ) (os : List Order) → t ≤ timeMost → Each Small os → SmallReports (cancelReports why t os)

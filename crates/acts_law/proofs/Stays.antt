@@ -56,8 +56,8 @@ pub record Ready (d : Day) : Type 0 where
   pub parts : Parts (d .session)
   pub book : BookOf (d .session) (d .buys) (d .sells)
 
-pub ready : (d : Day) (t : ℕ) → sound d ≡ true → d .session .time ≤ t → t ≤ timeMost →
-    (d .session .closed || ltb t (d .session .settings .length)) ≡ true →
+pub ready : (d : Day) (t : ℕ) → sound d ≡ true → d .session .clock .time ≤ t → t ≤ timeMost →
+    (d .session .clock .closed || ltb t (d .session .settings .length)) ≡ true →
     Ready (stepped d t .day)
 unfolding clockStep
 ready d t h k m u =
@@ -65,8 +65,8 @@ ready d t h k m u =
     let w : SoundDay d = sound-day d h in
     record {
       parts = clock-kept s t k m u (w .parts);
-      book = wider-sound (s .given) (s .settings .tick) (bandNow s) (d .buys) (d .sells) (w .book) Buy (s .given) (bandNow (clockStep s t))
-          (le-refl (s .given)) (λ x. band-stays s t x);
+      book = wider-sound (s .live .given) (s .settings .tick) (bandNow s) (d .buys) (d .sells) (w .book) Buy (s .live .given) (bandNow (clockStep s t))
+          (le-refl (s .live .given)) (λ x. band-stays s t x);
     }
 
 -- ---- an order
@@ -88,25 +88,25 @@ module _ (s : Session) (d : Day) (h : BookOf s (d .buys) (d .sells)) (life : Lif
 
   abbrev After : Side → Swept → Type 0
   After side w =
-      BookBy side (ownAfter side life kind (bandNow s) (lastIn s) (s .given + 1) (own side d) w) (w .rest) (s .given + 1) (s .settings) (s .widened)
+      BookBy side (ownAfter side life kind (bandNow s) (lastIn s) (s .live .given + 1) (own side d) w) (w .rest) (s .live .given + 1) (s .settings) (s .clock .widened)
 
   entered-book : (side : Side) → Admits s life kind lots (length (own side d)) → After side (meets side)
-  entered-book Buy a = entered-sound (s .given) (s .settings .tick) (bandNow s) (d .buys) (d .sells) h Buy life kind range lots (lastIn s) a
-  entered-book Sell a = entered-sound (s .given) (s .settings .tick) (bandNow s) (d .buys) (d .sells) h Sell life kind range lots (lastIn s) a
+  entered-book Buy a = entered-sound (s .live .given) (s .settings .tick) (bandNow s) (d .buys) (d .sells) h Buy life kind range lots (lastIn s) a
+  entered-book Sell a = entered-sound (s .live .given) (s .settings .tick) (bandNow s) (d .buys) (d .sells) h Sell life kind range lots (lastIn s) a
 
-  pub fills-fit : (side : Side) → Each (OrderFits (s .given) (s .settings .tick) (bandNow s)) (meets side .fills)
-  fills-fit Buy = fills-sound (s .given) (s .settings .tick) (bandNow s) (d .buys) (d .sells) h Buy (taker Buy kind range) 0 lots
-  fills-fit Sell = fills-sound (s .given) (s .settings .tick) (bandNow s) (d .buys) (d .sells) h Sell (taker Sell kind range) 0 lots
+  pub fills-fit : (side : Side) → Each (OrderFits (s .live .given) (s .settings .tick) (bandNow s)) (meets side .fills)
+  fills-fit Buy = fills-sound (s .live .given) (s .settings .tick) (bandNow s) (d .buys) (d .sells) h Buy (taker Buy kind range) 0 lots
+  fills-fit Sell = fills-sound (s .live .given) (s .settings .tick) (bandNow s) (d .buys) (d .sells) h Sell (taker Sell kind range) 0 lots
 
 across-few : (s : Session) (d : Day) → BookOf s (d .buys) (d .sells) → (side : Side) → length (across side d) ≤ slots
-across-few s d h Buy = book-fits (s .given) (s .settings .tick) (bandNow s) (d .buys) (d .sells) h .few-sells
-across-few s d h Sell = book-fits (s .given) (s .settings .tick) (bandNow s) (d .buys) (d .sells) h .few-buys
+across-few s d h Buy = book-fits (s .live .given) (s .settings .tick) (bandNow s) (d .buys) (d .sells) h .few-sells
+across-few s d h Sell = book-fits (s .live .given) (s .settings .tick) (bandNow s) (d .buys) (d .sells) h .few-buys
 
 -- an order that the rows let through, on the day after the clock steps
 pub record Let (d : Day) (n : Entry) : Type 0 where
   pub day : Ready d
   pub admitted : Admits (d .session) (n .life) (n .kind) (n .lots) (length (own (n .side) d))
-  pub given-few : d .session .given < numbersMost
+  pub given-few : d .session .live .given < numbersMost
   pub trades-few : d .session .tape .trades ≤ tradesBefore
 
 entered-stays : (d : Day) (n : Entry) → Let d n → sound (enters d n .day) ≡ true
@@ -115,7 +115,7 @@ entered-stays d n r =
     let s : Session = d .session in
     let side : Side = n .side in
     let w : Swept = sweepIn s n (across side d) in
-    let number : ℕ = s .given + 1 in
+    let number : ℕ = s .live .given + 1 in
     let s′ : Session = withTrades (setGiven s number) (w .fills) in
     let u : Untouched (setGiven s number) s′ = trades-leave (setGiven s number) (w .fills) in
     let mine : List Order = settled side number (w .left) (fateIn s n w) (own side d) in
@@ -137,11 +137,11 @@ unfolding dropped
 dropped-stays d number why Buy r =
     let s : Session = d .session in
     day-sound Buy s (removed number (d .buys)) (d .sells) (r .parts)
-    (removed-sound (s .given) (s .settings .tick) (bandNow s) (d .buys) (d .sells) (r .book) Buy number)
+    (removed-sound (s .live .given) (s .settings .tick) (bandNow s) (d .buys) (d .sells) (r .book) Buy number)
 dropped-stays d number why Sell r =
     let s : Session = d .session in
     day-sound Sell s (removed number (d .sells)) (d .buys) (r .parts)
-    (removed-sound (s .given) (s .settings .tick) (bandNow s) (d .buys) (d .sells) (r .book) Sell number)
+    (removed-sound (s .live .given) (s .settings .tick) (bandNow s) (d .buys) (d .sells) (r .book) Sell number)
 
 -- what an act that only sets the session makes of its numbers
 sets-parts : {s s′ : Session} {a : Act} → Sets s a s′ → ((p : ℕ) → carries a .price ≡ some p → p ≤ priceMost) → Parts s → Parts s′
@@ -154,11 +154,11 @@ silent-stays d a s q h r =
     let k = sets-alike q in
     day-sound Buy s (d .buys) (d .sells) (sets-parts q h (r .parts)) (rw (k .given, k .settings, k .widened) (r .book))
 
-finished-stays : (d : Day) (t settle : ℕ) → sound d ≡ true → d .session .time ≤ t → t ≤ timeMost → sound (ends (timed d t .day) settle .day) ≡ true
+finished-stays : (d : Day) (t settle : ℕ) → sound d ≡ true → d .session .clock .time ≤ t → t ≤ timeMost → sound (ends (timed d t .day) settle .day) ≡ true
 unfolding finished
 finished-stays d t settle h k m =
     let s : Session = setClosed (setTime (d .session) t) true in
-    day-sound Buy s [] [] (closed-kept (d .session) t k m (sound-day d h .parts)) (empty-sound (s .given) (s .settings .tick) (bandNow s))
+    day-sound Buy s [] [] (closed-kept (d .session) t k m (sound-day d h .parts)) (empty-sound (s .live .given) (s .settings .tick) (bandNow s))
 
 -- ---- an event
 
@@ -166,8 +166,8 @@ module _ (d : Day) (e : Event) (k : Accepted d e) where
   -- what every event but the close starts from
   pub begins : carries (e .act) .closes ≡ false → Ready (stepped d (e .time) .day)
   begins c =
-      ready d (e .time) (k .whole) (leb-true (d .session .time) (e .time) (k .forward)) (time-right d e k)
-      (or-last (d .session .closed) (ltb (e .time) (d .session .settings .length)) (λ z. in-day d e k c))
+      ready d (e .time) (k .whole) (leb-true (d .session .clock .time) (e .time) (k .forward)) (time-right d e k)
+      (or-last (d .session .clock .closed) (ltb (e .time) (d .session .settings .length)) (λ z. in-day d e k c))
 
   -- the steps leave the tick, so a limit is judged by the session's
   pub lets : (n : Entry) → e .act ≡ Enter n → Let (stepped d (e .time) .day) n
@@ -197,4 +197,4 @@ module _ (d : Day) (e : Event) (k : Accepted d e) where
       (λ n z. entered-stays (stepped d (e .time) .day) n (lets n z))
       (λ number z. dropped-stays (stepped d (e .time) .day) number Asked (sideOf number (d .buys)) (begins (ap (λ (a : Act). carries a .closes) z)))
       (λ s q. silent-stays (stepped d (e .time) .day) (e .act) s q (λ p c. price-right d e k p c .1) (begins (sets-alike q .stays)))
-      (λ settle z. finished-stays d (e .time) settle (k .whole) (leb-true (d .session .time) (e .time) (k .forward)) (time-right d e k))
+      (λ settle z. finished-stays d (e .time) settle (k .whole) (leb-true (d .session .clock .time) (e .time) (k .forward)) (time-right d e k))

@@ -24,7 +24,7 @@ unfolding entered dropped finished
 does-ten d a t =
     let s : Session = d .session in
     does-by (λ (x : Acted). Ten (x .day .session)) d a
-    (λ n e. with-ten (n .side) _ _ _ (trades-ten (setGiven s (s .given + 1)) _ (record { prices = t .prices; sizes = t .sizes })))
+    (λ n e. with-ten (n .side) _ _ _ (trades-ten (setGiven s (s .live .given + 1)) _ (record { prices = t .prices; sizes = t .sizes })))
     (λ number e. with-ten (sideOf number (d .buys)) s _ _ t)
     (λ s′ q. let same = sets-alike q .tape in record { prices = rw same (t .prices); sizes = rw same (t .sizes) })
     (λ settle e. record { prices = t .prices; sizes = t .sizes })

@@ -16,9 +16,10 @@ use Rattle.terms.specs.declared.Said.{Said}
 use Rattle.terms.specs.declared.Side.{Side}
 use Rattle.terms.specs.declared.Side.the-variants.{Buy, Sell}
 use Rattle.terms.proofs.Logic.{by, cases}
+use Rattle.terms.specs.Options.{maybe}
 use Rattle.rules_law.specs.Slabs.{overBy}
 use Rattle.book_law.specs.Matching.{Swept}
-use Rattle.book_law.specs.Tells.{maybe, tells}
+use Rattle.book_law.specs.Tells.{tells}
 use Rattle.book_law.specs.Told.{total}
 use Rattle.book_law.proofs.Remainder.{total-append}
 use Rattle.state_law.specs.declared.Session.{Session}
@@ -86,7 +87,7 @@ ref-if-changed s s′ =
 
 -- no more slab reports than widenings, so none where the band is as often widened as before
 abbrev pub Widens : Day → Acted → Type 0
-Widens d a = slabsTold (a .reports) + d .session .widened ≤ a .day .session .widened
+Widens d a = slabsTold (a .reports) + d .session .clock .widened ≤ a .day .session .clock .widened
 
 widens-then : Chains Widens
 widens-then d a b h k = omega (arith, h, k, total-append slabIn (a .reports) (b .reports))
@@ -106,16 +107,16 @@ clock-widens d t =
     let s′ : Session = clockStep s t in
     let p : Bool = eqb (percentNow s) (percentNow s′) in
     cases p
-    (λ e. let none : slabsTold (clockReports s s′) ≡ 0 = rw e at (slab-if-changed s s′) in omega (arith, widened-more (s .widened) (s .cooling) t))
+    (λ e. let none : slabsTold (clockReports s s′) ≡ 0 = rw e at (slab-if-changed s s′) in omega (arith, widened-more (s .clock .widened) (s .clock .cooling) t))
     (λ e. let one : slabsTold (clockReports s s′) ≡ 1 = rw e at (slab-if-changed s s′) in
-    let over : overBy (s .cooling) t ≡ true = percent-changes s t (rw e) in
-    omega (arith, widened-over (s .widened) (s .cooling) t over))
+    let over : overBy (s .clock .cooling) t ≡ true = percent-changes s t (rw e) in
+    omega (arith, widened-over (s .clock .widened) (s .clock .cooling) t over))
 
 -- an act, which leaves the band as it is, tells no slab
-still-widens : (d : Day) (a : Acted) → slabsTold (a .reports) ≡ 0 → a .day .session .widened ≡ d .session .widened → Widens d a
+still-widens : (d : Day) (a : Acted) → slabsTold (a .reports) ≡ 0 → a .day .session .clock .widened ≡ d .session .clock .widened → Widens d a
 still-widens d a e f = omega arith
 
-widened-with : (side : Side) (s : Session) (mine theirs : List Order) → dayWith side s mine theirs .session .widened ≡ s .widened
+widened-with : (side : Side) (s : Session) (mine theirs : List Order) → dayWith side s mine theirs .session .clock .widened ≡ s .clock .widened
 widened-with Buy s mine theirs = refl
 widened-with Sell s mine theirs = refl
 
@@ -123,7 +124,7 @@ enter-widens : (d : Day) (n : Entry) → Widens d (enters d n)
 enter-widens d n =
     let s : Session = d .session in
     let w : Swept = sweepIn s n (across (n .side) d) in
-    let number : ℕ = s .given + 1 in
+    let number : ℕ = s .live .given + 1 in
     still-widens d (enters d n)
     (total-none slabIn (enters d n .reports) (entered-each _ s n (own (n .side) d) w (λ k. refl) (λ deal. refl) (λ o. refl) (λ e. refl)))
     (unfold entered in
@@ -138,7 +139,7 @@ does-widens d a =
     (λ s q. still-widens d (silent s d) refl (sets-alike q .widened))
     (λ settle e. still-widens d (ends d settle)
     (total-none slabIn (ends d settle .reports)
-    (finished-each _ (d .session) (d .session .time) settle (d .buys) (d .sells) (λ x. refl) (λ c. refl))) refl)
+    (finished-each _ (d .session) (d .session .clock .time) settle (d .buys) (d .sells) (λ x. refl) (λ c. refl))) refl)
 
 -- NO MORE SLAB REPORTS THAN WIDENINGS, by each event on any day
 pub act-widens : (d : Day) (e : Event) → Widens d (act d e)

@@ -22,7 +22,7 @@ use Rattle.state_law.specs.Set.{setTime, setClosed, setUnder, setGiven}
 use Rattle.state_law.specs.Now.{percentNow, bandNow, rangeNow}
 use Rattle.state_law.specs.Clock.{clockStep}
 use Rattle.state_law.specs.Trades.{withTrades}
-use Rattle.state_law.specs.Day.{Day, dayOf, own, across, dayWith}
+use Rattle.state_law.specs.Day.{Day, dayOf, dayBy, steppedDay, own, across, dayWith}
 use Rattle.refusal_law.specs.Carried.{carries}
 
 -- what an act leaves and tells
@@ -41,14 +41,14 @@ abbrev pub slabMoved : Session → Session → Bool
 slabMoved s s′ = not (eqb (percentNow s) (percentNow s′))
 
 abbrev pub slabReport : Session → Report
-slabReport s = reportAt (s .time) (Slab (bandNow s))
+slabReport s = reportAt (s .clock .time) (Slab (bandNow s))
 
 -- "ref (only if the value changed over the event)"
 abbrev pub refMoved : Session → Session → Bool
 refMoved s s′ = not (eqb (s .reckoning .reference) (s′ .reckoning .reference))
 
 abbrev pub refReport : Session → Report
-refReport s = reportAt (s .time) (Ref (s .reckoning .reference))
+refReport s = reportAt (s .clock .time) (Ref (s .reckoning .reference))
 
 unfoldable pub clockReports : Session → Session → List Report
 clockReports s s′ = only (slabMoved s s′) (slabReport s′) ++ only (refMoved s s′) (refReport s′)
@@ -69,13 +69,13 @@ fateIn s n w = fateOf (n .life) (n .kind) (bandNow s) (lastIn s) w
 -- "accept, trades, then convert or cancel"
 unfoldable pub entered : Session → Entry → List Order → Swept → Acted
 entered s n mine w =
-    let number : ℕ = s .given + 1 in
+    let number : ℕ = s .live .given + 1 in
     let fate : Fate = fateIn s n w in
     record {
       day = dayWith (n .side) (withTrades (setGiven s number) (w .fills)) (settled (n .side) number (w .left) fate mine) (w .rest);
       reports =
-          reportAt (s .time) (Accept number)
-          ∷ (tradeReports (s .time) (n .side) number (w .fills) ++ fateReports (s .time) number (w .left) fate);
+          reportAt (s .clock .time) (Accept number)
+          ∷ (tradeReports (s .clock .time) (n .side) number (w .fills) ++ fateReports (s .clock .time) number (w .left) fate);
     }
 
 -- ---- a cancel
@@ -88,7 +88,7 @@ unfoldable pub dropped : Session → ℕ → Why → Side → List Order → Lis
 dropped s number why side mine theirs =
     record {
       day = dayWith side s (removed number mine) theirs;
-      reports = ended (s .time) number (leftOf number mine) why ∷ [];
+      reports = ended (s .clock .time) number (leftOf number mine) why ∷ [];
     }
 
 -- the side on which an order rests
@@ -131,13 +131,9 @@ finished s time settle buys sells =
 abbrev pub andThen : Acted → Acted → Acted
 andThen a b = record { day = b .day; reports = a .reports ++ b .reports }
 
--- a day with another session
-abbrev pub dayBy : Session → Day → Day
-dayBy s d = record { session = s; buys = d .buys; sells = d .sells }
-
 -- the clock steps
 abbrev pub stepped : Day → ℕ → Acted
-stepped d t = record { day = dayBy (clockStep (d .session) t) d; reports = clockReports (d .session) (clockStep (d .session) t) }
+stepped d t = record { day = steppedDay d t; reports = clockReports (d .session) (clockStep (d .session) t) }
 
 -- the time alone
 abbrev pub timed : Day → ℕ → Acted
@@ -153,7 +149,7 @@ does d (Enter n) = entered (d .session) n (own (n .side) d) (sweepIn (d .session
 does d (Withdraw number) = withdrawn d number
 does d (Under price) = silent (setUnder (d .session) price) d
 does d Clock = silent (d .session) d
-does d (Finish settle) = finished (d .session) (d .session .time) settle (d .buys) (d .sells)
+does d (Finish settle) = finished (d .session) (d .session .clock .time) settle (d .buys) (d .sells)
 
 unfoldable pub act : Day → Event → Acted
 act d e = let b : Acted = begun d (e .time) (e .act) in andThen b (does (b .day) (e .act))

@@ -5,10 +5,11 @@ use mathlib.Core.List.{List, [], _∷_, _++_}
 use Rattle.terms.specs.declared.Act.{Act}
 use Rattle.terms.specs.declared.Report.{Report}
 use Rattle.terms.specs.declared.Said.{Said}
+use Rattle.terms.specs.Options.{maybe}
 use Rattle.book_law.specs.Over.{mine, lotsOf}
 use Rattle.book_law.specs.Told.{total}
 use Rattle.state_law.specs.Day.{Day}
-use Rattle.book_law.specs.Tells.{maybe, tells}
+use Rattle.book_law.specs.Tells.{tells}
 use Rattle.refusal_law.specs.Carried.{carries}
 
 -- the lots that an act asks for

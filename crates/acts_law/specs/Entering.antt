@@ -26,12 +26,12 @@ use Rattle.acts_law.specs.Written.{Written, Deals}
 -- the order as it meets the counter side
 abbrev pub incomingIn : Session → Entry → ℕ → Incoming
 incomingIn s n number =
-    record { side = n .side; kind = n .kind; range = rangeNow s; number = number; lots = n .lots; time = s .time; last = lastIn s }
+    record { side = n .side; kind = n .kind; range = rangeNow s; number = number; lots = n .lots; time = s .clock .time; last = lastIn s }
 
 -- what the code asks: room for the accept report and a trade with each counter order, and one more
 pub record Meeting (s : Session) (band : Band) (count : ℕ) (t room : List ℕ) (at : ℕ) : Type 0 where
   pub banded : band ≡ bandNow s
-  pub given-few : s .given < numbersMost
+  pub given-few : s .live .given < numbersMost
   pub ranged : RangeFits (rangeNow s)
   pub holds : Holds count t
   pub space : at + recordLength * (count + 1) ≤ length room
@@ -42,8 +42,8 @@ pub record Meeting (s : Session) (band : Band) (count : ℕ) (t room : List ℕ)
 pub record MetAs (s : Session) (n : Entry) (os : List Order) (t room : List ℕ) (at : ℕ) (t′ room′ : List ℕ) (r : Met) : Type 0 where
   pub book : t′ ≡ tableOf (sweepIn s n os .rest) t
   pub count : r .count ≡ length (sweepIn s n os .rest)
-  pub told : Written room at (reportAt (s .time) (Accept (s .given + 1)) ∷ tradeReports (s .time) (n .side) (s .given + 1) (sweepIn s n os .fills)) room′ (r .at)
-  pub session : r .session ≡ withTrades (setGiven s (s .given + 1)) (sweepIn s n os .fills)
+  pub told : Written room at (reportAt (s .clock .time) (Accept (s .live .given + 1)) ∷ tradeReports (s .clock .time) (n .side) (s .live .given + 1) (sweepIn s n os .fills)) room′ (r .at)
+  pub session : r .session ≡ withTrades (setGiven s (s .live .given + 1)) (sweepIn s n os .fills)
   pub left : r .left ≡ sweepIn s n os .left
   pub last : r .last ≡ ownLastOr (lastIn s) (sweepIn s n os .fills)
   pub out : r .out ≡ sweepIn s n os .out
@@ -53,7 +53,7 @@ pub record MetAs (s : Session) (n : Entry) (os : List Order) (t room : List ℕ)
 
 pub record Entering (s : Session) (n : Entry) (nmine : ℕ) (mine : List ℕ) (ntheirs : ℕ) (theirs room : List ℕ) (at : ℕ) : Type 0 where
   pub clocked : Clocked s
-  pub given-few : s .given < numbersMost
+  pub given-few : s .live .given < numbersMost
   pub holds-mine : Holds nmine mine
   pub holds-theirs : Holds ntheirs theirs
   pub place : n .life ≡ AllDay → nmine < slots
@@ -62,9 +62,9 @@ pub record Entering (s : Session) (n : Entry) (nmine : ℕ) (mine : List ℕ) (n
   pub deals : Each Deals (decode ntheirs theirs)
 
 pub record EnteredAs (s : Session) (n : Entry) (own across : List Order) (mine theirs room : List ℕ) (at : ℕ) (mine′ theirs′ room′ : List ℕ) (r : Entered) : Type 0 where
-  pub booked : mine′ ≡ tableOf (settled (n .side) (s .given + 1) (sweepIn s n across .left) (fateIn s n (sweepIn s n across)) own) mine
+  pub booked : mine′ ≡ tableOf (settled (n .side) (s .live .given + 1) (sweepIn s n across .left) (fateIn s n (sweepIn s n across)) own) mine
   pub countered : theirs′ ≡ tableOf (sweepIn s n across .rest) theirs
-  pub nmine : r .mine ≡ length (settled (n .side) (s .given + 1) (sweepIn s n across .left) (fateIn s n (sweepIn s n across)) own)
+  pub nmine : r .mine ≡ length (settled (n .side) (s .live .given + 1) (sweepIn s n across .left) (fateIn s n (sweepIn s n across)) own)
   pub ntheirs : r .theirs ≡ length (sweepIn s n across .rest)
-  pub session : r .session ≡ withTrades (setGiven s (s .given + 1)) (sweepIn s n across .fills)
+  pub session : r .session ≡ withTrades (setGiven s (s .live .given + 1)) (sweepIn s n across .fills)
   pub told : Written room at (entered s n own (sweepIn s n across) .reports) room′ (r .at)

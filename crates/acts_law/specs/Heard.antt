@@ -8,10 +8,11 @@ use Rattle.terms.specs.declared.Settings.{Settings}
 use Rattle.terms.specs.declared.Band.{Band}
 use Rattle.terms.specs.declared.Report.{Report}
 use Rattle.terms.specs.declared.Said.{Said}
+use Rattle.terms.specs.Options.{maybe}
 use Rattle.rules_law.specs.declared.Range.{Range}
 use Rattle.rules_law.specs.Slabs.{slabOf, bandAt, touches, coolingLength}
 use Rattle.rules_law.specs.Reference.{openingReference, rangeOf}
-use Rattle.book_law.specs.Tells.{maybe, tells}
+use Rattle.book_law.specs.Tells.{tells}
 use Rattle.book_law.specs.Told.{total}
 
 -- the last word of the reports on something: what it was, changed by each report in turn

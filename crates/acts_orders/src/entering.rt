@@ -32,7 +32,7 @@ fn incoming(s: Session, n: Entry, number: u64) -> Incoming
         range: range,
         number: number,
         lots: n.lots,
-        time: s.time,
+        time: s.clock.time,
         last: last,
     }
 }
@@ -50,11 +50,11 @@ fn meet(
     requires { ⌜ Meeting s band count (now theirs) (now room) at ⌝ }
     ensures { λ r. ⌜ MetAs s n (decode count (now (theirs .entry))) (now (theirs .entry)) (now (room .entry)) at (now (theirs .exit)) (now (room .exit)) r ⌝ }
 {
-    let number = s.given + 1;
+    let number = s.live.given + 1;
     let mut given = s;
-    given.given = number;
+    given.live.given = number;
     let x = incoming(s, n, number);
-    let first = telling::tell(room, at, s.time, Said::Accept(number));
+    let first = telling::tell(room, at, s.clock.time, Said::Accept(number));
     let m = crossing::sweep(theirs, count, room, first, x);
     let trades = m.trades;
     let session = remembering::remember(given, band, room, first, trades);
@@ -85,14 +85,24 @@ pub fn enter(
     let side = n.side;
     let kind = n.kind;
     let life = n.life;
-    let number = s.given + 1;
+    let number = s.live.given + 1;
     let band = force::band_now(s);
     let m = meet(s, band, n, theirs, ntheirs, room, at);
     let left = m.left;
     let behind = m.at;
     let session = m.session;
     let fate = leftover::fate(life, kind, band, m.last, left, m.out);
-    let p = leftover::settle(mine, nmine, side, number, left, fate, s.time, room, behind);
+    let p = leftover::settle(
+        mine,
+        nmine,
+        side,
+        number,
+        left,
+        fate,
+        s.clock.time,
+        room,
+        behind,
+    );
     Entered {
         session: session,
         mine: p.count,

@@ -11,8 +11,8 @@ pub fn done(s: Session, nbuys: usize, nsells: usize, at: usize) -> Applied
     ensures { λ r. ⌜ r ≡ doneAt s nbuys nsells at ⌝ }
 {
     let mut r = s;
-    r.buys = nbuys as u64;
-    r.sells = nsells as u64;
+    r.live.buys = nbuys as u64;
+    r.live.sells = nsells as u64;
     let count = (at / sizes::RECORD) as u64;
     Applied {
         answer: Answer::Reported(count),

@@ -44,19 +44,19 @@ fn tell_slab(room: &mut [u64], at: usize, old: Session, s: Session) -> usize
         return at;
     }
     let band = force::band_now(s);
-    tell(room, at, s.time, Said::Slab(band))
+    tell(room, at, s.clock.time, Said::Slab(band))
 }
 
 // Ref, if the value changed.
 fn tell_ref(room: &mut [u64], at: usize, old: u64, s: Session) -> usize
     requires { ⌜ at + recordLength ≤ length (now room) ⌝ }
-    ensures { λ r. ⌜ Written (now (room .entry)) at (only (not (eqb old (s .reckoning .reference))) (reportAt (s .time) (Said.Ref (s .reckoning .reference)))) (now (room .exit)) r ⌝ }
+    ensures { λ r. ⌜ Written (now (room .entry)) at (only (not (eqb old (s .reckoning .reference))) (reportAt (s .clock .time) (Said.Ref (s .reckoning .reference)))) (now (room .exit)) r ⌝ }
 {
     let reference = s.reckoning.reference;
     if old == reference {
         return at;
     }
-    tell(room, at, s.time, Said::Ref(reference))
+    tell(room, at, s.clock.time, Said::Ref(reference))
 }
 
 // The reports of the clock steps from one session to the next.

@@ -20,12 +20,13 @@ use Rattle.terms.specs.declared.Why.{Why}
 use Rattle.terms.specs.declared.Report.{Report}
 use Rattle.terms.specs.declared.Said.{Said}
 use Rattle.terms.proofs.Logic.{by}
+use Rattle.terms.specs.Options.{maybe}
 use Rattle.rules_law.specs.Slabs.{inBand}
 use Rattle.book_law.specs.Matching.{Taker, Swept, sweep, dealOf, tradeReports, Fate, Done, Rests, Turns, Ends, ownLastOr, fateOfLeft, fateOf, settled, fateReports}
 use Rattle.book_law.specs.Over.{tally, mine, sumOf, lotsOf}
 use Rattle.book_law.specs.Priority.{otherSide}
 use Rattle.book_law.specs.View.{named}
-use Rattle.book_law.specs.Tells.{maybe, tells}
+use Rattle.book_law.specs.Tells.{tells}
 use Rattle.book_law.specs.Told.{total, tradedIn, cancelledIn, traded, cancelled}
 use Rattle.book_law.proofs.Over.{mine-add, mine-zero, lots-insert}
 use Rattle.book_law.proofs.Conserve.{Conserved, sweep-conserves}

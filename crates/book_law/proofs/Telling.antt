@@ -9,8 +9,9 @@ use Rattle.terms.specs.declared.Ended.{Ended}
 use Rattle.terms.specs.declared.Order.{Order}
 use Rattle.terms.specs.declared.Said.{Said}
 use Rattle.terms.specs.declared.Said.the-variants.{Accept, Trade, Convert, Cancel, Slab, Ref, Close}
+use Rattle.terms.specs.Options.{maybe}
 use Rattle.book_law.specs.Matching.{reportAt}
-use Rattle.book_law.specs.Tells.{maybe, tells}
+use Rattle.book_law.specs.Tells.{tells}
 
 pub report-is : (time : ℕ) (said : Said) → (reportAt time said .time ≡ time) × (reportAt time said .said ≡ said)
 report-is time said = (refl, refl)

@@ -7,16 +7,6 @@ use Rattle.terms.specs.declared.Ended.{Ended}
 use Rattle.terms.specs.declared.Said.{Said}
 use Rattle.terms.specs.declared.Said.the-variants.{Accept, Trade, Convert, Cancel, Slab, Ref, Close}
 
--- something that may be there: what is made of it, or else another thing
-abbrev pub maybe : {A B : Type 0} → B → (A → B) → Option A → B
-maybe other f none = other
-maybe other f (some x) = f x
-
--- it has the property, if it is there
-abbrev pub If : {A : Type 0} → (A → Type 0) → Option A → Type 0
-If P none = Unit {0}
-If P (some x) = P x
-
 pub record Telling : Type 0 where
   -- the number of an order that is accepted
   pub accepted : Option ℕ

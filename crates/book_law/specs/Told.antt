@@ -3,8 +3,9 @@ use Prim.Native.Nat.{ℕ, _+_}
 use mathlib.Core.List.{List, [], _∷_}
 use Rattle.terms.specs.declared.Report.{Report}
 use Rattle.terms.specs.declared.Said.{Said}
+use Rattle.terms.specs.Options.{maybe}
 use Rattle.book_law.specs.Over.{mine}
-use Rattle.book_law.specs.Tells.{maybe, tells}
+use Rattle.book_law.specs.Tells.{tells}
 
 -- the sum over reports of what each says
 unfoldable pub total : (Said → ℕ) → List Report → ℕ

@@ -33,17 +33,17 @@ pub fn answer(a: Answer) {
 
 // Settings aside, every number that an event can change, but for the remembered trades.
 pub fn session(s: Session) {
-    print::number(s.time);
-    print::number(truth(s.closed));
-    print::number(s.buys);
-    print::number(s.sells);
-    print::number(s.widened);
-    print::number(s.cooling);
+    print::number(s.clock.time);
+    print::number(truth(s.clock.closed));
+    print::number(s.live.buys);
+    print::number(s.live.sells);
+    print::number(s.clock.widened);
+    print::number(s.clock.cooling);
     print::number(s.reckoning.reference);
     print::number(s.reckoning.minute.count);
     print::number(s.reckoning.minute.sum);
-    print::number(s.under);
-    print::number(s.given);
+    print::number(s.clock.under);
+    print::number(s.live.given);
     print::number(s.tape.trades);
     print::number(s.tape.half.count);
     print::number(s.tape.half.lots);

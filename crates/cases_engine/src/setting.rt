@@ -55,34 +55,34 @@ fn in_settings(g: Settings, field: u64, v: u64) -> Settings {
 fn in_session(s: Session, field: u64, v: u64) -> Session {
     let mut r = s;
     if field == 8 {
-        r.time = v;
+        r.clock.time = v;
         return r;
     }
     if field == 9 {
-        r.closed = v == 1;
+        r.clock.closed = v == 1;
         return r;
     }
     if field == 10 {
-        r.buys = v;
+        r.live.buys = v;
         return r;
     }
     if field == 11 {
-        r.sells = v;
+        r.live.sells = v;
         return r;
     }
     if field == 12 {
-        r.widened = v;
+        r.clock.widened = v;
         return r;
     }
     if field == 13 {
-        r.cooling = v;
+        r.clock.cooling = v;
         return r;
     }
     if field == 14 {
-        r.under = v;
+        r.clock.under = v;
         return r;
     }
-    r.given = v;
+    r.live.given = v;
     r
 }
 

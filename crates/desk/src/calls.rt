@@ -18,9 +18,9 @@ ghost use mathlib.Core.Bool.{true};
 ghost use Prim.Native.Nat.{_≤_};
 ghost use lib.ListN.{length};
 ghost use Rattle.engine_law.specs.Calls.{viewCall};
-ghost use Rattle.desk_packing.specs.Runs.{settingsLength, sessionLength, eventLength};
-ghost use Rattle.desk_packing.specs.Sessions.{isSession};
-ghost use Rattle.desk_answers.specs.Answers.{answerOf};
+ghost use Rattle.desk_packing_law.specs.Runs.{settingsLength, sessionLength, eventLength};
+ghost use Rattle.desk_packing_law.specs.Sessions.{isSession};
+ghost use Rattle.desk_packing_law.specs.Answers.{answerOf};
 ghost use Rattle.desk_law.specs.Calls.{openedFrom, OpenedAs, strangeVerdict, AppliedOn, soundOn, viewOn};
 
 // The opening that a run of settings asks for.

@@ -4,4 +4,5 @@
 
 pub mod calls;
 pub mod lines;
+pub mod standings;
 pub mod texts;

@@ -1,8 +1,8 @@
 // The calls on lines: settings and events read and written, reports written.
 use desk_packing::events;
-use desk_packing::events::FoundEvent;
 use desk_packing::runs;
 use desk_packing::settings;
+use desk_packing_law::FoundEvent;
 use lines_reading_law::ReadEvent;
 use lines_reading_law::ReadSettings;
 use lines_writing_law::Wrote;
@@ -12,7 +12,7 @@ use terms::sizes;
 ghost use mathlib.Core.Path.{_≡_};
 ghost use mathlib.Core.List.{[]};
 ghost use Rattle.lines_writing_law.specs.Writes.{lineVerdict};
-ghost use Rattle.desk_answers.specs.Answers.{answerOf};
+ghost use Rattle.desk_packing_law.specs.Answers.{answerOf};
 ghost use Rattle.desk_law.specs.Reads.{EventReadInto, SettingsReadInto};
 ghost use Rattle.desk_law.specs.Writes.{wroteNumber, Few, SettingsWrittenOn, EventWrittenOn, ReportWrittenOn};
 

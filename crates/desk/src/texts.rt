@@ -7,7 +7,7 @@ use terms::Refusal;
 ghost use mathlib.Core.Path.{_≡_};
 ghost use Prim.Native.Nat.{_≤_};
 ghost use lib.ListN.{length};
-ghost use Rattle.desk_runs.specs.Runs.{runLength};
+ghost use Rattle.desk_packing_law.specs.Stages.{runLength};
 ghost use Rattle.feed_law.specs.Feeds.{fedOf, endedOf};
 ghost use Rattle.desk_law.specs.Feeding.{StartedAs, countsLength, stopNumber, isRefusal, LaidAfter, LaidTaken, FedAs};
 

@@ -1,5 +1,5 @@
 // desk_answers: what a call answers, as one number: a code, and a count.
-// It may use terms. It promises: the number is the definition of specs/, and code and count can be read back from it.
+// It may use terms and desk_packing_law. It promises: the number is the definition of desk_packing_law, so code and count can be got back from it.
 
 use terms::Refusal;
 use terms::numbers;
@@ -8,7 +8,7 @@ ghost use Prim.Native.Nat.{_≤_, _<_};
 ghost use Rattle.terms.specs.declared.Refusal.the-variants.{LineWrong};
 ghost use Rattle.terms.specs.declared.Verdict.the-variants.{Fine, Refused};
 ghost use Rattle.terms.specs.Refusals.{numberOf};
-ghost use Rattle.desk_answers.specs.Answers.{codes, countMost, answerNumber, answerOf};
+ghost use Rattle.desk_packing_law.specs.Answers.{codes, countMost, answerNumber, answerOf};
 
 pub const CODES: u64 = 256;
 

@@ -19,12 +19,12 @@ use Rattle.acts_law.specs.Acts.{act}
 use Rattle.engine_law.specs.Outcome.{decided}
 use Rattle.engine_law.specs.Calls.{callVerdict, called}
 use Rattle.lines_reading_law.specs.Answers.{readEvent, readSettings}
-use Rattle.desk_packing.specs.Runs.{settingsLength, sessionLength, eventLength}
-use Rattle.desk_packing.specs.Settings.{isCategory, settingsNumbers, settingsFrom}
-use Rattle.desk_packing.specs.Sessions.{sessionFrom}
-use Rattle.desk_packing.specs.Events.{eventNumbers, eventFrom}
-use Rattle.desk_packing.proofs.Inverse.{from-ten, laid-back, settings-back}
-use Rattle.desk_packing.proofs.EventInverse.{event-back}
+use Rattle.desk_packing_law.specs.Runs.{settingsLength, sessionLength, eventLength}
+use Rattle.desk_packing_law.specs.Settings.{isCategory, settingsNumbers, settingsFrom}
+use Rattle.desk_packing_law.specs.Sessions.{sessionFrom}
+use Rattle.desk_packing_law.specs.Events.{eventNumbers, eventFrom}
+use Rattle.desk_packing_law.proofs.Inverse.{from-ten, laid-back, settings-back}
+use Rattle.desk_packing_law.proofs.EventInverse.{event-back}
 use Rattle.desk_law.specs.Calls.{openedFrom, OpenedAs, calledOn, runBy, AppliedOn}
 use Rattle.desk_law.specs.Reads.{EventReadInto, SettingsReadInto}
 use Rattle.acts_law.proofs.Tens.{act-ten}

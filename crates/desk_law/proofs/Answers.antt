@@ -11,10 +11,10 @@ use Rattle.engine_law.specs.declared.Applied.{Applied}
 use Rattle.engine_law.specs.Answers.{answerCode, answerCount}
 use Rattle.engine_law.specs.Outcome.{Outcome}
 use Rattle.engine_law.specs.Calls.{called, answerBy, AppliedAs}
-use Rattle.desk_packing.specs.Runs.{sessionLength, eventLength}
-use Rattle.desk_packing.specs.Sessions.{sessionFrom}
-use Rattle.desk_packing.specs.Events.{eventFrom}
-use Rattle.desk_answers.specs.Answers.{answerNumber, answerOf}
+use Rattle.desk_packing_law.specs.Runs.{sessionLength, eventLength}
+use Rattle.desk_packing_law.specs.Sessions.{sessionFrom}
+use Rattle.desk_packing_law.specs.Events.{eventFrom}
+use Rattle.desk_packing_law.specs.Answers.{answerNumber, answerOf}
 use Rattle.desk_law.specs.Calls.{calledOn, AppliedOn}
 
 -- an answer of the engine as one number

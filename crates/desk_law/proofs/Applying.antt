@@ -28,10 +28,10 @@ use Rattle.engine_law.specs.declared.Answer.{Answer}
 use Rattle.engine_law.specs.declared.Applied.{Applied}
 use Rattle.engine_law.specs.Outcome.{Outcome, decided}
 use Rattle.engine_law.specs.Calls.{roomy, callVerdict, called, answerBy, AppliedAs}
-use Rattle.desk_packing.specs.Runs.{sessionLength, eventLength}
-use Rattle.desk_packing.specs.Sessions.{sessionNumbers, isSession, sessionOf, sessionFrom}
-use Rattle.desk_packing.specs.Events.{eventFrom}
-use Rattle.desk_answers.specs.Answers.{countMost, answerOf}
+use Rattle.desk_packing_law.specs.Runs.{sessionLength, eventLength}
+use Rattle.desk_packing_law.specs.Sessions.{sessionNumbers, isSession, sessionOf, sessionFrom}
+use Rattle.desk_packing_law.specs.Events.{eventFrom}
+use Rattle.desk_packing_law.specs.Answers.{countMost, answerOf}
 use Rattle.desk_law.specs.Calls.{strangeVerdict, calledOn, AppliedOn}
 use Rattle.desk_law.proofs.Turned.{no-session-unsound}
 

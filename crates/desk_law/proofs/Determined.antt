@@ -1,6 +1,6 @@
 -- Each result at the boundary is an equation against the definitions, so two are equal.
 use mathlib.Core.Path.{sym, _∙_}
-use Rattle.desk_law.specs.Determined.{OpenDetermined, ApplyDetermined, ReadDetermined, WriteDetermined, StartDetermined, FeedDetermined, SoundDetermined, ViewDetermined}
+use Rattle.desk_law.specs.Determined.{OpenDetermined, ApplyDetermined, ReadDetermined, WriteDetermined, StartDetermined, FeedDetermined, SoundDetermined, ViewDetermined, StandingDetermined, VersionDetermined, LayoutDetermined}
 
 pub open-determined : OpenDetermined
 open-determined gs run run₁ run₂ r₁ r₂ a b = (a .answer ∙ sym (b .answer), a .laid ∙ sym (b .laid))
@@ -44,3 +44,13 @@ sound-determined run buys sells r₁ r₂ a b = a ∙ sym b
 
 pub view-determined : ViewDetermined
 view-determined side run buys sells r₁ r₂ a b = a ∙ sym b
+
+pub standing-determined : StandingDetermined
+standing-determined run buys sells standing standing₁ standing₂ r₁ r₂ a b =
+    (a .stood .answer ∙ sym (b .stood .answer), a .stood .laid ∙ sym (b .stood .laid))
+
+pub version-determined : VersionDetermined
+version-determined r₁ r₂ a b = a ∙ sym b
+
+pub layout-determined : LayoutDetermined
+layout-determined r₁ r₂ a b = a ∙ sym b

@@ -6,5 +6,7 @@ pub mod LineReads
 pub mod LineWrites
 pub mod Again
 pub mod TextAgain
+pub mod Stands
+pub mod StandsRead
 pub mod Determined
 pub mod Turned

@@ -21,10 +21,10 @@ use Rattle.lines_reading_law.specs.Answers.{eventAnswer, settingsAnswer, EventR
 use Rattle.lines_reading_law.specs.Lines.{EventLine, SettingsLine}
 use Rattle.lines_reading_law.proofs.EventLines.{event-only, event-right}
 use Rattle.lines_reading_law.proofs.SettingsLines.{settings-only, settings-right}
-use Rattle.desk_packing.specs.Runs.{settingsLength, eventLength}
-use Rattle.desk_packing.specs.Settings.{settingsNumbers}
-use Rattle.desk_packing.specs.Events.{eventNumbers}
-use Rattle.desk_answers.specs.Answers.{countMost, answerNumber, answerOf}
+use Rattle.desk_packing_law.specs.Runs.{settingsLength, eventLength}
+use Rattle.desk_packing_law.specs.Settings.{settingsNumbers}
+use Rattle.desk_packing_law.specs.Events.{eventNumbers}
+use Rattle.desk_packing_law.specs.Answers.{countMost, answerNumber, answerOf}
 use Rattle.desk_law.specs.Reads.{ReadInto, EventReadInto, SettingsReadInto}
 use Rattle.lines_writing_law.proofs.Short.{event-short, settings-short}
 

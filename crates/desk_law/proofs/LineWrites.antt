@@ -23,11 +23,11 @@ use Rattle.records_law.proofs.Told.{told-right, told-only, six-at}
 use Rattle.lines_writing_law.specs.declared.Wrote.{Wrote}
 use Rattle.lines_writing_law.specs.Lines.{renderReport, reportNumbers}
 use Rattle.lines_writing_law.specs.Writes.{lineVerdict, wroteOf, roomOf, Writes}
-use Rattle.desk_packing.specs.declared.events.FoundEvent.{FoundEvent}
-use Rattle.desk_packing.specs.Runs.{settingsLength, eventLength}
-use Rattle.desk_packing.specs.Settings.{isCategory, settingsFrom}
-use Rattle.desk_packing.specs.Events.{foundIn, eventFrom}
-use Rattle.desk_answers.specs.Answers.{countMost, answerOf}
+use Rattle.desk_packing_law.specs.declared.FoundEvent.{FoundEvent}
+use Rattle.desk_packing_law.specs.Runs.{settingsLength, eventLength}
+use Rattle.desk_packing_law.specs.Settings.{isCategory, settingsFrom}
+use Rattle.desk_packing_law.specs.Events.{foundIn, eventFrom}
+use Rattle.desk_packing_law.specs.Answers.{countMost, answerOf}
 use Rattle.desk_law.specs.Writes.{wroteNumber, Few, WrittenOn, settingsVerdictOn, SettingsWrittenOn, eventVerdictOn, EventWrittenOn, reportIn, reportVerdictOn, ReportWrittenOn}
 use Rattle.lines_writing_law.proofs.Short.{event-short, settings-short, report-short}
 

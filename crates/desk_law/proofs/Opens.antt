@@ -12,10 +12,10 @@ use Rattle.tables.specs.Put.{put}
 use Rattle.state_law.specs.declared.Session.{Session}
 use Rattle.state_law.specs.declared.Opened.{Opened}
 use Rattle.state_law.specs.Opening.{openingOf, fixedSession}
-use Rattle.desk_packing.specs.Runs.{settingsLength, sessionLength}
-use Rattle.desk_packing.specs.Settings.{isCategory, settingsFrom}
-use Rattle.desk_packing.specs.Sessions.{sessionNumbers}
-use Rattle.desk_answers.specs.Answers.{answerOf}
+use Rattle.desk_packing_law.specs.Runs.{settingsLength, sessionLength}
+use Rattle.desk_packing_law.specs.Settings.{isCategory, settingsFrom}
+use Rattle.desk_packing_law.specs.Sessions.{sessionNumbers}
+use Rattle.desk_packing_law.specs.Answers.{answerOf}
 use Rattle.desk_law.specs.Calls.{openedFrom, OpenedAs}
 
 -- code tests `found`, which is whether the category is one

@@ -31,13 +31,13 @@ use Rattle.feed_law.specs.Feeds.{Feed, begun, feedVerdict, linesOf, fedBy, fedO
 use Rattle.feed_law.proofs.Going.{fed-by}
 use Rattle.feed_law.proofs.Pieces.{pieces, end-prints-rest}
 use Rattle.feed_law.proofs.Starts.{end-world}
-use Rattle.desk_packing.proofs.Inverse.{from-ten}
-use Rattle.desk_runs.specs.Runs.{runLength, isRun, runFrom}
+use Rattle.desk_packing_law.proofs.Inverse.{from-ten}
+use Rattle.desk_packing_law.specs.Stages.{runLength, isRun, runFrom}
 use Rattle.desk_law.specs.Feeding.{startVerdict, StartedAs, countsLength, isRefusal, fedOn, runAfter, FedAs}
 use Rattle.acts_law.proofs.Tens.{act-ten}
 use Rattle.state_law.specs.Tens.{Ten}
 use Rattle.state_law.proofs.Tens.{fixed-ten, opening-ten}
-use Rattle.desk_runs.proofs.Inverse.{run-laid-back}
+use Rattle.desk_packing_law.proofs.StageInverse.{run-laid-back}
 
 -- ---- the arrays of a session have ten numbers, whatever lines there are
 

@@ -14,8 +14,8 @@ use Rattle.feed_law.specs.declared.Taken.{Taken}
 use Rattle.feed_law.specs.Worlds.{Lent}
 use Rattle.feed_law.specs.Turns.{Fed}
 use Rattle.feed_law.specs.Feeds.{Feed, begun, TakenAs, TakenBy}
-use Rattle.desk_answers.specs.Answers.{answerOf}
-use Rattle.desk_runs.specs.Runs.{runLength, runNumbers, runFrom}
+use Rattle.desk_packing_law.specs.Answers.{answerOf}
+use Rattle.desk_packing_law.specs.Stages.{runLength, runNumbers, runFrom}
 use Rattle.desk_law.specs.Feeding.{startVerdict, StartedAs, countsLength, stopNumber, isRefusal, laidBy, LaidAfter, LaidTaken, fedOn, runAfter, FedAs}
 
 -- ---- start

@@ -9,9 +9,9 @@ use Rattle.terms.specs.Numbers.{isTime}
 use Rattle.soundness_law.specs.Sound.{sound, dayIn}
 use Rattle.soundness_law.proofs.Days.{fixed-unsound}
 use Rattle.refusal_law.specs.Refusals.{numbersRight}
-use Rattle.desk_packing.specs.declared.events.FoundEvent.{FoundEvent}
-use Rattle.desk_packing.specs.Sessions.{isSession, sessionFrom}
-use Rattle.desk_packing.specs.Events.{foundIn, eventFrom}
+use Rattle.desk_packing_law.specs.declared.FoundEvent.{FoundEvent}
+use Rattle.desk_packing_law.specs.Sessions.{isSession, sessionFrom}
+use Rattle.desk_packing_law.specs.Events.{foundIn, eventFrom}
 
 pub no-session-unsound : (ns buys sells : List ℕ) → isSession ns ≡ false → sound (dayIn (sessionFrom ns) buys sells) ≡ false
 unfolding sessionFrom

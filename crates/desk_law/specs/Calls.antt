@@ -18,11 +18,11 @@ use Rattle.state_law.specs.Opening.{openingOf, fixedSession}
 use Rattle.soundness_law.specs.Sound.{sound, dayIn}
 use Rattle.engine_law.specs.Outcome.{Outcome}
 use Rattle.engine_law.specs.Calls.{roomy, called, tableBy, viewCall}
-use Rattle.desk_packing.specs.Runs.{settingsLength, sessionLength, eventLength}
-use Rattle.desk_packing.specs.Settings.{isCategory, settingsFrom}
-use Rattle.desk_packing.specs.Sessions.{flag, sessionNumbers, sessionFrom}
-use Rattle.desk_packing.specs.Events.{eventFrom}
-use Rattle.desk_answers.specs.Answers.{answerOf}
+use Rattle.desk_packing_law.specs.Runs.{settingsLength, sessionLength, eventLength}
+use Rattle.desk_packing_law.specs.Settings.{isCategory, settingsFrom}
+use Rattle.desk_packing_law.specs.Sessions.{flag, sessionNumbers, sessionFrom}
+use Rattle.desk_packing_law.specs.Events.{eventFrom}
+use Rattle.desk_packing_law.specs.Answers.{answerOf}
 
 -- one thing where two runs are as long as they have to be, and another where one is short
 abbrev pub whereLong : {A : Type 0} → List ℕ → ℕ → List ℕ → ℕ → A → A → A

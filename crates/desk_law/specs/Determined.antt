@@ -9,6 +9,9 @@ use Rattle.desk_law.specs.Calls.{OpenedAs, AppliedOn, soundOn, viewOn}
 use Rattle.desk_law.specs.Reads.{ReadInto}
 use Rattle.desk_law.specs.Writes.{WrittenOn}
 use Rattle.desk_law.specs.Feeding.{StartedAs, FedAs}
+use Rattle.desk_law.specs.Standings.{StandingOn}
+use Rattle.desk_packing_law.specs.Runs.{layout}
+use Rattle.desk_law.specs.Versions.{version}
 
 -- `kakoludar_open`
 abbrev pub OpenDetermined : Type 0
@@ -58,3 +61,16 @@ SoundDetermined = (run buys sells : List ℕ) (r₁ r₂ : ℕ) → r₁ ≡ sou
 
 abbrev pub ViewDetermined : Type 0
 ViewDetermined = (side : ℕ) (run buys sells : List ℕ) (r₁ r₂ : ℕ) → r₁ ≡ viewOn side run buys sells → r₂ ≡ viewOn side run buys sells → r₁ ≡ r₂
+
+-- `kakoludar_standing`
+abbrev pub StandingDetermined : Type 0
+StandingDetermined =
+    (run buys sells standing standing₁ standing₂ : List ℕ) (r₁ r₂ : ℕ) →
+    StandingOn run buys sells standing standing₁ r₁ → StandingOn run buys sells standing standing₂ r₂ → (r₁ ≡ r₂) × (standing₁ ≡ standing₂)
+
+-- `kakoludar_version` and `kakoludar_layout`
+abbrev pub VersionDetermined : Type 0
+VersionDetermined = (r₁ r₂ : ℕ) → r₁ ≡ version → r₂ ≡ version → r₁ ≡ r₂
+
+abbrev pub LayoutDetermined : Type 0
+LayoutDetermined = (r₁ r₂ : ℕ) → r₁ ≡ layout → r₂ ≡ layout → r₁ ≡ r₂

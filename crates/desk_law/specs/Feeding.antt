@@ -15,9 +15,9 @@ use Rattle.feed_law.specs.declared.Taken.{Taken}
 use Rattle.feed_law.specs.Worlds.{Lent, lentOf, calls}
 use Rattle.feed_law.specs.Turns.{Fed, halted}
 use Rattle.feed_law.specs.Feeds.{Feed, laid, begun}
-use Rattle.desk_answers.specs.Answers.{answerNumber, answerOf}
+use Rattle.desk_packing_law.specs.Answers.{answerNumber, answerOf}
 use Rattle.desk_law.specs.Calls.{whereLong}
-use Rattle.desk_runs.specs.Runs.{runLength, runNumbers, runFrom}
+use Rattle.desk_packing_law.specs.Stages.{runLength, runNumbers, runFrom}
 
 -- ---- start
 

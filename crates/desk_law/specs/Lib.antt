@@ -2,4 +2,6 @@ pub mod Calls
 pub mod Reads
 pub mod Writes
 pub mod Feeding
+pub mod Standings
+pub mod Versions
 pub mod Determined

@@ -10,10 +10,10 @@ use Rattle.terms.specs.declared.Verdict.the-variants.{Refused}
 use Rattle.tables.specs.Put.{put}
 use Rattle.lines_text_law.specs.Grammar.{Answer, whole, unfinished, wrong}
 use Rattle.lines_reading_law.specs.Answers.{codeOf, countOf, readEvent, readSettings}
-use Rattle.desk_packing.specs.Runs.{settingsLength, eventLength}
-use Rattle.desk_packing.specs.Settings.{settingsNumbers}
-use Rattle.desk_packing.specs.Events.{eventNumbers}
-use Rattle.desk_answers.specs.Answers.{answerNumber, answerOf}
+use Rattle.desk_packing_law.specs.Runs.{settingsLength, eventLength}
+use Rattle.desk_packing_law.specs.Settings.{settingsNumbers}
+use Rattle.desk_packing_law.specs.Events.{eventNumbers}
+use Rattle.desk_packing_law.specs.Answers.{answerNumber, answerOf}
 
 -- the paper's number of what was read, 0, 14 or 15, and its value: the bytes that the line took, or the place
 abbrev pub readNumber : {E : Type 0} → Answer E → ℕ

@@ -15,11 +15,11 @@ use Rattle.lines_writing_law.specs.Lines.{renderReport, reportNumbers}
 use Rattle.lines_writing_law.specs.Writes.{lineVerdict, roomOf}
 use Rattle.records_law.specs.declared.ReadRecord.{ReadRecord}
 use Rattle.records_law.specs.Back.{reportFrom}
-use Rattle.desk_packing.specs.declared.events.FoundEvent.{FoundEvent}
-use Rattle.desk_packing.specs.Runs.{settingsLength, eventLength}
-use Rattle.desk_packing.specs.Settings.{isCategory, settingsFrom}
-use Rattle.desk_packing.specs.Events.{foundIn, eventFrom}
-use Rattle.desk_answers.specs.Answers.{countMost, answerOf}
+use Rattle.desk_packing_law.specs.declared.FoundEvent.{FoundEvent}
+use Rattle.desk_packing_law.specs.Runs.{settingsLength, eventLength}
+use Rattle.desk_packing_law.specs.Settings.{isCategory, settingsFrom}
+use Rattle.desk_packing_law.specs.Events.{foundIn, eventFrom}
+use Rattle.desk_packing_law.specs.Answers.{countMost, answerOf}
 
 -- ---- a writer's answer as a number
 

@@ -1,4 +1,5 @@
 // An event to and from a run of six numbers.
+use desk_packing_law::FoundEvent;
 use terms::Act;
 use terms::Entry;
 use terms::Event;
@@ -8,14 +9,8 @@ use terms::Side;
 ghost use mathlib.Core.Path.{_≡_};
 ghost use Prim.Native.Nat.{_≤_};
 ghost use lib.ListN.{length};
-ghost use Rattle.desk_packing.specs.Runs.{eventLength};
-ghost use Rattle.desk_packing.specs.Events.{sideNumber, kindNumber, lifeNumber, limitOf, eventNumbers, toldIf, orderFrom, entryFrom, foundFrom, foundIn, eventFrom};
-
-// An event, or numbers that are no event's.
-pub enum FoundEvent {
-    Told(Event),
-    Nothing,
-}
+ghost use Rattle.desk_packing_law.specs.Runs.{eventLength};
+ghost use Rattle.desk_packing_law.specs.Events.{sideNumber, kindNumber, lifeNumber, limitOf, eventNumbers, toldIf, orderFrom, entryFrom, foundFrom, foundIn, eventFrom};
 
 fn of_side(side: Side) -> u64
     ensures { λ r. ⌜ r ≡ sideNumber side ⌝ }

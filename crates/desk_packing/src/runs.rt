@@ -1,15 +1,29 @@
-// Runs of numbers: how long each is, and a run laid into lent numbers.
+// Runs of numbers: how long each is, where the sections of a session begin, and a run laid into lent numbers.
 ghost use mathlib.Core.Path.{_≡_};
 ghost use Prim.Native.Nat.{_+_, _≤_};
 ghost use lib.ListN.{length};
 ghost use Rattle.tables.specs.Put.{put};
-ghost use Rattle.desk_packing.specs.Runs.{tenAt};
+ghost use Rattle.desk_packing_law.specs.Runs.{tenAt};
 
 pub const SETTINGS: usize = 8;
 
-pub const SESSION: usize = 43;
+pub const SESSION: usize = 44;
 
 pub const EVENT: usize = 6;
+
+// The layout of stored numbers, which a session begins with.
+pub const LAYOUT: u64 = 101;
+
+// Where the sections of a session begin.
+pub const SETTINGS_AT: usize = 1;
+
+pub const CLOCK_AT: usize = 9;
+
+pub const LIVE_AT: usize = 14;
+
+pub const RECKONING_AT: usize = 17;
+
+pub const TAPE_AT: usize = 20;
 
 // The numbers of a run from its front on; what lies past them is as it was.
 pub fn lay(run: &mut [u64], ns: &[u64])

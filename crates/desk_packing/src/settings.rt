@@ -3,10 +3,10 @@ use terms::Category;
 use terms::Settings;
 use terms::numbers;
 ghost use mathlib.Core.Path.{_≡_};
-ghost use Prim.Native.Nat.{_≤_};
+ghost use Prim.Native.Nat.{_+_, _≤_};
 ghost use lib.ListN.{length};
-ghost use Rattle.desk_packing.specs.Runs.{settingsLength};
-ghost use Rattle.desk_packing.specs.Settings.{settingsNumbers, isCategory, categoryFrom, settingsFrom};
+ghost use Rattle.desk_packing_law.specs.Runs.{settingsLength};
+ghost use Rattle.desk_packing_law.specs.Settings.{settingsNumbers, isCategory, categoryFrom, settingsAt, settingsFrom};
 
 // A number that is the row of a category.
 pub fn is_category(n: u64) -> bool
@@ -43,22 +43,30 @@ fn category_from(n: u64) -> Category
     Category::Other
 }
 
+// The settings that numbers are of, from a place on.
+pub fn settings_at(ns: &[u64], at: usize) -> Settings
+    requires { ⌜ at + settingsLength ≤ length (now ns) ⌝ }
+    ensures { λ r. ⌜ r ≡ settingsAt (now (ns .entry)) at ⌝ }
+{
+    let category = category_from(ns[at]);
+    Settings {
+        category: category,
+        base: ns[at + 1],
+        close: ns[at + 2],
+        settle: ns[at + 3],
+        tick: ns[at + 4],
+        length: ns[at + 5],
+        days: ns[at + 6],
+        under: ns[at + 7],
+    }
+}
+
 // The settings of a run.
 pub fn unpack(ns: &[u64]) -> Settings
     requires { ⌜ settingsLength ≤ length (now ns) ⌝ }
     ensures { λ r. ⌜ r ≡ settingsFrom (now (ns .entry)) ⌝ }
 {
-    let category = category_from(ns[0]);
-    Settings {
-        category: category,
-        base: ns[1],
-        close: ns[2],
-        settle: ns[3],
-        tick: ns[4],
-        length: ns[5],
-        days: ns[6],
-        under: ns[7],
-    }
+    settings_at(ns, 0)
 }
 
 // The run of settings.

@@ -1,6 +1,6 @@
-// desk_runs: where a run of session lines stands, as 44 numbers, for apps that keep and hand over nothing else.
-// It may use feed_law and desk_packing, and what these use. It promises: packing and unpacking are the definitions of specs/, for any numbers
-// whatever, and inverse to each other; numbers that are no run's are a run that is over, which takes no byte and prints none.
+// desk_runs: where a run of session lines stands, as 45 numbers, for apps that keep and hand over nothing else.
+// It may use feed_law, desk_packing_law and desk_packing, and what these use. It promises: packing and unpacking are the definitions of
+// desk_packing_law, for any numbers whatever; numbers that are no run's are a run that is over, which takes no byte and prints none.
 use desk_packing::runs;
 use desk_packing::sessions;
 use feed_law::Run;
@@ -10,9 +10,9 @@ ghost use Prim.Native.Nat.{_≤_, _<_};
 ghost use mathlib.Core.List.{_∷_};
 ghost use lib.ListN.{length};
 ghost use Rattle.tables.specs.Put.{put};
-ghost use Rattle.desk_runs.specs.Runs.{runLength, stageNumber, runNumbers, isRun, stageFrom, runFrom};
+ghost use Rattle.desk_packing_law.specs.Stages.{runLength, stageNumber, runNumbers, isRun, stageFrom, runFrom};
 
-pub const RUN: usize = 44;
+pub const RUN: usize = 45;
 
 fn of_stage(stage: Stage) -> u64
     ensures { λ r. ⌜ r ≡ stageNumber stage ⌝ }

@@ -18,7 +18,7 @@ pub fn view<'a>(side: Side, s: Session, buys: &'a [u64], sells: &'a [u64]) -> &'
     if !soundness::is_sound(s, buys, sells) {
         return &buys[0..0];
     }
-    let buying = s.buys as usize;
-    let selling = s.sells as usize;
+    let buying = s.live.buys as usize;
+    let selling = s.live.sells as usize;
     book::view::view(side, buys, sells, buying, selling)
 }

@@ -60,7 +60,7 @@ module _ (s : Session) (t u : ℕ) (a : Act) (buys sells room : List ℕ) (r : R
   pub quiet-time : ltb t (s .settings .length) ≡ true
   quiet-time = in-day (dayIn s buys sells) (eventAt t a) (accepts s t a buys sells room r) (quiet-open q)
 
-quiet-day : (s : Session) (t u : ℕ) (a : Act) (buys sells : List ℕ) → Quiet s u a → act (dayIn s buys sells) (eventAt t a) .day ≡ dayOf (setUnder (clockStep s t) u) (decode (s .buys) buys) (decode (s .sells) sells)
+quiet-day : (s : Session) (t u : ℕ) (a : Act) (buys sells : List ℕ) → Quiet s u a → act (dayIn s buys sells) (eventAt t a) .day ≡ dayOf (setUnder (clockStep s t) u) (decode (s .live .buys) buys) (decode (s .live .sells) sells)
 unfolding act clockStep
 quiet-day s t u a buys sells (under price) = refl
 quiet-day s t u a buys sells clock = refl
@@ -71,12 +71,12 @@ quiet-reports s t u a buys sells (under price) = append-nil (clockReports s (clo
 quiet-reports s t u a buys sells clock = append-nil (clockReports s (clockStep s t))
 
 pub quiet-done : (s : Session) (t u : ℕ) (a : Act) (buys sells room : List ℕ) → Quiet s u a → (s′ : Session) → s′ ≡ clockStep s t → (buys₁ sells₁ room₁ : List ℕ) (at : ℕ) →
-    SteppedAs s s′ buys sells room buys₁ sells₁ room₁ at → ActedAs (act (dayIn s buys sells) (eventAt t a)) buys sells room buys₁ sells₁ room₁ (doneAt (setUnder s′ u) (s .buys) (s .sells) at)
+    SteppedAs s s′ buys sells room buys₁ sells₁ room₁ at → ActedAs (act (dayIn s buys sells) (eventAt t a)) buys sells room buys₁ sells₁ room₁ (doneAt (setUnder s′ u) (s .live .buys) (s .live .sells) at)
 quiet-done s t u a buys sells room q s′ e buys₁ sells₁ room₁ at k =
-    done-as (act (dayIn s buys sells) (eventAt t a)) (setUnder s′ u) (decode (s .buys) buys) (decode (s .sells) sells) (s .buys) (s .sells) at buys sells room buys₁ sells₁ room₁
-    (quiet-day s t u a buys sells q ∙ ap (λ (x : Session). dayOf (setUnder x u) (decode (s .buys) buys) (decode (s .sells) sells)) (sym e))
-    (sym (length-decode (s .buys) buys))
-    (sym (length-decode (s .sells) sells))
+    done-as (act (dayIn s buys sells) (eventAt t a)) (setUnder s′ u) (decode (s .live .buys) buys) (decode (s .live .sells) sells) (s .live .buys) (s .live .sells) at buys sells room buys₁ sells₁ room₁
+    (quiet-day s t u a buys sells q ∙ ap (λ (x : Session). dayOf (setUnder x u) (decode (s .live .buys) buys) (decode (s .live .sells) sells)) (sym e))
+    (sym (length-decode (s .live .buys) buys))
+    (sym (length-decode (s .live .sells) sells))
     (k .bought)
     (k .sold)
     (rw (quiet-reports s t u a buys sells q, ← e) (k .told))
@@ -87,18 +87,18 @@ module _ (s : Session) (t number : ℕ) (buys sells room : List ℕ) (r : Ready 
   pub cancel-time : ltb t (s .settings .length) ≡ true
   cancel-time = in-day (dayIn s buys sells) (eventAt t (Withdraw number)) (accepts s t (Withdraw number) buys sells room r) refl
 
-  found : (rests number (decode (s .buys) buys) || rests number (decode (s .sells) sells)) ≡ true
+  found : (rests number (decode (s .live .buys) buys) || rests number (decode (s .live .sells) sells)) ≡ true
   unfolding finds
   found = accepts s t (Withdraw number) buys sells room r .found
 
   module _ (s′ : Session) (e : s′ ≡ clockStep s t) (buys₁ sells₁ room₁ : List ℕ) (at : ℕ) (k : SteppedAs s s′ buys sells room buys₁ sells₁ room₁ at) where
-    abbrev bought : After (s .buys) (decode (s .buys) buys) buys buys₁
+    abbrev bought : After (s .live .buys) (decode (s .live .buys) buys) buys buys₁
     bought = after-buys s t (Withdraw number) buys sells room r cancel-time s′ buys₁ sells₁ room₁ at k
 
-    abbrev sold : After (s .sells) (decode (s .sells) sells) sells sells₁
+    abbrev sold : After (s .live .sells) (decode (s .live .sells) sells) sells sells₁
     sold = after-sells s t (Withdraw number) buys sells room r cancel-time s′ buys₁ sells₁ room₁ at k
 
-    pub withdraw-asks : Holds (s .buys) buys₁ × Holds (s .sells) sells₁ × (at + recordLength ≤ length room₁) × RestsIn number (decode (s .buys) buys₁) (decode (s .sells) sells₁)
+    pub withdraw-asks : Holds (s .live .buys) buys₁ × Holds (s .live .sells) sells₁ × (at + recordLength ≤ length room₁) × RestsIn number (decode (s .live .buys) buys₁) (decode (s .live .sells) sells₁)
     withdraw-asks = (
       bought .holds,
       sold .holds,
@@ -106,17 +106,17 @@ module _ (s : Session) (t number : ℕ) (buys sells room : List ℕ) (r : Ready 
       record { somewhere = rw (bought .reads, sold .reads) found },
     )
 
-    pub cancel-done : (buys₂ sells₂ room₂ : List ℕ) (w : Withdrawn) → WithdrawnAs number t (decode (s .buys) buys₁) (decode (s .sells) sells₁) buys₁ sells₁ room₁ at buys₂ sells₂ room₂ w →
+    pub cancel-done : (buys₂ sells₂ room₂ : List ℕ) (w : Withdrawn) → WithdrawnAs number t (decode (s .live .buys) buys₁) (decode (s .live .sells) sells₁) buys₁ sells₁ room₁ at buys₂ sells₂ room₂ w →
         ActedAs (act (dayIn s buys sells) (eventAt t (Withdraw number))) buys sells room buys₂ sells₂ room₂ (doneAt s′ (w .buys) (w .sells) (w .at))
     unfolding act dropped clockStep
     cancel-done buys₂ sells₂ room₂ w v =
         let v′ = rw (bought .reads, sold .reads) at v in
         let space = clock-space s t (Withdraw number) buys sells room r cancel-time s′ buys₁ sells₁ room₁ at k in
-        cases (rests number (decode (s .buys) buys))
-        (λ z. done-as (act (dayIn s buys sells) (eventAt t (Withdraw number))) s′ (removed number (decode (s .buys) buys)) (decode (s .sells) sells) (w .buys) (w .sells) (w .at) buys sells room buys₂ sells₂ room₂
+        cases (rests number (decode (s .live .buys) buys))
+        (λ z. done-as (act (dayIn s buys sells) (eventAt t (Withdraw number))) s′ (removed number (decode (s .live .buys) buys)) (decode (s .live .sells) sells) (w .buys) (w .sells) (w .at) buys sells room buys₂ sells₂ room₂
         (rw (z, e)) (rw z at (v′ .nbuys)) (rw z at (v′ .nsells)) ((rw z at (v′ .bought)) ∙ bought .past _) ((rw z at (v′ .sold)) ∙ sold .past _)
         (rw (z, ← e) (written-then room 0 (clockReports s s′) room₁ at _ room₂ (w .at) (k .told) (rw z at (v′ .told)) space)))
-        (λ z. done-as (act (dayIn s buys sells) (eventAt t (Withdraw number))) s′ (decode (s .buys) buys) (removed number (decode (s .sells) sells)) (w .buys) (w .sells) (w .at) buys sells room buys₂ sells₂ room₂
+        (λ z. done-as (act (dayIn s buys sells) (eventAt t (Withdraw number))) s′ (decode (s .live .buys) buys) (removed number (decode (s .live .sells) sells)) (w .buys) (w .sells) (w .at) buys sells room buys₂ sells₂ room₂
         (rw (z, e)) (rw z at (v′ .nbuys)) (rw z at (v′ .nsells)) ((rw z at (v′ .bought)) ∙ bought .past _) ((rw z at (v′ .sold)) ∙ sold .past _)
         (rw (z, ← e) (written-then room 0 (clockReports s s′) room₁ at _ room₂ (w .at) (k .told) (rw z at (v′ .told)) space)))
 
@@ -133,7 +133,7 @@ module _ (s : Session) (t settle : ℕ) (buys sells room : List ℕ) (r : Ready 
   )
 
 pub finish-done : (s : Session) (t settle : ℕ) (buys sells room buys′ sells′ room′ : List ℕ) (at : ℕ) →
-    Finished s t settle (decode (s .buys) buys) (decode (s .sells) sells) buys sells room buys′ sells′ room′ at →
+    Finished s t settle (decode (s .live .buys) buys) (decode (s .live .sells) sells) buys sells room buys′ sells′ room′ at →
     ActedAs (act (dayIn s buys sells) (eventAt t (Finish settle))) buys sells room buys′ sells′ room′ (doneAt (setClosed (setTime s t) true) 0 0 at)
 unfolding act finished
 finish-done s t settle buys sells room buys′ sells′ room′ at f =

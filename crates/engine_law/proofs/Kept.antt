@@ -19,6 +19,7 @@ use Rattle.terms.specs.declared.Refusal.the-variants.{Unsound}
 use Rattle.terms.specs.declared.Verdict.{Verdict}
 use Rattle.terms.specs.declared.Verdict.the-variants.{Fine, Refused}
 use Rattle.terms.specs.Sizes.{reportsMost}
+use Rattle.terms.specs.Options.{maybe}
 use Rattle.book_law.specs.Over.{mine}
 use Rattle.book_law.proofs.Over.{mine-zero, mine-own, mine-other}
 use Rattle.book_law.specs.Told.{total, traded, cancelled}
@@ -26,7 +27,6 @@ use Rattle.state_law.specs.Tens.{Ten}
 use Rattle.state_law.specs.Day.{Day}
 use Rattle.soundness_law.specs.Sound.{sound}
 use Rattle.soundness_law.proofs.Days.{sound-day}
-use Rattle.book_law.specs.Tells.{maybe}
 use Rattle.refusal_law.specs.Carried.{carries}
 use Rattle.refusal_law.specs.Refusals.{refusalOf}
 use Rattle.refusal_law.proofs.Accepted.{Accepted, accepted, unsound-refused}
@@ -102,40 +102,40 @@ outcome-kept id d e =
     (λ r. omega arith)
 
 pub outcome-counts : (d : Day) (e : Event) →
-    numbersTo (d .session .given) ++ accepts (outcome d e .reports) ≡ numbersTo (outcome d e .day .session .given)
+    numbersTo (d .session .live .given) ++ accepts (outcome d e .reports) ≡ numbersTo (outcome d e .day .session .live .given)
 unfolding accepts
 outcome-counts d e =
-    by-verdict (λ (o : Outcome). numbersTo (d .session .given) ++ accepts (o .reports) ≡ numbersTo (o .day .session .given)) d e
+    by-verdict (λ (o : Outcome). numbersTo (d .session .live .given) ++ accepts (o .reports) ≡ numbersTo (o .day .session .live .given)) d e
     (λ k. act-counts d e)
-    (λ r. append-nil (numbersTo (d .session .given)))
+    (λ r. append-nil (numbersTo (d .session .live .given)))
 
 pub outcome-tells : (d : Day) (e : Event) (l : Listener) → KnowsOf (d .session .settings) l (d .session) →
     TellsOf (d .session .settings) l (outcome d e .reports) (outcome d e .day .session)
 outcome-tells d e l m =
     by-verdict (λ (o : Outcome). TellsOf (d .session .settings) l (o .reports) (o .day .session)) d e
-    (λ k. act-tells d e l (k .whole) (leb-true (d .session .time) (e .time) (k .forward)) m)
+    (λ k. act-tells d e l (k .whole) (leb-true (d .session .clock .time) (e .time) (k .forward)) m)
     (λ r. none-tells (d .session .settings) (knownOf (d .session)) l m)
 
 -- NO MORE SLAB REPORTS THAN WIDENINGS,
-pub outcome-widens : (d : Day) (e : Event) → slabsTold (outcome d e .reports) + d .session .widened ≤ outcome d e .day .session .widened
+pub outcome-widens : (d : Day) (e : Event) → slabsTold (outcome d e .reports) + d .session .clock .widened ≤ outcome d e .day .session .clock .widened
 unfolding total
 outcome-widens d e =
-    by-verdict (λ (o : Outcome). slabsTold (o .reports) + d .session .widened ≤ o .day .session .widened) d e (λ k. act-widens d e) (λ r. omega arith)
+    by-verdict (λ (o : Outcome). slabsTold (o .reports) + d .session .clock .widened ≤ o .day .session .clock .widened) d e (λ k. act-widens d e) (λ r. omega arith)
 
 -- and the band is widened once at most
-pub outcome-once : (d : Day) (e : Event) → d .session .widened ≤ 1 → outcome d e .day .session .widened ≤ 1
+pub outcome-once : (d : Day) (e : Event) → d .session .clock .widened ≤ 1 → outcome d e .day .session .clock .widened ≤ 1
 outcome-once d e h =
-    by-verdict (λ (o : Outcome). o .day .session .widened ≤ 1) d e (λ k. sound-day (act d e .day) (act-stays d e k) .parts .timed .once) (λ r. h)
+    by-verdict (λ (o : Outcome). o .day .session .clock .widened ≤ 1) d e (λ k. sound-day (act d e .day) (act-stays d e k) .parts .timed .once) (λ r. h)
 
 pub outcome-settings : (d : Day) (e : Event) → outcome d e .day .session .settings ≡ d .session .settings
 outcome-settings d e = by-verdict (λ (o : Outcome). o .day .session .settings ≡ d .session .settings) d e (λ k. act-moved d e .settings) (λ r. refl)
 
 -- TIME NEVER GOES BACK
-pub outcome-forward : (d : Day) (e : Event) → d .session .time ≤ outcome d e .day .session .time
+pub outcome-forward : (d : Day) (e : Event) → d .session .clock .time ≤ outcome d e .day .session .clock .time
 outcome-forward d e =
-    by-verdict (λ (o : Outcome). d .session .time ≤ o .day .session .time) d e
-    (λ k. omega (arith, act-moved d e .time, leb-true (d .session .time) (e .time) (k .forward)))
-    (λ r. le-refl (d .session .time))
+    by-verdict (λ (o : Outcome). d .session .clock .time ≤ o .day .session .clock .time) d e
+    (λ k. omega (arith, act-moved d e .time, leb-true (d .session .clock .time) (e .time) (k .forward)))
+    (λ r. le-refl (d .session .clock .time))
 
 -- THE REPORTS FIT THE ROOM
 pub outcome-few : (d : Day) (e : Event) → length (outcome d e .reports) ≤ reportsMost
@@ -154,22 +154,22 @@ outcome-ten d e t = by-verdict (λ (o : Outcome). Ten (o .day .session)) d e (λ
 
 -- an accepted order has the next number, and asks for its lots under it
 pub accepted-asks : (d : Day) (t : ℕ) (n : Entry) → outcome d (record { time = t; act = Enter n }) .verdict ≡ Fine →
-    (askedBy (d .session .given + 1) (Enter n) (outcome d (record { time = t; act = Enter n }) .reports) ≡ n .lots)
-    × (outcome d (record { time = t; act = Enter n }) .day .session .given ≡ d .session .given + 1)
+    (askedBy (d .session .live .given + 1) (Enter n) (outcome d (record { time = t; act = Enter n }) .reports) ≡ n .lots)
+    × (outcome d (record { time = t; act = Enter n }) .day .session .live .given ≡ d .session .live .given + 1)
 accepted-asks d t n =
     let e : Event = record { time = t; act = Enter n } in
-    let id : ℕ = d .session .given + 1 in
-    by-verdict (λ (o : Outcome). o .verdict ≡ Fine → (askedBy id (Enter n) (o .reports) ≡ n .lots) × (o .day .session .given ≡ id)) d e
+    let id : ℕ = d .session .live .given + 1 in
+    by-verdict (λ (o : Outcome). o .verdict ≡ Fine → (askedBy id (Enter n) (o .reports) ≡ n .lots) × (o .day .session .live .given ≡ id)) d e
     (λ k h. (act-asks id d e ∙ mine-own id (n .lots), act-given d e))
     (λ r h. absurd (let z : _≡_ {A = ℕ} 0 1 = cc in omega arith))
 
 -- which its one report of acceptance tells
 pub accepted-number : (d : Day) (t : ℕ) (n : Entry) → outcome d (record { time = t; act = Enter n }) .verdict ≡ Fine →
-    accepts (outcome d (record { time = t; act = Enter n }) .reports) ≡ (d .session .given + 1) ∷ []
+    accepts (outcome d (record { time = t; act = Enter n }) .reports) ≡ (d .session .live .given + 1) ∷ []
 unfolding numbersTo
 accepted-number d t n h =
     let e : Event = record { time = t; act = Enter n } in
-    let given : ℕ = d .session .given in
+    let given : ℕ = d .session .live .given in
     append-cancel-left (numbersTo given) (accepts (outcome d e .reports)) ((given + 1) ∷ [])
     (outcome-counts d e ∙ ap numbersTo (accepted-asks d t n h .1) ∙ rw (add-one given))
 
@@ -178,18 +178,18 @@ given-grows : (given : ℕ) (n : Option Entry) → given ≤ maybe given (λ n. 
 given-grows given none = le-refl given
 given-grows given (some n) = omega arith
 
-pub outcome-given : (d : Day) (e : Event) → d .session .given ≤ outcome d e .day .session .given
+pub outcome-given : (d : Day) (e : Event) → d .session .live .given ≤ outcome d e .day .session .live .given
 outcome-given d e =
-    by-verdict (λ (o : Outcome). d .session .given ≤ o .day .session .given) d e
-    (λ k. omega (arith, act-given d e, given-grows (d .session .given) (carries (e .act) .entry)))
-    (λ r. le-refl (d .session .given))
+    by-verdict (λ (o : Outcome). d .session .live .given ≤ o .day .session .live .given) d e
+    (λ k. omega (arith, act-given d e, given-grows (d .session .live .given) (carries (e .act) .entry)))
+    (λ r. le-refl (d .session .live .given))
 
 -- a number that was given before is asked for no more,
-pub asks-old : (id : ℕ) (d : Day) (e : Event) → id ≤ d .session .given → askedBy id (e .act) (outcome d e .reports) ≡ 0
+pub asks-old : (id : ℕ) (d : Day) (e : Event) → id ≤ d .session .live .given → askedBy id (e .act) (outcome d e .reports) ≡ 0
 unfolding total
 asks-old id d e h =
     by-verdict (λ (o : Outcome). askedBy id (e .act) (o .reports) ≡ 0) d e
-    (λ k. act-asks id d e ∙ mine-other id (d .session .given + 1) (wanted (e .act)) (λ z. omega arith))
+    (λ k. act-asks id d e ∙ mine-other id (d .session .live .given + 1) (wanted (e .act)) (λ z. omega arith))
     (λ r. refl)
 
 asked-new : (id given : ℕ) (n : Option Entry) → maybe given (λ n. given + 1) n < id → mine id (given + 1) (maybe 0 (λ n. n .lots) n) ≡ 0
@@ -197,9 +197,9 @@ asked-new id given none h = mine-zero id (given + 1)
 asked-new id given (some n) h = mine-other id (given + 1) (n .lots) (λ z. omega arith)
 
 -- and one that is not given yet is not asked for
-pub asks-new : (id : ℕ) (d : Day) (e : Event) → outcome d e .day .session .given < id → askedBy id (e .act) (outcome d e .reports) ≡ 0
+pub asks-new : (id : ℕ) (d : Day) (e : Event) → outcome d e .day .session .live .given < id → askedBy id (e .act) (outcome d e .reports) ≡ 0
 unfolding total
 asks-new id d e =
-    by-verdict (λ (o : Outcome). o .day .session .given < id → askedBy id (e .act) (o .reports) ≡ 0) d e
-    (λ k h. act-asks id d e ∙ asked-new id (d .session .given) (carries (e .act) .entry) (omega (arith, act-given d e)))
+    by-verdict (λ (o : Outcome). o .day .session .live .given < id → askedBy id (e .act) (o .reports) ≡ 0) d e
+    (λ k h. act-asks id d e ∙ asked-new id (d .session .live .given) (carries (e .act) .entry) (omega (arith, act-given d e)))
     (λ r h. refl)

@@ -6,3 +6,4 @@ pub mod Orders
 pub mod Answers
 pub mod Applies
 pub mod Called
+pub mod Stands

@@ -22,7 +22,7 @@ use Rattle.state_law.specs.Opening.{openedSession}
 use Rattle.state_law.specs.Clock.{widenedBy, coolingBy, clockStep}
 use Rattle.state_law.specs.Trades.{withTrade, withTrades}
 use Rattle.state_law.specs.Day.{opened}
-use Rattle.soundness_law.specs.Sound.{timeSound, countsSound, slabSound, numbersSound, every, rememberedSound, halfSound, minuteSound, clockSound, tapeSound, sessionSound, counted, sound}
+use Rattle.soundness_law.specs.Sound.{timeSound, countsSound, slabSound, numbersSound, every, rememberedSound, halfSound, minuteSound, clockSound, tapeSound, sessionSound, counted, sound, soundBy}
 use Rattle.refusal_law.specs.Refusals.{numbersRight, inHours, ticksRight, bandRight, finds, hasPlace, hasNumbers, refusalOf}
 use Rattle.acts_law.specs.Acts.{clockReports, sweepIn, fateIn, entered, dropped, cancelReports, finished, act}
 use Rattle.acts_law.proofs.Listed.{settings, reports}
@@ -43,5 +43,5 @@ events =
 
 -- THE LISTING
 pub listing : told (opened settings) events ≡ reports
-unfolding _⊓_ firstFailed settingsRanged settingsTicked settingsValid percentOf lowAt highAt coolingAfter factorial term terms growth theoretical theoreticalOr minuteAfter boundaries reckoned inRange tallied tallyAll nearest remembered tapeAfter lastOr closePrice nextBase ahead headBehind sorted insert rests removed leftOf sweep tradeReports ownLastOr fateOf orderSound eachSound distinct uncrossed bookSound openedSession widenedBy coolingBy clockStep withTrade withTrades timeSound countsSound slabSound numbersSound every rememberedSound halfSound minuteSound clockSound tapeSound sessionSound counted sound numbersRight inHours ticksRight bandRight finds hasPlace hasNumbers refusalOf clockReports sweepIn fateIn entered dropped cancelReports finished act outcome told
+unfolding _⊓_ firstFailed settingsRanged settingsTicked settingsValid percentOf lowAt highAt coolingAfter factorial term terms growth theoretical theoreticalOr minuteAfter boundaries reckoned inRange tallied tallyAll nearest remembered tapeAfter lastOr closePrice nextBase ahead headBehind sorted insert rests removed leftOf sweep tradeReports ownLastOr fateOf orderSound eachSound distinct uncrossed bookSound openedSession widenedBy coolingBy clockStep withTrade withTrades timeSound countsSound slabSound numbersSound every rememberedSound halfSound minuteSound clockSound tapeSound sessionSound counted soundBy numbersRight inHours ticksRight bandRight finds hasPlace hasNumbers refusalOf clockReports sweepIn fateIn entered dropped cancelReports finished act outcome told
 listing = refl

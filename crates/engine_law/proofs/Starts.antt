@@ -49,15 +49,15 @@ module _ (s : Session) (t : ℕ) (a : Act) (buys sells room : List ℕ) (r : Rea
   pub clocked-now : Clocked s
   clocked-now = session-clocked s (sound-session day (accepts .whole))
 
-  forward : s .time ≤ t
-  forward = leb-true (s .time) t (accepts .forward)
+  forward : s .clock .time ≤ t
+  forward = leb-true (s .clock .time) t (accepts .forward)
 
-  pub step-asks : Clocked s × (s .time ≤ t)
+  pub step-asks : Clocked s × (s .clock .time ≤ t)
   step-asks = (clocked-now, forward)
 
   module _ (u : ltb t (s .settings .length) ≡ true) where
     pub start : stays.Ready (stepped day t .day)
-    start = stays.ready day t (accepts .whole) forward (time-right day (eventAt t a) accepts) (or-last (s .closed) (ltb t (s .settings .length)) (λ e. u))
+    start = stays.ready day t (accepts .whole) forward (time-right day (eventAt t a) accepts) (or-last (s .clock .closed) (ltb t (s .settings .length)) (λ e. u))
 
     pub clocked-after : Clocked (clockStep s t)
     unfolding clockStep
@@ -81,7 +81,7 @@ module _ (s : Session) (t : ℕ) (a : Act) (buys sells room : List ℕ) (r : Rea
         let p = start .parts in
         let c = clocked-after in
         record {
-          long = c .valid .length-long;
+          long = c .valid .in-range .length-long;
           time-small = c .time-small;
           trades-few = omega arith;
           half-few = omega (arith, p .halved .few);
@@ -90,27 +90,27 @@ module _ (s : Session) (t : ℕ) (a : Act) (buys sells room : List ℕ) (r : Rea
           minute-fits = omega (arith, p .minuted .few, p .minuted .sum-small);
         }
 
-    pub buys-deal : Each Deals (decode (s .buys) buys)
+    pub buys-deal : Each Deals (decode (s .live .buys) buys)
     unfolding clockStep
     buys-deal =
         let s′ : Session = clockStep s t in
-        let b = book-fits (s′ .given) (s′ .settings .tick) (bandNow s′) (day .buys) (day .sells) (start .book) in
-        deals-of (s .settings .tick) (day .buys) (each-tradable s′ (day .buys) (clocked-after .valid) (each-fits (s′ .given) (s′ .settings .tick) (bandNow s′) (day .buys) (b .each-buy)))
+        let b = book-fits (s′ .live .given) (s′ .settings .tick) (bandNow s′) (day .buys) (day .sells) (start .book) in
+        deals-of (s .settings .tick) (day .buys) (each-tradable s′ (day .buys) (clocked-after .valid) (each-fits (s′ .live .given) (s′ .settings .tick) (bandNow s′) (day .buys) (b .each-buy)))
 
-    pub sells-deal : Each Deals (decode (s .sells) sells)
+    pub sells-deal : Each Deals (decode (s .live .sells) sells)
     unfolding clockStep
     sells-deal =
         let s′ : Session = clockStep s t in
-        let b = book-fits (s′ .given) (s′ .settings .tick) (bandNow s′) (day .buys) (day .sells) (start .book) in
-        deals-of (s .settings .tick) (day .sells) (each-tradable s′ (day .sells) (clocked-after .valid) (each-fits (s′ .given) (s′ .settings .tick) (bandNow s′) (day .sells) (b .each-sell)))
+        let b = book-fits (s′ .live .given) (s′ .settings .tick) (bandNow s′) (day .buys) (day .sells) (start .book) in
+        deals-of (s .settings .tick) (day .sells) (each-tradable s′ (day .sells) (clocked-after .valid) (each-fits (s′ .live .given) (s′ .settings .tick) (bandNow s′) (day .sells) (b .each-sell)))
 
     -- the tables and the room behind the clock steps
     module _ (s′ : Session) (buys₁ sells₁ room₁ : List ℕ) (at : ℕ) (k : SteppedAs s s′ buys sells room buys₁ sells₁ room₁ at) where
-      pub after-buys : After (s .buys) (decode (s .buys) buys) buys buys₁
-      after-buys = cleared (s .buys) buys buys₁ (k .bought) (clocked-now .buys-few) (r .buys-long)
+      pub after-buys : After (s .live .buys) (decode (s .live .buys) buys) buys buys₁
+      after-buys = cleared (s .live .buys) buys buys₁ (k .bought) (clocked-now .buys-few) (r .buys-long)
 
-      pub after-sells : After (s .sells) (decode (s .sells) sells) sells sells₁
-      after-sells = cleared (s .sells) sells sells₁ (k .sold) (clocked-now .sells-few) (r .sells-long)
+      pub after-sells : After (s .live .sells) (decode (s .live .sells) sells) sells sells₁
+      after-sells = cleared (s .live .sells) sells sells₁ (k .sold) (clocked-now .sells-few) (r .sells-long)
 
       pub same-room : length room₁ ≡ length room
       same-room = written-length room 0 (clockReports s s′) room₁ at (k .told) (omega (arith, clock-few s s′, r .room-long))

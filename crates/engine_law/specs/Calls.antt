@@ -84,4 +84,4 @@ unfoldable pub viewCall : Side → Session → List ℕ → List ℕ → List �
 viewCall side s buys sells =
     cond (ltb (length buys) tableLength) []
     (cond (ltb (length sells) tableLength) []
-    (cond (sound (dayIn s buys sells)) (viewOf side buys sells (s .buys) (s .sells)) []))
+    (cond (sound (dayIn s buys sells)) (viewOf side buys sells (s .live .buys) (s .live .sells)) []))

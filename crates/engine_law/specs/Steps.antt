@@ -22,18 +22,18 @@ doneAt s nbuys nsells at = record { answer = Answer.Reported (at / recordLength)
 -- the clock steps lead from old to s
 pub record Stepping (old s : Session) (buys sells room : List ℕ) : Type 0 where
   pub clocked : Clocked s
-  pub buys-few : old .buys ≤ slots
-  pub sells-few : old .sells ≤ slots
+  pub buys-few : old .live .buys ≤ slots
+  pub sells-few : old .live .sells ≤ slots
   pub buys-long : tableLength ≤ length buys
   pub sells-long : tableLength ≤ length sells
   pub room-long : recordLength * 2 ≤ length room
 
 pub record SteppedAs (old s : Session) (buys sells room buys′ sells′ room′ : List ℕ) (next : ℕ) : Type 0 where
-  pub bought : buys′ ≡ tableOf (decode (old .buys) buys) buys
-  pub sold : sells′ ≡ tableOf (decode (old .sells) sells) sells
+  pub bought : buys′ ≡ tableOf (decode (old .live .buys) buys) buys
+  pub sold : sells′ ≡ tableOf (decode (old .live .sells) sells) sells
   pub told : Written room 0 (clockReports old s) room′ next
 
 -- an act that only sets the underlying, to this
 pub data Quiet (s : Session) : ℕ → Act → Type 0 where
   under : (price : ℕ) → Quiet s price (Under price)
-  clock : Quiet s (s .under) Clock
+  clock : Quiet s (s .clock .under) Clock

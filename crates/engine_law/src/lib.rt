@@ -1,9 +1,11 @@
 // engine_law: the law of the public calls: the outcome of an event, and what a call leaves in everything that was lent.
 // It has no code and may use acts_law and what that uses. It promises: an accepted event leaves a sound day, a refused one changes
-// nothing, and calls on a session lead from sound day to sound day.
+// nothing, and calls on a session lead from sound day to sound day; where a session stands is said by the definitions that judge orders.
 
 use state_law::Session;
+use terms::Band;
 use terms::Refusal;
+use terms::Verdict;
 
 // What an event is answered: the count of its reports, or the refusal.
 pub enum Answer {
@@ -15,4 +17,28 @@ pub enum Answer {
 pub struct Applied {
     pub answer: Answer,
     pub session: Session,
+}
+
+// Where a session stands: the percent in force with its band, the execution range with the reference that it lies around, whether a
+// cooling-off runs and when it ends (0 where none runs), the last trade's price and lots (0 before any trade), live orders a side,
+// order numbers given so far, trades made.
+pub struct Standing {
+    pub percent: u64,
+    pub band: Band,
+    pub range: Band,
+    pub reference: u64,
+    pub cooling: bool,
+    pub ends: u64,
+    pub price: u64,
+    pub lots: u64,
+    pub buys: u64,
+    pub sells: u64,
+    pub given: u64,
+    pub trades: u64,
+}
+
+// What a look at a session answers: nothing against it, or the refusal, and where it stands.
+pub struct Stood {
+    pub verdict: Verdict,
+    pub standing: Standing,
 }

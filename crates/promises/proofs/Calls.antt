@@ -2,23 +2,27 @@
 use Prim.Native.Nat.{ℕ, _+_, _≤_}
 use native.Mathlib.Omega.{arith}
 use borrow.Author.Tests.{le-leb}
-use mathlib.Core.Path.{_≡_, sym, ap, _∙_}
+use mathlib.Core.Path.{_≡_, sym, ap, _∙_, subst}
 use mathlib.Core.Bool.{true}
 use mathlib.Core.List.{List, _∷_, _++_}
 use lib.ListN.{length}
 use Rattle.terms.specs.declared.Event.{Event}
 use Rattle.terms.specs.declared.Act.the-variants.{Enter}
+use Rattle.terms.specs.declared.Verdict.the-variants.{Fine}
 use Rattle.terms.specs.Sizes.{lineRoom}
 use Rattle.terms.specs.Refusals.{firstFailed, codeOf}
 use Rattle.terms.proofs.Logic.{cases}
 use Rattle.book_law.specs.Told.{traded, cancelled}
 use Rattle.state_law.specs.Opening.{openingOf}
-use Rattle.state_law.specs.Day.{Day}
+use Rattle.state_law.specs.Day.{Day, opened}
 use Rattle.refusal_law.proofs.Accepted.{sound-not-two}
 use Rattle.acts_law.specs.Asked.{resting, accepts, numbersTo}
 use Rattle.engine_law.specs.Outcome.{after}
+use Rattle.engine_law.specs.declared.Stood.{Stood}
 use Rattle.engine_law.specs.Calls.{eventAt}
+use Rattle.engine_law.specs.Standings.{standingNow}
 use Rattle.engine_law.proofs.Kept.{accepted-number}
+use Rattle.engine_law.proofs.Stands.{stands-fine}
 use Rattle.lines_text_law.specs.Numerals.{allWritable}
 use Rattle.lines_writing_law.specs.Lines.{reportNumbers}
 use Rattle.lines_writing_law.specs.Writes.{lineVerdict}
@@ -26,8 +30,9 @@ use Rattle.lines_writing_law.proofs.Back.{written-code}
 use Rattle.promises.specs.Lots.{asked}
 use Rattle.promises.specs.Runs.{dayHeld, hasRoom, begins, CallsKeepLots, CallsKeepOrders, CallsTradeWithin, CallsStaySound, CallsNeverTwo, CallsGiveInOrder, CallsGoForward, CallsWritable, CallsWritten, CallsWiden, CallsWidenOnce, SameRuns, CallsClockLine}
 use Rattle.promises.specs.ClockLine.{clockAt, plain}
+use Rattle.promises.specs.Standings.{AsSaid, CallsStand}
 use Rattle.promises.proofs.Runs.{run-asked}
-use Rattle.promises.proofs.Kept.{empty-kept, counts-from, always-sound, trades-within, never-narrows, widens-after-touch, widens-to-enhanced, widens-once, reports-forward}
+use Rattle.promises.proofs.Kept.{empty-kept, counts-from, always-sound, trades-within, stands-said, never-narrows, widens-after-touch, widens-to-enhanced, widens-once, reports-forward}
 use Rattle.promises.proofs.Writable.{runs-writable}
 use Rattle.promises.proofs.ClockLine.{clock-unheard}
 use Rattle.promises.proofs.Tables.{verdictOn, short-verdict, judged-verdict, number-by, run-asks, Cut}
@@ -48,7 +53,7 @@ calls-keep-orders g before later rs own rest h t n k =
     let e : Event = eventAt t (Enter n) in
     let d : Day = begins g in
     let x : Cut d before later e rs own rest h = cut-from g before later e rs own rest h k in
-    let id : ℕ = after d before .session .given + 1 in
+    let id : ℕ = after d before .session .live .given + 1 in
     record {
       number = id;
       given = ap accepts (x .told-own) ∙ accepted-number (after d before) t n (x .accepted);
@@ -60,7 +65,7 @@ calls-keep-orders g before later rs own rest h t n k =
 pub calls-give-in-order : CallsGiveInOrder
 calls-give-in-order g es rs h r =
     let f = run-from g es rs h r in
-    ap accepts (f .reports) ∙ counts-from (begins g) es (none-given g) ∙ ap (λ (d : Day). numbersTo (d .session .given)) (sym (f .day))
+    ap accepts (f .reports) ∙ counts-from (begins g) es (none-given g) ∙ ap (λ (d : Day). numbersTo (d .session .live .given)) (sym (f .day))
 
 -- ---- soundness
 
@@ -75,6 +80,18 @@ calls-never-two g es rs h r z c rs′ h′ k e =
     cases (hasRoom h c)
     (λ b. sound-not-two (dayHeld h) (c .event) (calls-stay-sound g es rs h r z) (rw (judged-verdict h c b) at two))
     (λ b. let one : 1 ≡ 2 = rw (short-verdict h c b) at two in omega arith)
+
+-- ---- where a session stands
+
+pub calls-stand : CallsStand
+calls-stand g es rs h r z a b t e =
+    let o = opened-fine g (sym (number-opened r) ∙ z) in
+    let fine : a ≡ record { verdict = Fine; standing = standingNow (h .session) } =
+    e ∙ stands-fine (h .session) (h .buys) (h .sells) b t (calls-stay-sound g es rs h r z) in
+    let day : dayHeld h ≡ after (opened g) es = run-from g es rs h r .day ∙ ap (λ (d : Day). after d es) (o .1) in
+    let said : AsSaid g rs (standingNow (h .session)) =
+    rw (run-told g es rs h r, ap (λ (d : Day). d .session) day) (stands-said g es) in
+    (ap (λ (x : Stood). codeOf (x .verdict)) fine, subst (λ (x : Stood). AsSaid g rs (x .standing)) (sym fine) said)
 
 -- ---- what is told
 

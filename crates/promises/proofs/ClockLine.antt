@@ -20,11 +20,12 @@ use Rattle.terms.specs.Truth.{_⊓_}
 use Rattle.terms.specs.Numbers.{isTime}
 use Rattle.terms.specs.Refusals.{unless, firstFailed}
 use Rattle.terms.proofs.Logic.{cases}
+use Rattle.terms.specs.Sizes.{sizes}
 use Rattle.state_law.specs.declared.Session.{Session}
 use Rattle.state_law.specs.Set.{setBuys, setSells}
 use Rattle.state_law.specs.Now.{bandNow}
 use Rattle.state_law.specs.Clock.{clockStep}
-use Rattle.state_law.specs.Day.{Day, opened}
+use Rattle.state_law.specs.Day.{Day, opened, dayBy}
 use Rattle.state_law.proofs.Steps.{clock-twice}
 use Rattle.soundness_law.specs.Sound.{sound}
 use Rattle.soundness_law.proofs.Days.{SoundDay, sound-day}
@@ -32,7 +33,7 @@ use Rattle.refusal_law.specs.Carried.{carries}
 use Rattle.refusal_law.specs.Refusals.{numbersRight, inHours, ticksRight, bandRight, finds, lifeHasPlace, hasPlace, hasNumbers, refusalOf}
 use Rattle.refusal_law.proofs.Carried.{any-same}
 use Rattle.refusal_law.proofs.Accepted.{Accepted, accepted, closed-refused}
-use Rattle.acts_law.specs.Acts.{Acted, slabReport, clockReports, silent, finished, andThen, dayBy, stepped, timed, does, act}
+use Rattle.acts_law.specs.Acts.{Acted, slabReport, clockReports, silent, finished, andThen, stepped, timed, does, act}
 use Rattle.acts_law.proofs.Does.{ends, own-by, act-closes, act-goes, closing}
 use Rattle.acts_law.proofs.Pieces.{EachTold, clock-each}
 use Rattle.acts_law.proofs.Stays.{act-stays}
@@ -47,7 +48,7 @@ abbrev ticked : Day → ℕ → Day
 ticked d t = stepped d t .day
 
 -- the live counts of a sound day are those of its orders already
-counted-same : (d : Day) (t a b : ℕ) → d .session .buys ≡ a → d .session .sells ≡ b →
+counted-same : (d : Day) (t a b : ℕ) → d .session .live .buys ≡ a → d .session .live .sells ≡ b →
     setSells (setBuys (clockStep (d .session) t) a) b ≡ clockStep (d .session) t
 unfolding clockStep
 counted-same d t a b e f = λ i. setSells (setBuys (clockStep (d .session) t) (sym e i)) (sym f i)
@@ -93,15 +94,15 @@ after-plain d t a =
 
 -- ---- one event, on a day and on the same day ticked
 
-place-ticked : (d : Day) (t : ℕ) (a : Act) → hasPlace (ticked d t) a ≡ hasPlace d a
+place-ticked : (d : Day) (t : ℕ) (a : Act) → hasPlace sizes (ticked d t) a ≡ hasPlace sizes d a
 unfolding hasPlace
-place-ticked d t a = any-same _ _ (λ n. ap (λ (l : List Order). lifeHasPlace (n .life) (length l)) (own-by (n .side) (clockStep (d .session) t) d)) (carries a .entry)
+place-ticked d t a = any-same _ _ (λ n. ap (λ (l : List Order). lifeHasPlace sizes (n .life) (length l)) (own-by (n .side) (clockStep (d .session) t) d)) (carries a .entry)
 
 -- what the accepted clock event gives: both days are sound, and it is not before the last accepted time
 record Ticks (d : Day) (t : ℕ) : Type 0 where
   whole : sound d ≡ true
   then-whole : sound (ticked d t) ≡ true
-  forward : d .session .time ≤ t
+  forward : d .session .clock .time ≤ t
 
 ticks : (d : Day) (t : ℕ) → refusalOf d (clockAt t) ≡ Fine → Ticks d t
 ticks d t h =
@@ -109,7 +110,7 @@ ticks d t h =
     record {
       whole = a .whole;
       then-whole = rw (clock-day d t h) at (accepted-sound d (clockAt t) (outcome-verdict d (clockAt t) ∙ h));
-      forward = leb-true (d .session .time) t (a .forward);
+      forward = leb-true (d .session .clock .time) t (a .forward);
     }
 
 -- every row of the table is the same for both
@@ -118,21 +119,21 @@ unfolding refusalOf clockStep finds
 refusal-ticked d t e k h =
     λ i. firstFailed (
     unless Unsound ((k .then-whole ∙ sym (k .whole)) i)
-    ∷ unless Closed (not (d .session .closed))
+    ∷ unless Closed (not (d .session .clock .closed))
     ∷ unless NumberRange (isTime (e .time) ⊓ numbersRight (e .act))
-    ∷ unless TimeBack ((le-leb t (e .time) h ∙ sym (le-leb (d .session .time) (e .time) (omega (arith, k .forward)))) i)
+    ∷ unless TimeBack ((le-leb t (e .time) h ∙ sym (le-leb (d .session .clock .time) (e .time) (omega (arith, k .forward)))) i)
     ∷ unless OutOfHours (inHours (e .act) (e .time) (d .session .settings .length))
     ∷ unless OffTick (ticksRight (d .session .settings .tick) (e .act))
     ∷ unless OutsideBand (bandRight (bandNow (clock-twice (d .session) t (e .time) (k .forward) h i)) (e .act))
     ∷ unless NotResting (finds d (e .act))
     ∷ unless SideFull (place-ticked d t (e .act) i)
-    ∷ unless DayFull (hasNumbers (d .session .given) (d .session .tape .trades) (e .act))
+    ∷ unless DayFull (hasNumbers sizes (d .session .live .given) (d .session .tape .trades) (e .act))
     ∷ [])
 
 -- ---- what the act does
 
 -- the clock steps after the clock steps lead to the same day
-ticked-twice : (d : Day) (t u : ℕ) → d .session .time ≤ t → t ≤ u → ticked (ticked d t) u ≡ ticked d u
+ticked-twice : (d : Day) (t u : ℕ) → d .session .clock .time ≤ t → t ≤ u → ticked (ticked d t) u ≡ ticked d u
 ticked-twice d t u k h = ap (λ (s : Session). dayBy s d) (clock-twice (d .session) t u k h)
 
 -- a close cancels and tells the same
@@ -163,7 +164,7 @@ outcome-plain d t e k h =
 -- ---- the events that follow
 
 -- two closed days answer alike: everything is refused 3
-closed-replies : (d d′ : Day) (es : List Event) → sound d ≡ true → sound d′ ≡ true → d .session .closed ≡ true → d′ .session .closed ≡ true →
+closed-replies : (d d′ : Day) (es : List Event) → sound d ≡ true → sound d′ ≡ true → d .session .clock .closed ≡ true → d′ .session .clock .closed ≡ true →
     replies d′ es ≡ replies d es
 unfolding replies outcome
 closed-replies d d′ [] h h′ c c′ = refl
@@ -171,7 +172,7 @@ closed-replies d d′ (e ∷ es) h h′ c c′ =
     rw (closed-refused d e h c, closed-refused d′ e h′ c′)
     (ap (λ (l : List Reply). record { verdict = Refused Closed; reports = plain [] } ∷ l) (closed-replies d d′ es h h′ c c′))
 
-close-closed : (d : Day) (e : Event) → carries (e .act) .closes ≡ true → act d e .day .session .closed ≡ true
+close-closed : (d : Day) (e : Event) → carries (e .act) .closes ≡ true → act d e .day .session .clock .closed ≡ true
 unfolding finished
 close-closed d e c = rw (act-closes d e c, closing d (e .act) c .1) refl
 

@@ -15,7 +15,7 @@ use Rattle.records_law.proofs.Told.{told-only}
 use Rattle.lines_writing_law.proofs.Back.{writes-one}
 use Rattle.feed_law.specs.Worlds.{Lent, lentOf}
 use Rattle.journal.specs.declared.Walker.{Walker}
-use Rattle.promises.specs.Determined.{CheckDetermined, OpeningDetermined, ViewDetermined, ApplyDetermined, EventReadDetermined, SettingsReadDetermined, WriteDetermined, RecordReadDetermined, NewDetermined, MovedDetermined, WalkDetermined, StartDetermined, FeedDetermined}
+use Rattle.promises.specs.Determined.{CheckDetermined, OpeningDetermined, ViewDetermined, StandingDetermined, ApplyDetermined, EventReadDetermined, SettingsReadDetermined, WriteDetermined, RecordReadDetermined, NewDetermined, MovedDetermined, WalkDetermined, StartDetermined, FeedDetermined}
 
 pub check-determined : CheckDetermined
 check-determined g r r′ e f = e ∙ sym f
@@ -25,6 +25,9 @@ opening-determined g r r′ e f = e ∙ sym f
 
 pub view-determined : ViewDetermined
 view-determined side s buys sells r r′ e f = e ∙ sym f
+
+pub standing-determined : StandingDetermined
+standing-determined s buys sells r r′ e f = e ∙ sym f
 
 pub apply-determined : ApplyDetermined
 apply-determined s e buys sells room buys₁ sells₁ room₁ buys₂ sells₂ room₂ r₁ r₂ a b =

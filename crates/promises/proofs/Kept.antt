@@ -22,16 +22,18 @@ use Rattle.state_law.proofs.Begins.{opened-begun}
 use Rattle.soundness_law.proofs.Days.{opened-sound}
 use Rattle.refusal_law.proofs.Accepted.{sound-not-two}
 use Rattle.acts_law.specs.Asked.{resting, accepts, numbersTo}
-use Rattle.acts_law.specs.Heard.{lastSaid, initialBand, bandAfter, referenceAfter, touchedIn, touchedBy}
-use Rattle.acts_law.proofs.Hears.{Listener, listen, listenAll, EachFine, Cooled, fine-at}
+use Rattle.acts_law.specs.Heard.{lastSaid, initialBand, bandAfter, referenceAfter, referenceSaid, touchedIn, touchedBy}
+use Rattle.acts_law.proofs.Hears.{Listener, listen, listenAll, EachFine, Cooled, TellsOf, fine-at}
 use Rattle.engine_law.specs.Outcome.{after, told}
+use Rattle.engine_law.specs.Standings.{standingNow}
 use Rattle.engine_law.proofs.Kept.{outcome-verdict, outcome-few}
 use Rattle.promises.specs.Lots.{asked, LotsKept, OrderKept}
 use Rattle.promises.specs.Given.{GivenInOrder}
 use Rattle.promises.specs.Within.{TradesWithin}
 use Rattle.promises.specs.Slabs.{NeverNarrows, WidensAfterTouch, WidensToEnhanced, WidensOnce}
+use Rattle.promises.specs.Standings.{StandsSaid}
 use Rattle.promises.specs.Always.{AlwaysSound, NeverTwo, TimeForward, ReportsForward, ReportsFit}
-use Rattle.promises.proofs.Runs.{after-append, run-sound, run-forward, run-kept, run-counts, run-fine, run-widens, run-once, run-asked}
+use Rattle.promises.proofs.Runs.{after-append, run-sound, run-forward, run-kept, run-counts, run-settings, run-tells, run-widens, run-once, run-asked}
 
 -- a day without orders
 abbrev pub emptyDay : Session → Day
@@ -49,12 +51,12 @@ lots-kept g es id = empty-kept id (openedSession g) es
 pub order-kept : OrderKept
 order-kept g before later t n h =
     sym (run-asked (opened g) before later t n h)
-    ∙ lots-kept g (before ++ (record { time = t; act = Enter n } ∷ later)) (after (opened g) before .session .given + 1)
+    ∙ lots-kept g (before ++ (record { time = t; act = Enter n } ∷ later)) (after (opened g) before .session .live .given + 1)
 
 -- where no number is given yet
-pub counts-from : (d : Day) (es : List Event) → d .session .given ≡ 0 → accepts (told d es) ≡ numbersTo (after d es .session .given)
+pub counts-from : (d : Day) (es : List Event) → d .session .live .given ≡ 0 → accepts (told d es) ≡ numbersTo (after d es .session .live .given)
 unfolding numbersTo
-counts-from d es e = subst (λ (n : ℕ). numbersTo n ++ accepts (told d es) ≡ numbersTo (after d es .session .given)) e (run-counts d es)
+counts-from d es e = subst (λ (n : ℕ). numbersTo n ++ accepts (told d es) ≡ numbersTo (after d es .session .live .given)) e (run-counts d es)
 
 pub given-in-order : GivenInOrder
 given-in-order g es = counts-from (opened g) es (opened-begun g .none-given)
@@ -114,14 +116,17 @@ or-false true e = refl
 or-false false e = e
 
 -- no cooling-off runs
-first-cooled : (g : Settings) → Cooled g (openedSession g .cooling) []
+first-cooled : (g : Settings) → Cooled g (openedSession g .clock .cooling) []
 first-cooled g = rw (opened-begun g .not-cooling)
 
-all-fine : (g : Settings) (es : List Event) → EachFine g (first g) (told (opened g) es)
+all-told : (g : Settings) (es : List Event) → TellsOf g (first g) (told (opened g) es) (after (opened g) es .session)
 unfolding openedSession percentOf
-all-fine g es =
-    run-fine g (first g) (opened g) es refl
+all-told g es =
+    run-tells g (first g) (opened g) es refl
     (record { band-same = refl; reference-same = refl; time-past = omega arith; cooled = first-cooled g })
+
+all-fine : (g : Settings) (es : List Event) → EachFine g (first g) (told (opened g) es)
+all-fine g es = all-told g es .fine
 
 pub trades-within : TradesWithin
 trades-within g es before later t deal e =
@@ -158,3 +163,18 @@ two-forward g l (x ∷ xs) later r r′ f = two-forward g (listen l x) xs later 
 
 pub reports-forward : ReportsForward
 reports-forward g es before later r r′ e = two-forward g (first g) before later r r′ (rw e at (all-fine g es))
+
+-- ---- what is in force is what the reports give
+
+pub stands-said : StandsSaid
+unfolding openedSession standingNow
+stands-said g es =
+    let s : Session = after (opened g) es .session in
+    let rs : List Report = told (opened g) es in
+    let known = all-told g es .known in
+    let reference : s .reckoning .reference ≡ referenceSaid g rs = sym (known .reference-same) ∙ reference-heard (first g) rs in
+    record {
+      band = sym (known .band-same) ∙ band-heard (first g) rs;
+      range = rw (run-settings (opened g) es, reference);
+      reference = reference;
+    }

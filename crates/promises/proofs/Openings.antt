@@ -48,14 +48,14 @@ opening-held : (g : Settings) (buys sells : List ℕ) → dayHeld (openedOn (ope
 unfolding openedSession fixedSession decode
 opening-held g buys sells = by-opening (λ (o : Opened). dayHeld (openedOn o buys sells) ≡ emptyDay (o .session)) g (λ e. refl) (λ r e. refl)
 
-pub none-live : (g : Settings) → (begins g .session .buys ≡ 0) × (begins g .session .sells ≡ 0)
+pub none-live : (g : Settings) → (begins g .session .live .buys ≡ 0) × (begins g .session .live .sells ≡ 0)
 unfolding openedSession fixedSession
-none-live g = by-opening (λ (o : Opened). (o .session .buys ≡ 0) × (o .session .sells ≡ 0)) g (λ e. (refl, refl)) (λ r e. (refl, refl))
+none-live g = by-opening (λ (o : Opened). (o .session .live .buys ≡ 0) × (o .session .live .sells ≡ 0)) g (λ e. (refl, refl)) (λ r e. (refl, refl))
 
 -- no number is given
-pub none-given : (g : Settings) → begins g .session .given ≡ 0
+pub none-given : (g : Settings) → begins g .session .live .given ≡ 0
 unfolding fixedSession
-none-given g = by-opening (λ (o : Opened). o .session .given ≡ 0) g (λ e. opened-begun g .none-given) (λ r e. refl)
+none-given g = by-opening (λ (o : Opened). o .session .live .given ≡ 0) g (λ e. opened-begun g .none-given) (λ r e. refl)
 
 -- an opening that answers 0 begins the day of its settings, which nothing is against
 pub opened-fine : (g : Settings) → codeOf (openingOf g .verdict) ≡ 0 → (settingsVerdict g ≡ Fine) × (begins g ≡ opened g)

@@ -27,7 +27,7 @@ use Rattle.lines_text_law.specs.Grammar.{Answer, whole, unfinished, wrong}
 use Rattle.lines_reading_law.specs.Answers.{readEvent, readSettings}
 use Rattle.state_law.specs.Opening.{openedBy, openingOf, openedSession, fixedSession}
 use Rattle.state_law.specs.Day.{Day}
-use Rattle.soundness_law.specs.Sound.{sound, dayIn}
+use Rattle.soundness_law.specs.Sound.{sound, dayIn, soundBy}
 use Rattle.soundness_law.proofs.Clocked.{session-clocked}
 use Rattle.soundness_law.proofs.Days.{sound-day}
 use Rattle.engine_law.specs.Outcome.{Outcome, outcome}
@@ -60,7 +60,7 @@ Long l = roomy (l .buys) (l .sells) (l .room) ≡ true
 
 -- ---- an opening: a session with no orders
 
-none-live : (v : Verdict) (g : Settings) → (openedBy g v .session .buys ≡ 0) × (openedBy g v .session .sells ≡ 0)
+none-live : (v : Verdict) (g : Settings) → (openedBy g v .session .live .buys ≡ 0) × (openedBy g v .session .live .sells ≡ 0)
 unfolding openedSession fixedSession
 none-live Fine g = (refl, refl)
 none-live (Refused r) g = (refl, refl)
@@ -112,12 +112,12 @@ module _ (l : Lent) (e : Event) (long : Long l) where
   table-kept (Refused r) os t f h = refl
 
   sides-few : o .verdict ≡ Fine → (length (o .day .buys) ≤ slots) × (length (o .day .sells) ≤ slots)
-  unfolding sound
+  unfolding soundBy
   sides-few v =
       let s = accepted-sound (dayLent l) e v in
       let d = sound-day (o .day) s in
       let c = session-clocked (o .day .session) (both (both s .0) .0) in
-      (few (o .day .buys) (o .day .session .buys) (d .buys-counted) (c .buys-few), few (o .day .sells) (o .day .session .sells) (d .sells-counted) (c .sells-few))
+      (few (o .day .buys) (o .day .session .live .buys) (d .buys-counted) (c .buys-few), few (o .day .sells) (o .day .session .live .sells) (d .sells-counted) (c .sells-few))
 
   all-long : (tableLength ≤ length (l .buys)) × (tableLength ≤ length (l .sells)) × (roomLength ≤ length (l .room))
   unfolding roomy

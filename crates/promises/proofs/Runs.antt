@@ -18,7 +18,7 @@ use Rattle.soundness_law.specs.Sound.{sound}
 use Rattle.acts_law.specs.Asked.{resting, accepts, numbersTo}
 use Rattle.acts_law.specs.Heard.{slabIn, slabsTold}
 use Rattle.acts_law.proofs.Numbers.{accepts-append}
-use Rattle.acts_law.proofs.Hears.{Listener, listenAll, EachFine, KnowsOf, TellsOf, fine-append}
+use Rattle.acts_law.proofs.Hears.{Listener, listenAll, knownOf, KnowsOf, TellsOf, none-tells, append-tells}
 use Rattle.engine_law.specs.Outcome.{outcome, after, told}
 use Rattle.engine_law.proofs.Kept.{outcome-sound, outcome-kept, outcome-counts, outcome-tells, outcome-widens, outcome-once, outcome-settings, outcome-forward, outcome-given, accepted-asks, asks-old, asks-new}
 use Rattle.promises.specs.Lots.{asked}
@@ -44,9 +44,9 @@ unfolding after
 run-sound d [] h = h
 run-sound d (e ∷ es) h = run-sound (outcome d e .day) es (outcome-sound d e h)
 
-pub run-forward : (d : Day) (es : List Event) → d .session .time ≤ after d es .session .time
+pub run-forward : (d : Day) (es : List Event) → d .session .clock .time ≤ after d es .session .clock .time
 unfolding after
-run-forward d [] = le-refl (d .session .time)
+run-forward d [] = le-refl (d .session .clock .time)
 run-forward d (e ∷ es) = le-trans (outcome-forward d e) (run-forward (outcome d e .day) es)
 
 pub run-kept : (id : ℕ) (d : Day) (es : List Event) →
@@ -63,35 +63,42 @@ run-kept id d (e ∷ es) =
       total-append (cancelledIn id) (outcome d e .reports) (told d′ es),
     )
 
-pub run-counts : (d : Day) (es : List Event) → numbersTo (d .session .given) ++ accepts (told d es) ≡ numbersTo (after d es .session .given)
+pub run-counts : (d : Day) (es : List Event) → numbersTo (d .session .live .given) ++ accepts (told d es) ≡ numbersTo (after d es .session .live .given)
 unfolding told after accepts
-run-counts d [] = append-nil (numbersTo (d .session .given))
+run-counts d [] = append-nil (numbersTo (d .session .live .given))
 run-counts d (e ∷ es) =
     let d′ : Day = outcome d e .day in
-    ap (λ (l : List ℕ). numbersTo (d .session .given) ++ l) (accepts-append (outcome d e .reports) (told d′ es))
-    ∙ sym (append-assoc (numbersTo (d .session .given)) (accepts (outcome d e .reports)) (accepts (told d′ es)))
+    ap (λ (l : List ℕ). numbersTo (d .session .live .given) ++ l) (accepts-append (outcome d e .reports) (told d′ es))
+    ∙ sym (append-assoc (numbersTo (d .session .live .given)) (accepts (outcome d e .reports)) (accepts (told d′ es)))
     ∙ ap (λ (l : List ℕ). l ++ accepts (told d′ es)) (outcome-counts d e)
     ∙ run-counts d′ es
 
-pub run-fine : (g : Settings) (l : Listener) (d : Day) (es : List Event) → d .session .settings ≡ g → KnowsOf g l (d .session) →
-    EachFine g l (told d es)
-unfolding told EachFine
-run-fine g l d [] k m = tt
-run-fine g l d (e ∷ es) k m =
+pub run-settings : (d : Day) (es : List Event) → after d es .session .settings ≡ d .session .settings
+unfolding after
+run-settings d [] = refl
+run-settings d (e ∷ es) = run-settings (outcome d e .day) es ∙ outcome-settings d e
+
+-- every report is fine, and a listener knows at the end what is in force then
+pub run-tells : (g : Settings) (l : Listener) (d : Day) (es : List Event) → d .session .settings ≡ g → KnowsOf g l (d .session) →
+    TellsOf g l (told d es) (after d es .session)
+unfolding told after
+run-tells g l d [] k m = none-tells g (knownOf (d .session)) l m
+run-tells g l d (e ∷ es) k m =
     let rs : List Report = outcome d e .reports in
     let d′ : Day = outcome d e .day in
     let p : TellsOf g l rs (d′ .session) =
     subst (λ (x : Settings). KnowsOf x l (d .session) → TellsOf x l rs (d′ .session)) k (outcome-tells d e l) m in
-    fine-append g l rs (told d′ es) (p .fine) (run-fine g (listenAll l rs) d′ es (outcome-settings d e ∙ k) (p .known))
+    append-tells g (knownOf (d′ .session)) (knownOf (after d′ es .session)) l rs (told d′ es) p
+    (λ q. run-tells g (listenAll l rs) d′ es (outcome-settings d e ∙ k) q)
 
-pub run-widens : (d : Day) (es : List Event) → slabsTold (told d es) + d .session .widened ≤ after d es .session .widened
+pub run-widens : (d : Day) (es : List Event) → slabsTold (told d es) + d .session .clock .widened ≤ after d es .session .clock .widened
 unfolding told after total
 run-widens d [] = omega arith
 run-widens d (e ∷ es) =
     let d′ : Day = outcome d e .day in
     omega (arith, outcome-widens d e, run-widens d′ es, total-append slabIn (outcome d e .reports) (told d′ es))
 
-pub run-once : (d : Day) (es : List Event) → d .session .widened ≤ 1 → after d es .session .widened ≤ 1
+pub run-once : (d : Day) (es : List Event) → d .session .clock .widened ≤ 1 → after d es .session .clock .widened ≤ 1
 unfolding after
 run-once d [] h = h
 run-once d (e ∷ es) h = run-once (outcome d e .day) es (outcome-once d e h)
@@ -103,19 +110,19 @@ unfolding asked after
 asked-append id d [] more = omega arith
 asked-append id d (e ∷ es) more = omega (arith, asked-append id (outcome d e .day) es more)
 
-run-given : (d : Day) (es : List Event) → d .session .given ≤ after d es .session .given
+run-given : (d : Day) (es : List Event) → d .session .live .given ≤ after d es .session .live .given
 unfolding after
-run-given d [] = le-refl (d .session .given)
+run-given d [] = le-refl (d .session .live .given)
 run-given d (e ∷ es) = le-trans (outcome-given d e) (run-given (outcome d e .day) es)
 
 -- a number that was given before is asked for no more
-run-old : (id : ℕ) (d : Day) (es : List Event) → id ≤ d .session .given → asked id d es ≡ 0
+run-old : (id : ℕ) (d : Day) (es : List Event) → id ≤ d .session .live .given → asked id d es ≡ 0
 unfolding asked
 run-old id d [] h = refl
 run-old id d (e ∷ es) h = omega (arith, asks-old id d e h, run-old id (outcome d e .day) es (le-trans h (outcome-given d e)))
 
 -- and one that is not given at the end was not asked for
-run-new : (id : ℕ) (d : Day) (es : List Event) → after d es .session .given < id → asked id d es ≡ 0
+run-new : (id : ℕ) (d : Day) (es : List Event) → after d es .session .live .given < id → asked id d es ≡ 0
 unfolding asked after
 run-new id d [] h = refl
 run-new id d (e ∷ es) h =
@@ -127,12 +134,12 @@ pub run-asked : (d : Day) (before later : List Event) (t : ℕ) (n : Entry) → 
   time = t;
   act = Enter n;
 }) .verdict ≡ Fine →
-    asked (after d before .session .given + 1) d (before ++ (record { time = t; act = Enter n } ∷ later)) ≡ n .lots
+    asked (after d before .session .live .given + 1) d (before ++ (record { time = t; act = Enter n } ∷ later)) ≡ n .lots
 unfolding asked
 run-asked d before later t n h =
     let e : Event = record { time = t; act = Enter n } in
     let d′ : Day = after d before in
-    let id : ℕ = d′ .session .given + 1 in
+    let id : ℕ = d′ .session .live .given + 1 in
     let k = accepted-asks d′ t n h in
     omega (
       arith,

@@ -51,26 +51,26 @@ live-back n t f l =
     rw (← e) (numbers-back (decode n t))
 
 module _ (h : Held) (k : sound (dayHeld h) ≡ true) (b : tableLength ≤ length (h .buys)) (s : tableLength ≤ length (h .sells)) where
-  fits : BookFits (h .session .given) (h .session .settings .tick) (bandNow (h .session)) (dayHeld h .buys) (dayHeld h .sells)
-  fits = book-fits (h .session .given) (h .session .settings .tick) (bandNow (h .session)) (dayHeld h .buys) (dayHeld h .sells) (sound-day (dayHeld h) k .book)
+  fits : BookFits (h .session .live .given) (h .session .settings .tick) (bandNow (h .session)) (dayHeld h .buys) (dayHeld h .sells)
+  fits = book-fits (h .session .live .given) (h .session .settings .tick) (bandNow (h .session)) (dayHeld h .buys) (dayHeld h .sells) (sound-day (dayHeld h) k .book)
 
-  buys-few : h .session .buys ≤ slots
-  buys-few = omega (arith, fits .few-buys, length-decode (h .session .buys) (h .buys))
+  buys-few : h .session .live .buys ≤ slots
+  buys-few = omega (arith, fits .few-buys, length-decode (h .session .live .buys) (h .buys))
 
-  sells-few : h .session .sells ≤ slots
-  sells-few = omega (arith, fits .few-sells, length-decode (h .session .sells) (h .sells))
+  sells-few : h .session .live .sells ≤ slots
+  sells-few = omega (arith, fits .few-sells, length-decode (h .session .live .sells) (h .sells))
 
   buys-seen : ordersSeen Buy h ≡ dayHeld h .buys
   unfolding viewCall viewOf
   buys-seen =
-      rw (le-ltb (length (h .buys)) tableLength b, le-ltb (length (h .sells)) tableLength s, k, le-ltb slots (h .session .buys) buys-few)
-      (live-back (h .session .buys) (h .buys) buys-few b)
+      rw (le-ltb (length (h .buys)) tableLength b, le-ltb (length (h .sells)) tableLength s, k, le-ltb slots (h .session .live .buys) buys-few)
+      (live-back (h .session .live .buys) (h .buys) buys-few b)
 
   sells-seen : ordersSeen Sell h ≡ dayHeld h .sells
   unfolding viewCall viewOf
   sells-seen =
-      rw (le-ltb (length (h .buys)) tableLength b, le-ltb (length (h .sells)) tableLength s, k, le-ltb slots (h .session .sells) sells-few)
-      (live-back (h .session .sells) (h .sells) sells-few s)
+      rw (le-ltb (length (h .buys)) tableLength b, le-ltb (length (h .sells)) tableLength s, k, le-ltb slots (h .session .live .sells) sells-few)
+      (live-back (h .session .live .sells) (h .sells) sells-few s)
 
   resting-seen : (id : ℕ) → resting id (dayHeld h) ≡ restingSeen id h
   resting-seen id = λ i. lotsOf id (sym buys-seen i) + lotsOf id (sym sells-seen i)
@@ -112,7 +112,7 @@ unfolding viewOf
 none-of Buy buys sells = simp either
 none-of Sell buys sells = simp either
 
-none-viewed : (side : Side) (s : Session) (buys sells : List ℕ) → s .buys ≡ 0 → s .sells ≡ 0 → viewCall side s buys sells ≡ []
+none-viewed : (side : Side) (s : Session) (buys sells : List ℕ) → s .live .buys ≡ 0 → s .live .sells ≡ 0 → viewCall side s buys sells ≡ []
 unfolding viewCall
 none-viewed side s buys sells b e = simp (b, e, none-of, either)
 
@@ -123,7 +123,7 @@ module _ {g : Settings} {es : List Event} {rs : List Report} {h : Held} (r : Run
       let n = none-live g in
       ap (λ (numbers : List ℕ). decode (length numbers / width) numbers)
       (none-viewed side (r .opening .session) (r .buys) (r .sells)
-      (ap (λ (o : Opened). o .session .buys) (r .contract) ∙ n .0) (ap (λ (o : Opened). o .session .sells) (r .contract) ∙ n .1))
+      (ap (λ (o : Opened). o .session .live .buys) (r .contract) ∙ n .0) (ap (λ (o : Opened). o .session .live .sells) (r .contract) ∙ n .1))
 
   start-seen : (id : ℕ) → resting id (dayHeld (start r)) ≡ restingSeen id (start r)
   start-seen id = ap (resting id) (start-held r) ∙ (λ i. lotsOf id (sym (none-seen Buy) i) + lotsOf id (sym (none-seen Sell) i))

@@ -143,12 +143,12 @@ module _ (h h′ : Held) (e : Event) (rs : List Report) (k : Left (outcome (dayH
       let w : SoundDay (o .day) = sound-day (o .day) (accepted-sound (dayHeld h) e v) in
       let b : h′ .buys ≡ tableOf (o .day .buys) (h .buys) = k .buys ∙ ap (λ (x : Verdict). tableBy x (o .day .buys) (h .buys)) v in
       let s : h′ .sells ≡ tableOf (o .day .sells) (h .sells) = k .sells ∙ ap (λ (x : Verdict). tableBy x (o .day .sells) (h .sells)) v in
-      let bs : decode (h′ .session .buys) (h′ .buys) ≡ o .day .buys =
-      ap (decode (h′ .session .buys)) b
-      ∙ reads-back (h′ .session .buys) (o .day .buys) (h .buys) (ap (λ (x : Session). x .buys) (k .session) ∙ w .buys-counted) in
-      let ss : decode (h′ .session .sells) (h′ .sells) ≡ o .day .sells =
-      ap (decode (h′ .session .sells)) s
-      ∙ reads-back (h′ .session .sells) (o .day .sells) (h .sells) (ap (λ (x : Session). x .sells) (k .session) ∙ w .sells-counted) in
+      let bs : decode (h′ .session .live .buys) (h′ .buys) ≡ o .day .buys =
+      ap (decode (h′ .session .live .buys)) b
+      ∙ reads-back (h′ .session .live .buys) (o .day .buys) (h .buys) (ap (λ (x : Session). x .live .buys) (k .session) ∙ w .buys-counted) in
+      let ss : decode (h′ .session .live .sells) (h′ .sells) ≡ o .day .sells =
+      ap (decode (h′ .session .live .sells)) s
+      ∙ reads-back (h′ .session .live .sells) (o .day .sells) (h .sells) (ap (λ (x : Session). x .live .sells) (k .session) ∙ w .sells-counted) in
       λ i. record { session = k .session i; buys = bs i; sells = ss i }
 
   by-verdict : (v : Verdict) → o .verdict ≡ v → dayHeld h′ ≡ o .day

@@ -25,7 +25,7 @@ NeverTwo = (g : Settings) (es : List Event) (e : Event) → settingsVerdict g �
 
 -- any events after any others
 abbrev pub TimeForward : Type 0
-TimeForward = (g : Settings) (es more : List Event) → after (opened g) es .session .time ≤ after (opened g) (es ++ more) .session .time
+TimeForward = (g : Settings) (es more : List Event) → after (opened g) es .session .clock .time ≤ after (opened g) (es ++ more) .session .clock .time
 
 -- any two reports, one after the other
 abbrev pub ReportsForward : Type 0

@@ -9,7 +9,8 @@ use Rattle.terms.specs.declared.Report.{Report}
 use Rattle.terms.specs.declared.Said.{Said}
 use Rattle.terms.specs.declared.Verdict.{Verdict}
 use Rattle.terms.specs.declared.Verdict.the-variants.{Fine}
-use Rattle.book_law.specs.Tells.{maybe, tells}
+use Rattle.terms.specs.Options.{maybe}
+use Rattle.book_law.specs.Tells.{tells}
 use Rattle.state_law.specs.Day.{Day, opened}
 use Rattle.engine_law.specs.Outcome.{outcome, after}
 

@@ -12,7 +12,9 @@ use Rattle.state_law.specs.declared.Session.{Session}
 use Rattle.state_law.specs.declared.Opened.{Opened}
 use Rattle.state_law.specs.Opening.{openingOf}
 use Rattle.engine_law.specs.declared.Applied.{Applied}
+use Rattle.engine_law.specs.declared.Stood.{Stood}
 use Rattle.engine_law.specs.Calls.{AppliedAs, viewCall}
+use Rattle.engine_law.specs.Standings.{standingCall}
 use Rattle.lines_reading_law.specs.declared.ReadEvent.{ReadEvent}
 use Rattle.lines_reading_law.specs.declared.ReadSettings.{ReadSettings}
 use Rattle.lines_reading_law.specs.Answers.{eventAnswer, EventRead, SettingsRead}
@@ -38,6 +40,11 @@ OpeningDetermined = (g : Settings) (r r′ : Opened) → r ≡ openingOf g → r
 abbrev pub ViewDetermined : Type 0
 ViewDetermined =
     (side : Side) (s : Session) (buys sells r r′ : List ℕ) → r ≡ viewCall side s buys sells → r′ ≡ viewCall side s buys sells → r ≡ r′
+
+-- `engine::standings::standing`
+abbrev pub StandingDetermined : Type 0
+StandingDetermined =
+    (s : Session) (buys sells : List ℕ) (r r′ : Stood) → r ≡ standingCall s buys sells → r′ ≡ standingCall s buys sells → r ≡ r′
 
 -- all that a call of `engine::apply` answers and leaves
 pub record Coincide (buys sells room buys′ sells′ room′ : List ℕ) (r r′ : Applied) : Type 0 where

@@ -8,4 +8,4 @@ use Rattle.acts_law.specs.Asked.{accepts, numbersTo}
 use Rattle.engine_law.specs.Outcome.{after, told}
 
 abbrev pub GivenInOrder : Type 0
-GivenInOrder = (g : Settings) (es : List Event) → accepts (told (opened g) es) ≡ numbersTo (after (opened g) es .session .given)
+GivenInOrder = (g : Settings) (es : List Event) → accepts (told (opened g) es) ≡ numbersTo (after (opened g) es .session .live .given)

@@ -7,5 +7,6 @@ pub mod Writable
 pub mod ClockLine
 pub mod Cases
 pub mod Runs
+pub mod Standings
 pub mod Determined
 pub mod Printed

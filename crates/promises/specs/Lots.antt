@@ -29,7 +29,7 @@ abbrev pub OrderKept : Type 0
 OrderKept =
     (g : Settings) (before later : List Event) (t : ℕ) (n : Entry) →
     let e : Event = record { time = t; act = Enter n } in
-    let id : ℕ = after (opened g) before .session .given + 1 in
+    let id : ℕ = after (opened g) before .session .live .given + 1 in
     let es : List Event = before ++ (e ∷ later) in
     outcome (after (opened g) before) e .verdict ≡ Fine →
     n .lots ≡ traded id (told (opened g) es) + cancelled id (told (opened g) es) + resting id (after (opened g) es)

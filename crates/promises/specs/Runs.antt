@@ -207,7 +207,7 @@ CallsNeverTwo = ForOpenRuns (λ g es rs h. (c : Call) (rs′ : List Report) (h�
 
 -- numbers are given in order from 1
 abbrev pub CallsGiveInOrder : Type 0
-CallsGiveInOrder = ForRuns (λ g es rs h. accepts rs ≡ numbersTo (h .session .given))
+CallsGiveInOrder = ForRuns (λ g es rs h. accepts rs ≡ numbersTo (h .session .live .given))
 
 -- time never goes back
 abbrev pub CallsGoForward : Type 0

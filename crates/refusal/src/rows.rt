@@ -15,7 +15,7 @@ use terms::sizes;
 ghost use mathlib.Core.Path.{_≡_};
 ghost use Prim.Native.Nat.{_≤_};
 ghost use lib.ListN.{length};
-ghost use Rattle.terms.specs.Sizes.{tableLength};
+ghost use Rattle.terms.specs.Sizes.{tableLength, sizes};
 ghost use Rattle.terms.specs.Truth.{_⊓_};
 ghost use Rattle.terms.specs.Numbers.{isPrice, isTime, onTick};
 ghost use Rattle.terms.specs.Refusals.{firstFailed};
@@ -141,8 +141,8 @@ fn finds_it(s: Session, act: Act, buys: &[u64], sells: &[u64]) -> bool
 {
     match act {
         Act::Withdraw(number) => {
-            let nbuys = s.buys as usize;
-            let nsells = s.sells as usize;
+            let nbuys = s.live.buys as usize;
+            let nsells = s.live.sells as usize;
             if book::side::is_resting(buys, nbuys, number) {
                 return true;
             }
@@ -160,13 +160,13 @@ fn held(s: Session, side: Side) -> u64
     ensures { λ r. ⌜ r ≡ liveOn side s ⌝ }
 {
     match side {
-        Side::Buy => s.buys,
-        Side::Sell => s.sells,
+        Side::Buy => s.live.buys,
+        Side::Sell => s.live.sells,
     }
 }
 
 fn life_has_place(life: Life, held: u64) -> bool
-    ensures { λ r. ⌜ r ≡ lifeHasPlace life held ⌝ }
+    ensures { λ r. ⌜ r ≡ lifeHasPlace sizes life held ⌝ }
 {
     match life {
         Life::AllDay => held < (sizes::SLOTS as u64),
@@ -193,7 +193,7 @@ fn has_place(s: Session, act: Act) -> bool
 
 // 11.
 fn has_numbers(given: u64, trades: u64, act: Act) -> bool
-    ensures { λ r. ⌜ r ≡ hasNumbers given trades act ⌝ }
+    ensures { λ r. ⌜ r ≡ hasNumbers sizes given trades act ⌝ }
 {
     match act {
         Act::Enter(_) => (given < sizes::NUMBERS) & (trades <= sizes::TRADES),
@@ -207,7 +207,7 @@ fn has_numbers(given: u64, trades: u64, act: Act) -> bool
 // The rows that look at the book.
 fn book_rows(s: Session, e: Event, buys: &[u64], sells: &[u64]) -> Verdict
     requires { ⌜ Clocked s × Tabled s (now buys) (now sells) ⌝ }
-    ensures { λ r. ⌜ r ≡ firstFailed (bookRules (dayIn s (now (buys .entry)) (now (sells .entry))) e) ⌝ }
+    ensures { λ r. ⌜ r ≡ firstFailed (bookRules sizes (dayIn s (now (buys .entry)) (now (sells .entry))) e) ⌝ }
 {
     let act = e.act;
     if !band_right(s, e.time, act) {
@@ -219,7 +219,7 @@ fn book_rows(s: Session, e: Event, buys: &[u64], sells: &[u64]) -> Verdict
     if !has_place(s, act) {
         return Verdict::Refused(Refusal::SideFull);
     }
-    if !has_numbers(s.given, s.tape.trades, act) {
+    if !has_numbers(s.live.given, s.tape.trades, act) {
         return Verdict::Refused(Refusal::DayFull);
     }
     Verdict::Fine
@@ -228,18 +228,18 @@ fn book_rows(s: Session, e: Event, buys: &[u64], sells: &[u64]) -> Verdict
 // The rows that look at the event and the clock, then those of the book.
 fn event_rows(s: Session, e: Event, buys: &[u64], sells: &[u64]) -> Verdict
     requires { ⌜ Clocked s × Tabled s (now buys) (now sells) ⌝ }
-    ensures { λ r. ⌜ r ≡ firstFailed (laterRules (dayIn s (now (buys .entry)) (now (sells .entry))) e) ⌝ }
+    ensures { λ r. ⌜ r ≡ firstFailed (laterRules sizes (dayIn s (now (buys .entry)) (now (sells .entry))) e) ⌝ }
 {
     let act = e.act;
     let t = e.time;
-    let running = !s.closed;
+    let running = !s.clock.closed;
     if !running {
         return Verdict::Refused(Refusal::Closed);
     }
     if !event_right(e) {
         return Verdict::Refused(Refusal::NumberRange);
     }
-    let forward = s.time <= t;
+    let forward = s.clock.time <= t;
     if !forward {
         return Verdict::Refused(Refusal::TimeBack);
     }

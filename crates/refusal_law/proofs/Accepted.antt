@@ -14,17 +14,18 @@ use Rattle.terms.specs.declared.Refusal.{Refusal}
 use Rattle.terms.specs.declared.Refusal.the-variants.{Unsound, Closed, NumberRange, TimeBack, OutOfHours, OffTick, OutsideBand, NotResting, SideFull, DayFull}
 use Rattle.terms.specs.declared.Verdict.the-variants.{Fine, Refused}
 use Rattle.terms.specs.Truth.{_⊓_}
-use Rattle.terms.specs.Sizes.{timeMost, lotsMost, priceMost, numbersMost, tradesBefore}
+use Rattle.terms.specs.Sizes.{timeMost, lotsMost, priceMost, numbersMost, tradesBefore, sizes}
 use Rattle.terms.specs.Numbers.{isTime, isLots, isPrice, isNumber, onTick}
 use Rattle.terms.specs.Refusals.{numberOf, Rule, firstFailed, codeOf}
 use Rattle.terms.proofs.Logic.{by, cases, split, both, between-facts}
+use Rattle.terms.specs.Options.{ofAny}
 use Rattle.rules_law.specs.Slabs.{inBand}
 use Rattle.book_law.specs.Priority.{rests}
 use Rattle.state_law.specs.Now.{bandNow}
 use Rattle.state_law.specs.Clock.{clockStep}
 use Rattle.state_law.specs.Day.{Day, own}
 use Rattle.soundness_law.specs.Sound.{sound}
-use Rattle.refusal_law.specs.Carried.{ofAny, carries}
+use Rattle.refusal_law.specs.Carried.{carries}
 use Rattle.refusal_law.specs.Refusals.{numbersRight, inHours, ticksRight, bandRight, finds, lifeHasPlace, hasPlace, hasNumbers, laterRules, rules, refusalOf}
 
 -- what the row with that number tests
@@ -46,15 +47,15 @@ row-holds (r ∷ rs) e n =
 -- rows 2 to 11, none of which applies
 pub record Accepted (d : Day) (e : Event) : Type 0 where
   pub whole : sound d ≡ true
-  pub running : not (d .session .closed) ≡ true
+  pub running : not (d .session .clock .closed) ≡ true
   pub ranged : (isTime (e .time) ⊓ numbersRight (e .act)) ≡ true
-  pub forward : leb (d .session .time) (e .time) ≡ true
+  pub forward : leb (d .session .clock .time) (e .time) ≡ true
   pub timely : inHours (e .act) (e .time) (d .session .settings .length) ≡ true
   pub ticked : ticksRight (d .session .settings .tick) (e .act) ≡ true
   pub banded : bandRight (bandNow (clockStep (d .session) (e .time))) (e .act) ≡ true
   pub found : finds d (e .act) ≡ true
-  pub placed : hasPlace d (e .act) ≡ true
-  pub numbered : hasNumbers (d .session .given) (d .session .tape .trades) (e .act) ≡ true
+  pub placed : hasPlace sizes d (e .act) ≡ true
+  pub numbered : hasNumbers sizes (d .session .live .given) (d .session .tape .trades) (e .act) ≡ true
 
 pub accepted : (d : Day) (e : Event) → refusalOf d e ≡ Fine → Accepted d e
 unfolding refusalOf rowOf
@@ -101,11 +102,11 @@ module _ (d : Day) (e : Event) (k : Accepted d e) where
   in-day c = rw c at (k .timely)
 
   -- an order finds its number and room for its trades
-  pub numbers-left : (n : Entry) → carries (e .act) .entry ≡ some n → (d .session .given < numbersMost) × (d .session .tape .trades ≤ tradesBefore)
+  pub numbers-left : (n : Entry) → carries (e .act) .entry ≡ some n → (d .session .live .given < numbersMost) × (d .session .tape .trades ≤ tradesBefore)
   unfolding hasNumbers
   numbers-left n c =
-      let q = both (any-some (λ (x : Entry). ltb (d .session .given) numbersMost ⊓ leb (d .session .tape .trades) tradesBefore) (carries (e .act) .entry) n (k .numbered) c) in
-      (ltb-true (d .session .given) numbersMost (q .0), leb-true (d .session .tape .trades) tradesBefore (q .1))
+      let q = both (any-some (λ (x : Entry). ltb (d .session .live .given) numbersMost ⊓ leb (d .session .tape .trades) tradesBefore) (carries (e .act) .entry) n (k .numbered) c) in
+      (ltb-true (d .session .live .given) numbersMost (q .0), leb-true (d .session .tape .trades) tradesBefore (q .1))
 
   -- a limit or settlement is a multiple of the tick, a limit is in the band after the clock steps
   pub tick-right : (p : ℕ) → carries (e .act) .ticked ≡ some p → onTick (d .session .settings .tick) p ≡ true
@@ -121,9 +122,9 @@ module _ (d : Day) (e : Event) (k : Accepted d e) where
   unfolding finds
   rests-right number c = any-some (λ n. rests n (d .buys) || rests n (d .sells)) (carries (e .act) .number) number (k .found) c
 
-  pub place-right : (n : Entry) → carries (e .act) .entry ≡ some n → lifeHasPlace (n .life) (length (own (n .side) d)) ≡ true
+  pub place-right : (n : Entry) → carries (e .act) .entry ≡ some n → lifeHasPlace sizes (n .life) (length (own (n .side) d)) ≡ true
   unfolding hasPlace
-  place-right n c = any-some (λ n. lifeHasPlace (n .life) (length (own (n .side) d))) (carries (e .act) .entry) n (k .placed) c
+  place-right n c = any-some (λ n. lifeHasPlace sizes (n .life) (length (own (n .side) d))) (carries (e .act) .entry) n (k .placed) c
 
 -- ---- rows 2 and 3
 
@@ -144,7 +145,7 @@ not-among n (r ∷ rs) z o e =
 -- refusal 2 is of days that are not sound, and of no other
 pub sound-not-two : (d : Day) (e : Event) → sound d ≡ true → codeOf (refusalOf d e) ≡ 2 → ⊥
 unfolding refusalOf firstFailed
-sound-not-two d e h r = not-among 2 (laterRules d e) (λ z. omega arith) refl (rw h at r)
+sound-not-two d e h r = not-among 2 (laterRules sizes d e) (λ z. omega arith) refl (rw h at r)
 
 -- and on a day that is not sound every event is refused 2
 pub unsound-refused : (d : Day) (e : Event) → sound d ≡ false → refusalOf d e ≡ Refused Unsound
@@ -152,6 +153,6 @@ unfolding refusalOf firstFailed
 unsound-refused d e h = rw h
 
 -- on a closed day every event is refused 3
-pub closed-refused : (d : Day) (e : Event) → sound d ≡ true → d .session .closed ≡ true → refusalOf d e ≡ Refused Closed
+pub closed-refused : (d : Day) (e : Event) → sound d ≡ true → d .session .clock .closed ≡ true → refusalOf d e ≡ Refused Closed
 unfolding refusalOf firstFailed
 closed-refused d e h c = rw (h, c)

@@ -8,7 +8,7 @@ use Rattle.terms.specs.declared.Act.the-variants.{Enter, Under, Finish}
 use Rattle.terms.specs.declared.Entry.{Entry}
 use Rattle.terms.specs.Truth.{_⊓_}
 use Rattle.terms.specs.Numbers.{isLots, isPrice}
-use Rattle.refusal_law.specs.Carried.{ofAny}
+use Rattle.terms.specs.Options.{ofAny}
 use Rattle.refusal_law.specs.Refusals.{ofLimit, numbersRight}
 
 -- tests that answer alike answer alike for what may be there

@@ -7,6 +7,7 @@ use lib.ListN.{length}
 use Rattle.terms.specs.declared.Side.{Side}
 use Rattle.terms.specs.declared.Side.the-variants.{Buy, Sell}
 use Rattle.terms.specs.declared.Act.{Act}
+use Rattle.terms.specs.Sizes.{sizes}
 use Rattle.tables.proofs.Slots.{length-decode}
 use Rattle.state_law.specs.declared.Session.{Session}
 use Rattle.state_law.specs.Day.{own}
@@ -17,12 +18,12 @@ use Rattle.refusal_law.specs.Tabled.{liveOn, placeFor}
 use Rattle.refusal_law.proofs.Carried.{any-same}
 
 live-is : (side : Side) (s : Session) (buys sells : List ℕ) → liveOn side s ≡ length (own side (dayIn s buys sells))
-live-is Buy s buys sells = sym (length-decode (s .buys) buys)
-live-is Sell s buys sells = sym (length-decode (s .sells) sells)
+live-is Buy s buys sells = sym (length-decode (s .live .buys) buys)
+live-is Sell s buys sells = sym (length-decode (s .live .sells) sells)
 
-place-same : (s : Session) (buys sells : List ℕ) (act : Act) → placeFor s act ≡ hasPlace (dayIn s buys sells) act
+place-same : (s : Session) (buys sells : List ℕ) (act : Act) → placeFor s act ≡ hasPlace sizes (dayIn s buys sells) act
 unfolding placeFor hasPlace
-place-same s buys sells act = any-same _ _ (λ n. ap (lifeHasPlace (n .life)) (live-is (n .side) s buys sells)) (carries act .entry)
+place-same s buys sells act = any-same _ _ (λ n. ap (lifeHasPlace sizes (n .life)) (live-is (n .side) s buys sells)) (carries act .entry)
 
-pub place-is : (s : Session) (buys sells : List ℕ) (act : Act) (found : Bool) → found ≡ placeFor s act → found ≡ hasPlace (dayIn s buys sells) act
+pub place-is : (s : Session) (buys sells : List ℕ) (act : Act) (found : Bool) → found ≡ placeFor s act → found ≡ hasPlace sizes (dayIn s buys sells) act
 place-is s buys sells act found f = f ∙ place-same s buys sells act

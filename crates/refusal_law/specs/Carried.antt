@@ -7,11 +7,6 @@ use Rattle.terms.specs.declared.Act.the-variants.{Enter, Withdraw, Under, Clock
 use Rattle.terms.specs.declared.Entry.{Entry}
 use Rattle.terms.specs.declared.Kind.{Kind}
 use Rattle.terms.specs.declared.Kind.the-variants.{Limit, Market}
-use Rattle.book_law.specs.Tells.{maybe}
-
--- a test of something that may be there
-abbrev pub ofAny : {A : Type 0} → (A → Bool) → Option A → Bool
-ofAny test x = maybe true test x
 
 -- a market order has no limit
 abbrev pub limitOf : Kind → Option ℕ

@@ -13,16 +13,16 @@ use Rattle.terms.specs.declared.Band.{Band}
 use Rattle.terms.specs.declared.Refusal.the-variants.{Unsound, Closed, NumberRange, TimeBack, OutOfHours, OffTick, OutsideBand, NotResting, SideFull, DayFull}
 use Rattle.terms.specs.declared.Verdict.{Verdict}
 use Rattle.terms.specs.Truth.{_⊓_}
-use Rattle.terms.specs.Sizes.{slots, numbersMost, tradesBefore}
+use Rattle.terms.specs.Sizes.{Sizes, sizes}
 use Rattle.terms.specs.Numbers.{isPrice, isLots, isTime, isNumber, onTick}
 use Rattle.terms.specs.Refusals.{Rule, unless, firstFailed}
+use Rattle.terms.specs.Options.{ofAny}
 use Rattle.rules_law.specs.Slabs.{inBand}
 use Rattle.book_law.specs.Priority.{rests}
 use Rattle.state_law.specs.Now.{bandNow}
-use Rattle.state_law.specs.Clock.{clockStep}
-use Rattle.state_law.specs.Day.{Day, own}
-use Rattle.soundness_law.specs.Sound.{sound}
-use Rattle.refusal_law.specs.Carried.{ofAny, limitOf, carries}
+use Rattle.state_law.specs.Day.{Day, own, steppedDay}
+use Rattle.soundness_law.specs.Sound.{soundBy}
+use Rattle.refusal_law.specs.Carried.{limitOf, carries}
 
 -- a test of the limit price; a market order has none
 abbrev pub ofLimit : (ℕ → Bool) → Kind → Bool
@@ -48,40 +48,44 @@ bandRight band a = ofAny (inBand band) (carries a .limit)
 unfoldable pub finds : Day → Act → Bool
 finds d a = ofAny (λ number. rests number (d .buys) || rests number (d .sells)) (carries a .number)
 
-abbrev pub lifeHasPlace : Life → ℕ → Bool
-lifeHasPlace AllDay held = ltb held slots
-lifeHasPlace Ioc held = true
+abbrev pub lifeHasPlace : Sizes → Life → ℕ → Bool
+lifeHasPlace z AllDay held = ltb held (z .side)
+lifeHasPlace z Ioc held = true
 
 -- 10: "day order, its own side holds 256"
-unfoldable pub hasPlace : Day → Act → Bool
-hasPlace d a = ofAny (λ n. lifeHasPlace (n .life) (length (own (n .side) d))) (carries a .entry)
+unfoldable pub hasPlace : Sizes → Day → Act → Bool
+hasPlace z d a = ofAny (λ n. lifeHasPlace z (n .life) (length (own (n .side) d))) (carries a .entry)
 
 -- 11: "order, and 60,000 orders given or over 59,744 trades made"
-unfoldable pub hasNumbers : ℕ → ℕ → Act → Bool
-hasNumbers given trades a = ofAny (λ n. ltb given numbersMost ⊓ leb trades tradesBefore) (carries a .entry)
+unfoldable pub hasNumbers : Sizes → ℕ → ℕ → Act → Bool
+hasNumbers z given trades a = ofAny (λ n. ltb given (z .numbers) ⊓ leb trades (z .before)) (carries a .entry)
 
 -- rows 8 to 11; "bands are judged after the clock steps"
-abbrev pub bookRules : Day → Event → List Rule
-bookRules d e =
-    unless OutsideBand (bandRight (bandNow (clockStep (d .session) (e .time))) (e .act))
+abbrev pub bookRules : Sizes → Day → Event → List Rule
+bookRules z d e =
+    unless OutsideBand (bandRight (bandNow (steppedDay d (e .time) .session)) (e .act))
     ∷ unless NotResting (finds d (e .act))
-    ∷ unless SideFull (hasPlace d (e .act))
-    ∷ unless DayFull (hasNumbers (d .session .given) (d .session .tape .trades) (e .act))
+    ∷ unless SideFull (hasPlace z d (e .act))
+    ∷ unless DayFull (hasNumbers z (d .session .live .given) (d .session .tape .trades) (e .act))
     ∷ []
 
 -- rows 3 to 11
-abbrev pub laterRules : Day → Event → List Rule
-laterRules d e =
-    unless Closed (not (d .session .closed))
+abbrev pub laterRules : Sizes → Day → Event → List Rule
+laterRules z d e =
+    unless Closed (not (d .session .clock .closed))
     ∷ unless NumberRange (isTime (e .time) ⊓ numbersRight (e .act))
-    ∷ unless TimeBack (leb (d .session .time) (e .time))
+    ∷ unless TimeBack (leb (d .session .clock .time) (e .time))
     ∷ unless OutOfHours (inHours (e .act) (e .time) (d .session .settings .length))
     ∷ unless OffTick (ticksRight (d .session .settings .tick) (e .act))
-    ∷ bookRules d e
+    ∷ bookRules z d e
 
--- the table's rows 2 to 11, in its order
+-- the table's rows 2 to 11, in its order, by some sizes
+abbrev pub rulesBy : Sizes → Day → Event → List Rule
+rulesBy z d e = unless Unsound (soundBy z d) ∷ laterRules z d e
+
+-- and by those of the paper
 abbrev pub rules : Day → Event → List Rule
-rules d e = unless Unsound (sound d) ∷ laterRules d e
+rules d e = rulesBy sizes d e
 
 unfoldable pub refusalOf : Day → Event → Verdict
 refusalOf d e = firstFailed (rules d e)

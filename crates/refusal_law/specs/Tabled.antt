@@ -6,23 +6,24 @@ use lib.ListN.{length}
 use Rattle.terms.specs.declared.Side.{Side}
 use Rattle.terms.specs.declared.Side.the-variants.{Buy, Sell}
 use Rattle.terms.specs.declared.Act.{Act}
-use Rattle.terms.specs.Sizes.{slots, tableLength}
+use Rattle.terms.specs.Sizes.{slots, tableLength, sizes}
+use Rattle.terms.specs.Options.{ofAny}
 use Rattle.state_law.specs.declared.Session.{Session}
-use Rattle.refusal_law.specs.Carried.{ofAny, carries}
+use Rattle.refusal_law.specs.Carried.{carries}
 use Rattle.refusal_law.specs.Refusals.{lifeHasPlace}
 
 -- the tables are long enough, and the live counts are no more than they have slots for
 pub record Tabled (s : Session) (buys sells : List ℕ) : Type 0 where
-  pub buys-few : s .buys ≤ slots
-  pub sells-few : s .sells ≤ slots
+  pub buys-few : s .live .buys ≤ slots
+  pub sells-few : s .live .sells ≤ slots
   pub buys-long : tableLength ≤ length buys
   pub sells-long : tableLength ≤ length sells
 
 -- the live count of a side
 abbrev pub liveOn : Side → Session → ℕ
-liveOn Buy s = s .buys
-liveOn Sell s = s .sells
+liveOn Buy s = s .live .buys
+liveOn Sell s = s .live .sells
 
 -- row 10, by the live counts
 unfoldable pub placeFor : Session → Act → Bool
-placeFor s a = ofAny (λ n. lifeHasPlace (n .life) (liveOn (n .side) s)) (carries a .entry)
+placeFor s a = ofAny (λ n. lifeHasPlace sizes (n .life) (liveOn (n .side) s)) (carries a .entry)

@@ -5,7 +5,7 @@ use terms::Closing;
 ghost use mathlib.Core.Path.{_≡_};
 ghost use Prim.Native.Nat.{_*_, _≤_, _<_};
 ghost use Rattle.terms.specs.Sizes.{priceMost, lotsMost, tradesMost, lengthLeast, tickMost};
-ghost use Rattle.rules_law.specs.Close.{inHalfHour, tallied, tallyAll, noTally, halfAfter, remembered, tapeAfter, lastOr, average, closingOf, TallyFits, TenFits, TapeFits};
+ghost use Rattle.rules_law.specs.Close.{inHalfHour, tallied, tallyAll, noTally, halfAfter, remembered, tapeAfter, lastOf, lastOr, lastLots, average, closingOf, TallyFits, TenFits, TapeFits};
 
 // The last half hour of a session of this length.
 const HALF_HOUR: u64 = 1_800_000;
@@ -97,20 +97,34 @@ pub fn tape_after(t: Tape, late: bool, price: u64, lots: u64) -> Tape
     }
 }
 
+// The newest of ten numbers that are remembered of so many trades, or the other before any trade.
+fn last_of(other: u64, trades: u64, ten: [u64; 10]) -> u64
+    ensures { λ r. ⌜ r ≡ lastOf other trades ten ⌝ }
+{
+    if trades == 0 {
+        return other;
+    }
+    if 10 <= trades {
+        return ten[9];
+    }
+    let at = (trades - 1) as usize;
+    ten[at]
+}
+
 // The last trade's price, or the other before any trade.
 pub fn last_or(other: u64, t: Tape) -> u64
     ensures { λ r. ⌜ r ≡ lastOr other t ⌝ }
 {
-    let n = t.trades;
-    if n == 0 {
-        return other;
-    }
-    if 10 <= n {
-        return t.prices[9];
-    }
-    let at = (n - 1) as usize;
     let prices = t.prices;
-    prices[at]
+    last_of(other, t.trades, prices)
+}
+
+// The last trade's lots, 0 before any trade.
+pub fn last_lots(t: Tape) -> u64
+    ensures { λ r. ⌜ r ≡ lastLots t ⌝ }
+{
+    let sizes = t.sizes;
+    last_of(0, t.trades, sizes)
 }
 
 // The last ten trades added up.

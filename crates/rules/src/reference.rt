@@ -3,10 +3,11 @@ use rules_law::Minute;
 use rules_law::Range;
 use rules_law::Reckoning;
 use rules_law::Row;
+use terms::Band;
 ghost use mathlib.Core.Path.{_≡_};
 ghost use Prim.Native.Nat.{_≤_};
 ghost use Rattle.terms.specs.Sizes.{priceMost, daysMost};
-ghost use Rattle.rules_law.specs.Reference.{theoreticalOr, minuteAfter, quiet, reckoned, MinuteFits, RangeFits, rangeOf, inRange};
+ghost use Rattle.rules_law.specs.Reference.{theoreticalOr, minuteAfter, quiet, reckoned, MinuteFits, RangeFits, rangeOf, inRange, rangeEnds};
 
 // The greatest reference: what a theoretical price can come to.
 pub const MOST: u64 = 110_600_000;
@@ -87,4 +88,19 @@ pub fn in_range(r: Range, x: u64) -> bool
         return reference - x <= reach;
     }
     x - reference <= reach
+}
+
+// Both ends of the execution range, in whole paise.
+pub fn range_ends(r: Range) -> Band
+    requires { ⌜ RangeFits r ⌝ }
+    ensures { λ b. ⌜ b ≡ rangeEnds r ⌝ }
+{
+    let reference = r.reference;
+    let reach = r.percent * reference / 200;
+    let low = reference - reach;
+    let high = reference + reach;
+    Band {
+        low: low,
+        high: high,
+    }
 }

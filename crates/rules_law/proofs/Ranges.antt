@@ -2,15 +2,17 @@
 -- that could wrap.
 use Prim.Native.Nat.{ℕ, _+_, _-_, _*_, _/_, _≤_, _<_}
 use native.Mathlib.Omega.{arith}
-use native.Mathlib.Nat.{mul-le-mul}
+use native.Mathlib.Nat.{mul-le-mul, mul-le-mul-right}
 use mathlib.Core.Path.{_≡_, ap}
 use mathlib.Core.Bool.{true}
 use borrow.Author.Tests.{leb-true, ltb-true, le-leb, lt-ltb}
 use lib.Dec.{leb, ltb}
 use Rattle.terms.specs.declared.Side.the-variants.{Buy, Sell}
-use Rattle.terms.proofs.Logic.{same}
+use Rattle.terms.proofs.Logic.{same, between-facts, between-make}
 use Rattle.rules_law.specs.declared.Range.{Range}
-use Rattle.rules_law.specs.Reference.{inRange, RangeFits, referenceMost}
+use Rattle.rules_law.specs.Slabs.{inBand}
+use Rattle.rules_law.specs.Reference.{inRange, RangeFits, referenceMost, reachOf, rangeLow, rangeHigh, rangeEnds}
+use Rattle.rules_law.specs.Meaning.{AreEnds}
 use Rattle.rules_law.specs.Mark.{beyondMark, markMost}
 
 -- ---- the range
@@ -54,6 +56,48 @@ range-product r f = mul-le-mul (f .percent-small) (f .reference-small)
 pub in-range-small : (r : Range) (x : ℕ) → RangeFits r → inRange r x ≡ true → x ≤ markMost
 unfolding inRange
 in-range-small r x f e = omega (arith, range-product r f, leb-true (200 * (x - r .reference + (r .reference - x))) (r .percent * r .reference) e)
+
+-- ---- the ends of the range
+
+-- what a price in range is, without the rounding: at most the reach away, on either side
+near : (r : Range) (x : ℕ) → inRange r x ≡ true → (r .reference ≤ x + reachOf r) × (x ≤ r .reference + reachOf r)
+unfolding inRange
+near r x e =
+    let h : 200 * (x - r .reference + (r .reference - x)) ≤ r .percent * r .reference = leb-true (200 * (x - r .reference + (r .reference - x))) (r .percent * r .reference) e in
+    (omega arith, omega arith)
+
+nearly : (r : Range) (x : ℕ) → r .reference ≤ x + reachOf r → x ≤ r .reference + reachOf r → inRange r x ≡ true
+unfolding inRange
+nearly r x low high = le-leb (200 * (x - r .reference + (r .reference - x))) (r .percent * r .reference) (omega arith)
+
+-- a price is in range just where it lies between the ends
+pub range-between : (r : Range) (x : ℕ) → inRange r x ≡ inBand (rangeEnds r) x
+unfolding rangeLow rangeHigh
+range-between r x =
+    same (inRange r x) (inBand (rangeEnds r) x)
+    (λ e. between-make (rangeLow r) x (rangeHigh r) (omega (arith, near r x e)) (omega (arith, near r x e)))
+    (λ e. nearly r x (omega (arith, between-facts (rangeLow r) x (rangeHigh r) e)) (omega (arith, between-facts (rangeLow r) x (rangeHigh r) e)))
+
+pub in-ends : (r : Range) (x : ℕ) → inRange r x ≡ true → (rangeLow r ≤ x) × (x ≤ rangeHigh r)
+in-ends r x e = between-facts (rangeLow r) x (rangeHigh r) (rw (range-between r x) at e)
+
+pub ends-in : (r : Range) (x : ℕ) → rangeLow r ≤ x → x ≤ rangeHigh r → inRange r x ≡ true
+ends-in r x low high = rw (range-between r x) (between-make (rangeLow r) x (rangeHigh r) low high)
+
+-- and the ends are the least and the greatest price in range
+pub are-ends : (r : Range) → AreEnds r (rangeLow r) (rangeHigh r)
+unfolding rangeLow rangeHigh
+are-ends r =
+    record {
+      low-in = nearly r (rangeLow r) (omega arith) (omega arith);
+      high-in = nearly r (rangeHigh r) (omega arith) (omega arith);
+      least = λ x e. in-ends r x e .0;
+      greatest = λ x e. in-ends r x e .1;
+    }
+
+-- what the code needs: the reach is at most half the reference
+pub reach-small : (r : Range) → RangeFits r → reachOf r ≤ r .reference
+reach-small r f = omega (arith, mul-le-mul-right (r .reference) (f .percent-small))
 
 -- ---- the mark
 

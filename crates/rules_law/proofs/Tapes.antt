@@ -14,7 +14,7 @@ use Rattle.terms.specs.Sizes.{priceMost, lotsMost, tradesMost}
 use Rattle.terms.proofs.Logic.{cases}
 use Rattle.rules_law.specs.declared.Tally.{Tally}
 use Rattle.rules_law.specs.declared.Tape.{Tape}
-use Rattle.rules_law.specs.Close.{tallied, tallyAll, kept, remembered, halfAfter, noTally, average, tapeAfter, lastOr, closePrice, nextBase, closingOf, TallyFits, TenFits}
+use Rattle.rules_law.specs.Close.{tallied, tallyAll, kept, remembered, halfAfter, noTally, average, tapeAfter, lastOf, lastOr, lastLots, closePrice, nextBase, closingOf, TallyFits, TenFits}
 
 -- ---- ten numbers of an array
 
@@ -37,17 +37,15 @@ shifted a n x l h =
 
 -- ---- the last trade
 
-pub last-of-ten : (other : ℕ) (t : Tape) → 10 ≤ t .trades → getD (t .prices) 9 0 ≡ lastOr other t
-unfolding lastOr
-last-of-ten other t h =
-    let n : (t .trades ≡ 0 → ⊥) = λ e. omega arith in
-    rw (ne-eqb (t .trades) 0 n, min-eq-left h)
+pub last-of-ten : (other n : ℕ) (ten : List ℕ) → 10 ≤ n → getD ten 9 0 ≡ lastOf other n ten
+last-of-ten other n ten h =
+    let some : (n ≡ 0 → ⊥) = λ e. omega arith in
+    rw (ne-eqb n 0 some, min-eq-left h)
 
-pub last-of-few : (other : ℕ) (t : Tape) → (t .trades ≡ 0 → ⊥) → t .trades < 10 → getD (t .prices) (t .trades - 1) 0 ≡ lastOr other t
-unfolding lastOr
-last-of-few other t n h =
-    let l : t .trades ≤ 10 = omega arith in
-    rw (ne-eqb (t .trades) 0 n, min-eq-right l)
+pub last-of-few : (other n : ℕ) (ten : List ℕ) → (n ≡ 0 → ⊥) → n < 10 → getD ten (n - 1) 0 ≡ lastOf other n ten
+last-of-few other n ten some h =
+    let l : n ≤ 10 = omega arith in
+    rw (ne-eqb n 0 some, min-eq-right l)
 
 -- the newest trade is the last
 newest : (old : List ℕ) (n x : ℕ) → length old ≡ 10 → getD (remembered old n x) (kept (n + 1) - 1) 0 ≡ x
@@ -63,6 +61,10 @@ newest old n x l =
 pub last-newest : (other : ℕ) (t : Tape) (late : Bool) (price lots : ℕ) → length (t .prices) ≡ 10 → lastOr other (tapeAfter t late price lots) ≡ price
 unfolding lastOr tapeAfter
 last-newest other t late price lots l = rw (ne-eqb (t .trades + 1) 0 (λ e. omega arith)) (newest (t .prices) (t .trades) price l)
+
+pub lots-newest : (t : Tape) (late : Bool) (price lots : ℕ) → length (t .sizes) ≡ 10 → lastLots (tapeAfter t late price lots) ≡ lots
+unfolding lastLots tapeAfter
+lots-newest t late price lots l = rw (ne-eqb (t .trades + 1) 0 (λ e. omega arith)) (newest (t .sizes) (t .trades) lots l)
 
 -- ---- tallies
 

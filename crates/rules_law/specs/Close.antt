@@ -67,9 +67,17 @@ tapeAfter t late price lots =
       half = halfAfter (t .half) late price lots;
     }
 
+-- of the last ten trades, one number each: the newest one's, or the other before any trade
+abbrev pub lastOf : ℕ → ℕ → List ℕ → ℕ
+lastOf other trades ten = cond (eqb trades 0) other (getD ten (kept trades - 1) 0)
+
 -- "the last trade": its price, or the other before any trade
 unfoldable pub lastOr : ℕ → Tape → ℕ
-lastOr other t = cond (eqb (t .trades) 0) other (getD (t .prices) (kept (t .trades) - 1) 0)
+lastOr other t = lastOf other (t .trades) (t .prices)
+
+-- and its lots, 0 before any trade
+unfoldable pub lastLots : Tape → ℕ
+lastLots t = lastOf 0 (t .trades) (t .sizes)
 
 -- "that of the last ten"
 abbrev pub lastTen : Tape → Tally

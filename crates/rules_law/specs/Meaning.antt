@@ -1,6 +1,9 @@
 -- What the rounded numbers of document 01 mean, said without the arithmetic that computes them. proofs/ shows that they mean it.
 use Prim.Native.Nat.{ℕ, _+_, _-_, _*_, _%_, _≤_, _<_}
 use mathlib.Core.Path.{_≡_}
+use mathlib.Core.Bool.{true}
+use Rattle.rules_law.specs.declared.Range.{Range}
+use Rattle.rules_law.specs.Reference.{inRange}
 
 -- "the smallest tick multiple not below base×(100−p)/100"
 pub record IsLow (base tick p low : ℕ) : Type 0 where
@@ -21,3 +24,10 @@ pub record IsNearest (tick value lots price : ℕ) : Type 0 where
   pub not-above : 2 * (price * lots) ≤ 2 * value + lots * tick
   pub not-below : 2 * value < 2 * (price * lots) + lots * tick
   pub only : (k : ℕ) → 2 * (k * tick * lots) ≤ 2 * value + lots * tick → 2 * value < 2 * (k * tick * lots) + lots * tick → k * tick ≡ price
+
+-- the ends of the range: each is in range, and no price in range lies past it
+pub record AreEnds (r : Range) (low high : ℕ) : Type 0 where
+  pub low-in : inRange r low ≡ true
+  pub high-in : inRange r high ≡ true
+  pub least : (x : ℕ) → inRange r x ≡ true → low ≤ x
+  pub greatest : (x : ℕ) → inRange r x ≡ true → x ≤ high

@@ -2,6 +2,7 @@
 use Prim.Native.Nat.{ℕ, zero, suc, _+_, _-_, _*_, _/_, _≤_}
 use mathlib.Core.Bool.{Bool, cond}
 use lib.Dec.{leb, eqb}
+use Rattle.terms.specs.declared.Band.{Band}
 use Rattle.terms.specs.Sizes.{priceMost, tradesMost}
 use Rattle.rules_law.specs.declared.Minute.{Minute}
 use Rattle.rules_law.specs.declared.Reckoning.{Reckoning}
@@ -67,6 +68,22 @@ rangeOf slab reference = record { percent = slab .initial; reference = reference
 -- "Price x is in range when 200×|x−reference| is at most initial percent×reference."
 unfoldable pub inRange : Range → ℕ → Bool
 inRange r x = leb (200 * (x - r .reference + (r .reference - x))) (r .percent * r .reference)
+
+-- how far from the reference a price may lie, in whole paise: 200×reach is at most initial percent×reference
+abbrev pub reachOf : Range → ℕ
+reachOf r = r .percent * r .reference / 200
+
+-- "Price x is in range when 200×|x−reference| is at most initial percent×reference": the least such price in whole paise
+unfoldable pub rangeLow : Range → ℕ
+rangeLow r = r .reference - reachOf r
+
+-- and the greatest
+unfoldable pub rangeHigh : Range → ℕ
+rangeHigh r = r .reference + reachOf r
+
+-- both ends of the range
+abbrev pub rangeEnds : Range → Band
+rangeEnds r = record { low = rangeLow r; high = rangeHigh r }
 
 pub record RangeFits (r : Range) : Type 0 where
   pub percent-small : r .percent ≤ 100

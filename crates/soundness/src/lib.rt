@@ -11,7 +11,7 @@ use terms::ticks;
 ghost use mathlib.Core.Path.{_≡_};
 ghost use Prim.Native.Nat.{_≤_};
 ghost use lib.ListN.{length};
-ghost use Rattle.terms.specs.Sizes.{tableLength};
+ghost use Rattle.terms.specs.Sizes.{tableLength, sizes};
 ghost use Rattle.terms.specs.Ticks.{factorOf};
 ghost use Rattle.state_law.specs.Now.{Clocked};
 ghost use Rattle.soundness_law.specs.Sound.{clockSound, tapeSound, sessionSound, sound, dayIn};
@@ -19,7 +19,7 @@ ghost use Rattle.soundness_law.specs.Sound.{clockSound, tapeSound, sessionSound
 // The settings are valid, the time, the counts, the slab and the single numbers within their bounds.
 fn clock_sound(s: Session, factor: u64) -> bool
     requires { ⌜ factor ≡ factorOf (s .settings .tick) ⌝ }
-    ensures { λ r. ⌜ r ≡ clockSound s ⌝ }
+    ensures { λ r. ⌜ r ≡ clockSound sizes s ⌝ }
 {
     let g = s.settings;
     if !judge::is_valid(g, factor) {
@@ -60,7 +60,7 @@ fn tape_sound(s: Session, factor: u64) -> bool
 // The numbers of a session, but for its live orders.
 fn session_sound(s: Session, factor: u64) -> bool
     requires { ⌜ factor ≡ factorOf (s .settings .tick) ⌝ }
-    ensures { λ r. ⌜ r ≡ sessionSound s ⌝ }
+    ensures { λ r. ⌜ r ≡ sessionSound sizes s ⌝ }
 {
     if !clock_sound(s, factor) {
         return false;
@@ -78,8 +78,8 @@ pub fn is_sound(s: Session, buys: &[u64], sells: &[u64]) -> bool
     if !session_sound(s, factor) {
         return false;
     }
-    let nbuys = s.buys as usize;
-    let nsells = s.sells as usize;
+    let nbuys = s.live.buys as usize;
+    let nsells = s.live.sells as usize;
     let band = force::band_now(s);
-    book_sound::book_sound(buys, nbuys, sells, nsells, s.given, tick, factor, band)
+    book_sound::book_sound(buys, nbuys, sells, nsells, s.live.given, tick, factor, band)
 }

@@ -8,7 +8,7 @@ ghost use mathlib.Core.Path.{_≡_};
 ghost use mathlib.Core.Bool.{true};
 ghost use Prim.Native.Nat.{_*_, _≤_};
 ghost use lib.ListN.{take};
-ghost use Rattle.terms.specs.Sizes.{priceMost, lotsMost, tradesMost, timeMost, tickMost};
+ghost use Rattle.terms.specs.Sizes.{priceMost, lotsMost, tradesMost, timeMost, tickMost, sizes};
 ghost use Rattle.terms.specs.Truth.{_⊓_, between};
 ghost use Rattle.terms.specs.Numbers.{isPrice, isLots, onTick};
 ghost use Rattle.terms.specs.Ticks.{Dividing};
@@ -18,36 +18,36 @@ ghost use Rattle.soundness_law.specs.Sound.{timeSound, countsSound, slabSound, 
 pub fn time_sound(s: Session) -> bool
     ensures { λ r. ⌜ r ≡ timeSound s ⌝ }
 {
-    let small = s.time <= sizes::TIME;
-    let below = s.time < s.settings.length;
-    small & (s.closed | below)
+    let small = s.clock.time <= sizes::TIME;
+    let below = s.clock.time < s.settings.length;
+    small & (s.clock.closed | below)
 }
 
 pub fn counts_sound(s: Session) -> bool
-    ensures { λ r. ⌜ r ≡ countsSound s ⌝ }
+    ensures { λ r. ⌜ r ≡ countsSound sizes s ⌝ }
 {
     let most = sizes::SLOTS as u64;
-    (s.buys <= most) & (s.sells <= most)
+    (s.live.buys <= most) & (s.live.sells <= most)
 }
 
 pub fn slab_sound(s: Session) -> bool
-    requires { ⌜ s .time ≤ timeMost ⌝ }
+    requires { ⌜ s .clock .time ≤ timeMost ⌝ }
     ensures { λ r. ⌜ r ≡ slabSound s ⌝ }
 {
-    let end = s.time + rules::slabs::COOLING;
-    let once = s.widened <= 1;
-    let initial = (s.widened == 0) | (s.cooling == 0);
-    let near = s.cooling <= end;
+    let end = s.clock.time + rules::slabs::COOLING;
+    let once = s.clock.widened <= 1;
+    let initial = (s.clock.widened == 0) | (s.clock.cooling == 0);
+    let near = s.clock.cooling <= end;
     once & initial & near
 }
 
 pub fn numbers_sound(s: Session) -> bool
-    ensures { λ r. ⌜ r ≡ numbersSound s ⌝ }
+    ensures { λ r. ⌜ r ≡ numbersSound sizes s ⌝ }
 {
     let reference = (1 <= s.reckoning.reference)
         & (s.reckoning.reference <= rules::reference::MOST);
-    let under = s.under <= sizes::PRICE;
-    let given = s.given <= sizes::NUMBERS;
+    let under = s.clock.under <= sizes::PRICE;
+    let given = s.live.given <= sizes::NUMBERS;
     let trades = s.tape.trades <= sizes::TRADES + (sizes::SLOTS as u64);
     reference & under & given & trades
 }
@@ -170,7 +170,7 @@ fn times(lots: u64, x: u64) -> u64
 
 pub fn half_sound(tick: u64, trades: u64, h: Tally) -> bool
     requires { ⌜ (tick ≤ tickMost) × (trades ≤ tradesMost) ⌝ }
-    ensures { λ r. ⌜ r ≡ halfSound tick trades h ⌝ }
+    ensures { λ r. ⌜ r ≡ halfSound tick priceMost trades h ⌝ }
 {
     let count = h.count;
     let lots = h.lots;

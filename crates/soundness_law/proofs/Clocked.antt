@@ -8,7 +8,7 @@ use mathlib.Core.List.{List}
 use borrow.Author.Tests.{leb-true}
 use lib.ListN.{length, getD, take, length-take}
 use lib.Seq.{getD-take}
-use Rattle.terms.specs.Sizes.{priceMost, lotsMost, tradesMost, timeMost}
+use Rattle.terms.specs.Sizes.{priceMost, lotsMost, tradesMost, timeMost, sizes}
 use Rattle.terms.specs.Numbers.{isPrice, isLots}
 use Rattle.terms.proofs.Logic.{both, between-facts}
 use Rattle.terms.proofs.Valid.{valid-facts}
@@ -22,11 +22,11 @@ use Rattle.state_law.specs.Now.{Clocked, Steady}
 use Rattle.soundness_law.specs.Sound.{timeSound, countsSound, slabSound, numbersSound, every, priceSound, rememberedSound, halfSound, minuteSound, clockSound, tapeSound, sessionSound}
 use Rattle.soundness_law.proofs.Lists.{at-place}
 
-pub time-small : (s : Session) → timeSound s ≡ true → s .time ≤ timeMost
+pub time-small : (s : Session) → timeSound s ≡ true → s .clock .time ≤ timeMost
 unfolding timeSound
-time-small s e = leb-true (s .time) timeMost (both e .0)
+time-small s e = leb-true (s .clock .time) timeMost (both e .0)
 
-pub clocked : (s : Session) → clockSound s ≡ true → Clocked s
+pub clocked : (s : Session) → clockSound sizes s ≡ true → Clocked s
 unfolding clockSound countsSound slabSound numbersSound
 clocked s e =
     let a = both e in
@@ -56,7 +56,7 @@ clocked s e =
 
 -- ---- what is remembered of trades
 
-tally-fits : (tick trades : ℕ) (h : Tally) → trades ≤ tradesMost → halfSound tick trades h ≡ true → TallyFits h
+tally-fits : (tick trades : ℕ) (h : Tally) → trades ≤ tradesMost → halfSound tick priceMost trades h ≡ true → TallyFits h
 unfolding halfSound
 tally-fits tick trades h m e =
     let a = both e in
@@ -93,7 +93,7 @@ ten-fits tick t lp ls e h =
     }
 
 -- A SOUND SESSION IS STEADY
-pub steady : (s : Session) → length (s .tape .prices) ≡ 10 → length (s .tape .sizes) ≡ 10 → sessionSound s ≡ true → Steady s
+pub steady : (s : Session) → length (s .tape .prices) ≡ 10 → length (s .tape .sizes) ≡ 10 → sessionSound sizes s ≡ true → Steady s
 unfolding sessionSound tapeSound
 steady s lp ls e =
     let a = both e in
@@ -111,6 +111,6 @@ steady s lp ls e =
           };
     }
 
-pub session-clocked : (s : Session) → sessionSound s ≡ true → Clocked s
+pub session-clocked : (s : Session) → sessionSound sizes s ≡ true → Clocked s
 unfolding sessionSound
 session-clocked s e = clocked s (both e .0)

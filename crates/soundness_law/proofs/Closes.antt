@@ -98,7 +98,7 @@ module _ (s : Session) (p : Parts s) (l : length (s .tape .prices) ≡ 10) where
   valid = valid-facts (s .settings) (p .valid)
 
   averaged : (t : Tally) → Worth t → average (s .settings .tick) t ≤ closingMost
-  averaged t w = omega (arith, average-small (s .settings .tick) t (valid .tick-some) w, valid .tick-small)
+  averaged t w = omega (arith, average-small (s .settings .tick) t (valid .in-range .tick-some) w, valid .in-range .tick-small)
 
   pub close-small : closePrice (s .settings .tick) (s .settings .close) (s .tape) ≤ closingMost
   unfolding closePrice
@@ -110,7 +110,7 @@ module _ (s : Session) (p : Parts s) (l : length (s .tape .prices) ≡ 10) where
       (λ e. averaged (t .half) (record { most = omega (arith, p .halved .value-small) }))
       (λ e. by P (leb 10 (t .trades)) _ _
       (λ f. averaged (lastTen t) (ten-worth tick t l (p .remembered .priced) f))
-      (λ f. omega (arith, last-small tick (s .settings .close) t (valid .close-small) (p .remembered .priced))))
+      (λ f. omega (arith, last-small tick (s .settings .close) t (valid .in-range .close-small) (p .remembered .priced))))
 
   pub base-small : (settle : ℕ) → settle ≤ priceMost → nextBase (s .settings .tick) (s .settings .close) (s .tape) settle ≤ closingMost
   unfolding nextBase

@@ -35,31 +35,31 @@ use Rattle.state_law.specs.declared.Session.{Session}
 use Rattle.state_law.specs.Now.{percentNow, bandNow}
 use Rattle.state_law.specs.Opening.{openedSession, fixedSession}
 use Rattle.state_law.specs.Day.{Day, dayWith, opened}
-use Rattle.soundness_law.specs.Sound.{every, clockSound, sessionSound, counted, sound, dayIn}
+use Rattle.soundness_law.specs.Sound.{every, clockSound, sessionSound, counted, sound, dayIn, soundBy}
 use Rattle.soundness_law.proofs.Parts.{Parts, parts-of, parts-made}
 use Rattle.soundness_law.proofs.Kept.{Tradable, counted-kept}
 
 -- ---- taken apart
 
 abbrev pub BookOf : Session → List Order → List Order → Type 0
-BookOf s buys sells = bookSound (s .given) (s .settings .tick) (bandNow s) buys sells ≡ true
+BookOf s buys sells = bookSound (s .live .given) (s .settings .tick) (bandNow s) buys sells ≡ true
 
 pub record SoundDay (d : Day) : Type 0 where
   pub parts : Parts (d .session)
-  pub buys-counted : d .session .buys ≡ length (d .buys)
-  pub sells-counted : d .session .sells ≡ length (d .sells)
+  pub buys-counted : d .session .live .buys ≡ length (d .buys)
+  pub sells-counted : d .session .live .sells ≡ length (d .sells)
   pub book : BookOf (d .session) (d .buys) (d .sells)
 
 pub sound-day : (d : Day) → sound d ≡ true → SoundDay d
-unfolding sound counted
+unfolding soundBy counted
 sound-day d h =
     let whole = both h in
     let numbers = both (whole .0) in
     let counts = both (numbers .1) in
     record {
       parts = parts-of (d .session) (numbers .0);
-      buys-counted = eqb-true (d .session .buys) (length (d .buys)) (counts .0);
-      sells-counted = eqb-true (d .session .sells) (length (d .sells)) (counts .1);
+      buys-counted = eqb-true (d .session .live .buys) (length (d .buys)) (counts .0);
+      sells-counted = eqb-true (d .session .live .sells) (length (d .sells)) (counts .1);
       book = whole .1;
     }
 
@@ -70,9 +70,9 @@ abbrev pub BookWith : Side → Session → List Order → List Order → Type 0
 BookWith side s own across = BookOf s (onSide side own across) (onSide (otherSide side) own across)
 
 counted-with : (s : Session) (buys sells : List Order) → Parts s → BookOf s buys sells → sound (dayWith Buy s buys sells) ≡ true
-unfolding sound counted
+unfolding soundBy counted
 counted-with s buys sells p b =
-    let f : BookFits (s .given) (s .settings .tick) (bandNow s) buys sells = book-fits (s .given) (s .settings .tick) (bandNow s) buys sells b in
+    let f : BookFits (s .live .given) (s .settings .tick) (bandNow s) buys sells = book-fits (s .live .given) (s .settings .tick) (bandNow s) buys sells b in
     make (make
     (parts-made (dayWith Buy s buys sells .session) (counted-kept s (length buys) (length sells) p) (f .few-buys) (f .few-sells))
     (make (eq-eqb (length buys) (length buys) refl) (eq-eqb (length sells) (length sells) refl)))
@@ -100,21 +100,21 @@ low-some base tick p b t h =
 pub now-priced : (s : Session) → Valid (s .settings) → Priced (s .settings .base) (s .settings .tick) (percentNow s)
 now-priced s v =
     record {
-      base-small = v .base-small;
-      tick-some = v .tick-some;
-      tick-small = v .tick-small;
-      percent-small = percent-small (slabOf (s .settings .category)) (s .widened) (row-small (s .settings .category));
+      base-small = v .in-range .base-small;
+      tick-some = v .in-range .tick-some;
+      tick-small = v .in-range .tick-small;
+      percent-small = percent-small (slabOf (s .settings .category)) (s .clock .widened) (row-small (s .settings .category));
     }
 
-pub each-tradable : (s : Session) (fs : List Order) → Valid (s .settings) → Each (OrderFits (s .given) (s .settings .tick) (bandNow s)) fs →
+pub each-tradable : (s : Session) (fs : List Order) → Valid (s .settings) → Each (OrderFits (s .live .given) (s .settings .tick) (bandNow s)) fs →
     Each (Tradable (s .settings .tick)) fs
 each-tradable s fs v e =
     let g : Settings = s .settings in
     let p : ℕ = percentNow s in
     let fits : Priced (g .base) (g .tick) p = now-priced s v in
-    let low : 1 ≤ lowAt (g .base) (g .tick) p = low-some (g .base) (g .tick) p (v .base-some) (v .tick-some) (fits .percent-small) in
+    let low : 1 ≤ lowAt (g .base) (g .tick) p = low-some (g .base) (g .tick) p (v .in-range .base-some) (v .in-range .tick-some) (fits .percent-small) in
     let high : highAt (g .base) (g .tick) p ≤ priceMost = omega (arith, high-small fits) in
-    each-map (OrderFits (s .given) (g .tick) (bandNow s)) (Tradable (g .tick))
+    each-map (OrderFits (s .live .given) (g .tick) (bandNow s)) (Tradable (g .tick))
     (λ o f. let i = between-facts (lowAt (g .base) (g .tick) p) (o .price) (highAt (g .base) (g .tick) p) (f .banded) in record {
       price-some = omega (arith, i .0, low);
       price-small = omega (arith, i .1, high);
@@ -136,12 +136,12 @@ opened-parts : (g : Settings) → settingsValid g ≡ true → Parts (openedSess
 unfolding openedSession every
 opened-parts g h =
     let v : Valid g = valid-facts g h in
-    let r = theoreticalOr-range (g .base) (g .under) (g .days) (v .base-some) (omega (arith, v .base-small)) (v .under-small) (v .days-small) in
+    let r = theoreticalOr-range (g .base) (g .under) (g .days) (v .in-range .base-some) (omega (arith, v .in-range .base-small)) (v .in-range .under-small) (v .in-range .days-small) in
     record {
       valid = h;
       timed = record {
         most = omega arith;
-        until = lt-ltb 0 (g .length) (omega (arith, v .length-long));
+        until = lt-ltb 0 (g .length) (omega (arith, v .in-range .length-long));
         once = omega arith;
         initial = refl;
         ends = omega arith;
@@ -149,7 +149,7 @@ opened-parts g h =
       numbered = record {
         reference-some = r .0;
         reference-small = r .1;
-        under-small = v .under-small;
+        under-small = v .in-range .under-small;
         given-small = omega arith;
         trades-small = omega arith;
       };
@@ -181,5 +181,5 @@ refused-unsound g r e =
 
 -- "one fixed session, broad, open, every number zero, which is not sound", whatever lies in the tables
 pub fixed-unsound : (buys sells : List ℕ) → sound (dayIn fixedSession buys sells) ≡ false
-unfolding sound sessionSound clockSound settingsValid settingsRanged fixedSession _⊓_
+unfolding soundBy sessionSound clockSound settingsValid settingsRanged fixedSession _⊓_
 fixed-unsound buys sells = refl

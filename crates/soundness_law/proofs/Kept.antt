@@ -78,17 +78,17 @@ timed-clock length time t closed widened cooling h m u k =
     or-zero : (w : ℕ) → (eqb (w + 1) 0 || true) ≡ true
     or-zero w = cases (eqb (w + 1) 0) (λ e. rw e) (λ e. rw e)
 
-pub clock-kept : (s : Session) (t : ℕ) → s .time ≤ t → t ≤ timeMost → (s .closed || ltb t (s .settings .length)) ≡ true → Parts s →
+pub clock-kept : (s : Session) (t : ℕ) → s .clock .time ≤ t → t ≤ timeMost → (s .clock .closed || ltb t (s .settings .length)) ≡ true → Parts s →
     Parts (clockStep s t)
 unfolding clockStep reckoned
 clock-kept s t h m u p =
     let n = p .numbered in
-    let r : Reckoned (s .tape .trades) (reckoned (s .reckoning) (s .under) (s .settings .days) (s .time) t) =
-    boundaries-kept (s .tape .trades) (s .under) (s .settings .days) (n .under-small) (valid-facts (s .settings) (p .valid) .days-small)
-    (crossed (s .time) t) (s .reckoning) (record { some = n .reference-some; small = n .reference-small; minuted = p .minuted }) in
+    let r : Reckoned (s .tape .trades) (reckoned (s .reckoning) (s .clock .under) (s .settings .days) (s .clock .time) t) =
+    boundaries-kept (s .tape .trades) (s .clock .under) (s .settings .days) (n .under-small) (valid-facts (s .settings) (p .valid) .in-range .days-small)
+    (crossed (s .clock .time) t) (s .reckoning) (record { some = n .reference-some; small = n .reference-small; minuted = p .minuted }) in
     record {
       valid = p .valid;
-      timed = timed-clock (s .settings .length) (s .time) t (s .closed) (s .widened) (s .cooling) h m u (p .timed);
+      timed = timed-clock (s .settings .length) (s .clock .time) t (s .clock .closed) (s .clock .widened) (s .clock .cooling) h m u (p .timed);
       numbered = record {
         reference-some = r .some;
         reference-small = r .small;
@@ -187,7 +187,7 @@ trade-kept s f few fit p =
     let trades : ℕ = s .tape .trades in
     record {
       valid = p .valid;
-      timed = timed-trade (s .settings .length) (s .time) (s .closed) (s .widened) (s .cooling) (bandNow s) (f .price) (p .timed);
+      timed = timed-trade (s .settings .length) (s .clock .time) (s .clock .closed) (s .clock .widened) (s .clock .cooling) (bandNow s) (f .price) (p .timed);
       numbered = record {
         reference-some = n .reference-some;
         reference-small = n .reference-small;
@@ -195,7 +195,7 @@ trade-kept s f few fit p =
         given-small = n .given-small;
         trades-small = omega arith;
       };
-      halved = half-late tick trades (f .price) (f .lots) (inHalfHour (s .settings .length) (s .time)) (s .tape .half)
+      halved = half-late tick trades (f .price) (f .lots) (inHalfHour (s .settings .length) (s .clock .time)) (s .tape .half)
           (tick-below tick (f .price) (fit .price-some) (fit .ticked)) (fit .price-small) (fit .lots-some) (fit .lots-small) (p .halved);
       minuted = omega (arith, m .few, m .sum-some, m .sum-small, fit .price-some, fit .price-small);
       remembered = record {
@@ -249,7 +249,7 @@ under-kept s u h p =
       remembered = p .remembered;
     }
 
-pub closed-kept : (s : Session) (t : ℕ) → s .time ≤ t → t ≤ timeMost → Parts s → Parts (setClosed (setTime s t) true)
+pub closed-kept : (s : Session) (t : ℕ) → s .clock .time ≤ t → t ≤ timeMost → Parts s → Parts (setClosed (setTime s t) true)
 closed-kept s t h m p =
     let k = p .timed in
     record {

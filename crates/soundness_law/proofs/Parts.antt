@@ -7,7 +7,7 @@ use mathlib.Core.List.{List}
 use borrow.Author.Tests.{leb-true, le-leb}
 use lib.Dec.{ltb, eqb}
 use lib.ListN.{take}
-use Rattle.terms.specs.Sizes.{slots, priceMost, lotsMost, numbersMost, tradesMost, timeMost}
+use Rattle.terms.specs.Sizes.{slots, priceMost, lotsMost, numbersMost, tradesMost, timeMost, sizes}
 use Rattle.terms.specs.Numbers.{isLots}
 use Rattle.terms.specs.Settings.{settingsValid}
 use Rattle.terms.proofs.Logic.{both, make, between-facts, between-make}
@@ -54,29 +54,29 @@ pub record Remembered (tick trades : ℕ) (prices sizes : List ℕ) : Type 0 whe
 -- all of them: the numbers of a session, but for its live counts
 pub record Parts (s : Session) : Type 0 where
   pub valid : settingsValid (s .settings) ≡ true
-  pub timed : Timed (s .settings .length) (s .time) (s .closed) (s .widened) (s .cooling)
-  pub numbered : Numbered (s .reckoning .reference) (s .under) (s .given) (s .tape .trades)
+  pub timed : Timed (s .settings .length) (s .clock .time) (s .clock .closed) (s .clock .widened) (s .clock .cooling)
+  pub numbered : Numbered (s .reckoning .reference) (s .clock .under) (s .live .given) (s .tape .trades)
   pub halved : Halved (s .settings .tick) (s .tape .trades) (s .tape .half)
   pub minuted : Minuted (s .tape .trades) (s .reckoning .minute)
   pub remembered : Remembered (s .settings .tick) (s .tape .trades) (s .tape .prices) (s .tape .sizes)
 
 -- ---- from the tests
 
-clock-timed : (s : Session) → timeSound s ≡ true → slabSound s ≡ true → Timed (s .settings .length) (s .time) (s .closed) (s .widened) (s .cooling)
+clock-timed : (s : Session) → timeSound s ≡ true → slabSound s ≡ true → Timed (s .settings .length) (s .clock .time) (s .clock .closed) (s .clock .widened) (s .clock .cooling)
 unfolding timeSound slabSound
 clock-timed s t h =
     let time = both t in
     let slab = both h in
     let first = both (slab .0) in
     record {
-      most = leb-true (s .time) timeMost (time .0);
+      most = leb-true (s .clock .time) timeMost (time .0);
       until = time .1;
-      once = leb-true (s .widened) 1 (first .0);
+      once = leb-true (s .clock .widened) 1 (first .0);
       initial = first .1;
-      ends = leb-true (s .cooling) (s .time + coolingLength) (slab .1);
+      ends = leb-true (s .clock .cooling) (s .clock .time + coolingLength) (slab .1);
     }
 
-clock-numbered : (s : Session) → numbersSound s ≡ true → Numbered (s .reckoning .reference) (s .under) (s .given) (s .tape .trades)
+clock-numbered : (s : Session) → numbersSound sizes s ≡ true → Numbered (s .reckoning .reference) (s .clock .under) (s .live .given) (s .tape .trades)
 unfolding numbersSound
 clock-numbered s h =
     let trades = both h in
@@ -86,12 +86,12 @@ clock-numbered s h =
     record {
       reference-some = reference .0;
       reference-small = reference .1;
-      under-small = leb-true (s .under) priceMost (under .1);
-      given-small = leb-true (s .given) numbersMost (given .1);
+      under-small = leb-true (s .clock .under) priceMost (under .1);
+      given-small = leb-true (s .live .given) numbersMost (given .1);
       trades-small = leb-true (s .tape .trades) tradesMost (trades .1);
     }
 
-tape-halved : (tick trades : ℕ) (h : Tally) → halfSound tick trades h ≡ true → Halved tick trades h
+tape-halved : (tick trades : ℕ) (h : Tally) → halfSound tick priceMost trades h ≡ true → Halved tick trades h
 unfolding halfSound
 tape-halved tick trades h e =
     let value = both e in
@@ -113,7 +113,7 @@ tape-minuted trades m e =
     let s = between-facts (m .count) (m .sum) (priceMost * m .count) (sum .1) in
     record { few = leb-true (m .count) trades (sum .0); sum-some = s .0; sum-small = s .1 }
 
-pub parts-of : (s : Session) → sessionSound s ≡ true → Parts s
+pub parts-of : (s : Session) → sessionSound sizes s ≡ true → Parts s
 unfolding sessionSound clockSound tapeSound rememberedSound
 parts-of s h =
     let whole = both h in
@@ -135,20 +135,20 @@ parts-of s h =
 
 -- ---- and into them
 
-clock-made : (s : Session) → Parts s → s .buys ≤ slots → s .sells ≤ slots → clockSound s ≡ true
+clock-made : (s : Session) → Parts s → s .live .buys ≤ slots → s .live .sells ≤ slots → clockSound sizes s ≡ true
 unfolding clockSound timeSound countsSound slabSound numbersSound
 clock-made s p buys sells =
     let t = p .timed in
     let n = p .numbered in
     make (make (make (make
     (p .valid)
-    (make (le-leb (s .time) timeMost (t .most)) (t .until)))
-    (make (le-leb (s .buys) slots buys) (le-leb (s .sells) slots sells)))
-    (make (make (le-leb (s .widened) 1 (t .once)) (t .initial)) (le-leb (s .cooling) (s .time + coolingLength) (t .ends))))
+    (make (le-leb (s .clock .time) timeMost (t .most)) (t .until)))
+    (make (le-leb (s .live .buys) slots buys) (le-leb (s .live .sells) slots sells)))
+    (make (make (le-leb (s .clock .widened) 1 (t .once)) (t .initial)) (le-leb (s .clock .cooling) (s .clock .time + coolingLength) (t .ends))))
     (make (make (make
     (between-make 1 (s .reckoning .reference) referenceMost (n .reference-some) (n .reference-small))
-    (le-leb (s .under) priceMost (n .under-small)))
-    (le-leb (s .given) numbersMost (n .given-small)))
+    (le-leb (s .clock .under) priceMost (n .under-small)))
+    (le-leb (s .live .given) numbersMost (n .given-small)))
     (le-leb (s .tape .trades) tradesMost (n .trades-small)))
 
 tape-made : (s : Session) → Parts s → tapeSound s ≡ true
@@ -168,6 +168,6 @@ tape-made s p =
     (between-make (minute .count) (minute .sum) (priceMost * minute .count) (m .sum-some) (m .sum-small))))
     (make (p .remembered .priced) (p .remembered .sized))
 
-pub parts-made : (s : Session) → Parts s → s .buys ≤ slots → s .sells ≤ slots → sessionSound s ≡ true
+pub parts-made : (s : Session) → Parts s → s .live .buys ≤ slots → s .live .sells ≤ slots → sessionSound sizes s ≡ true
 unfolding sessionSound
 parts-made s p buys sells = make (clock-made s p buys sells) (tape-made s p)

@@ -31,18 +31,18 @@ fn cooling_by(cooling: u64, t: u64) -> u64
 
 // The session at the time of an event that is not before it.
 pub fn step(s: Session, t: u64) -> Session
-    requires { ⌜ Clocked s × (s .time ≤ t) ⌝ }
+    requires { ⌜ Clocked s × (s .clock .time ≤ t) ⌝ }
     ensures { λ r. ⌜ r ≡ clockStep s t ⌝ }
 {
     let old = s.reckoning;
-    let cooling = s.cooling;
-    let widened = widened_by(s.widened, cooling, t);
+    let cooling = s.clock.cooling;
+    let widened = widened_by(s.clock.widened, cooling, t);
     let ends = cooling_by(cooling, t);
-    let reckoning = reference::reckon(old, s.under, s.settings.days, s.time, t);
+    let reckoning = reference::reckon(old, s.clock.under, s.settings.days, s.clock.time, t);
     let mut r = s;
-    r.time = t;
-    r.widened = widened;
-    r.cooling = ends;
+    r.clock.time = t;
+    r.clock.widened = widened;
+    r.clock.cooling = ends;
     r.reckoning = reckoning;
     r
 }
@@ -55,7 +55,7 @@ pub fn band_at(s: Session, t: u64) -> Band
     let g = s.settings;
     let category = g.category;
     let slab = slabs::slab_of(category);
-    let widened = widened_by(s.widened, s.cooling, t);
+    let widened = widened_by(s.clock.widened, s.clock.cooling, t);
     let percent = slabs::percent_of(slab, widened);
     slabs::band_at(g.base, g.tick, percent)
 }

@@ -8,6 +8,7 @@ use terms::Band;
 ghost use mathlib.Core.Path.{_≡_};
 ghost use Prim.Native.Nat.{_+_, _≤_};
 ghost use Rattle.rules_law.specs.Slabs.{slabOf, percentMost, bandMost};
+ghost use Rattle.rules_law.specs.Reference.{rangeEnds};
 ghost use Rattle.state_law.specs.Now.{Clocked, percentNow, bandNow, rangeNow};
 
 // The percents of the session's category.
@@ -25,7 +26,7 @@ pub fn band_now(s: Session) -> Band
     ensures { λ r. ⌜ (r ≡ bandNow s) × (r .high ≤ bandMost) ⌝ }
 {
     let slab = slab_in(s);
-    let percent = slabs::percent_of(slab, s.widened);
+    let percent = slabs::percent_of(slab, s.clock.widened);
     slabs::band_at(s.settings.base, s.settings.tick, percent)
 }
 
@@ -34,7 +35,7 @@ pub fn percent_now(s: Session) -> u64
     ensures { λ r. ⌜ r ≡ percentNow s ⌝ }
 {
     let slab = slab_in(s);
-    slabs::percent_of(slab, s.widened)
+    slabs::percent_of(slab, s.clock.widened)
 }
 
 // The range that trades must be in.
@@ -43,4 +44,13 @@ pub fn range_now(s: Session) -> Range
 {
     let slab = slab_in(s);
     reference::range_of(slab, s.reckoning.reference)
+}
+
+// Both ends of that range.
+pub fn ends_now(s: Session) -> Band
+    requires { ⌜ Clocked s ⌝ }
+    ensures { λ r. ⌜ r ≡ rangeEnds (rangeNow s) ⌝ }
+{
+    let range = range_now(s);
+    reference::range_ends(range)
 }

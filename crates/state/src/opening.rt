@@ -1,7 +1,10 @@
 // The opening of a session.
 use rules::reference;
+use rules_law::Reckoning;
 use rules_law::Tally;
 use rules_law::Tape;
+use state_law::Dial;
+use state_law::Live;
 use state_law::Opened;
 use state_law::Session;
 use terms::Category;
@@ -11,7 +14,7 @@ use terms::judge;
 ghost use mathlib.Core.Path.{_≡_};
 ghost use Rattle.terms.specs.Settings.{Valid};
 ghost use Rattle.rules_law.specs.Close.{blankTape};
-ghost use Rattle.state_law.specs.Opening.{openedSession, fixedSession, openingOf};
+ghost use Rattle.state_law.specs.Opening.{atOpen, openedSession, fixedSession, openingOf};
 
 // A tape before any trade.
 fn blank() -> Tape
@@ -32,28 +35,40 @@ fn blank() -> Tape
     }
 }
 
+// A session at time 0 with no order, no trade and the initial band.
+fn at_open(g: Settings, reckoning: Reckoning) -> Session
+    ensures { λ r. ⌜ r ≡ atOpen g reckoning ⌝ }
+{
+    let clock = Dial {
+        time: 0,
+        closed: false,
+        widened: 0,
+        cooling: 0,
+        under: g.under,
+    };
+    let live = Live {
+        buys: 0,
+        sells: 0,
+        given: 0,
+    };
+    let tape = blank();
+    Session {
+        settings: g,
+        clock: clock,
+        live: live,
+        reckoning: reckoning,
+        tape: tape,
+    }
+}
+
 // The session that valid settings open.
 fn opened(g: Settings) -> Session
     requires { ⌜ Valid g ⌝ }
     ensures { λ r. ⌜ r ≡ openedSession g ⌝ }
 {
-    let under = g.under;
-    let price = reference::theoretical_or(g.base, under, g.days);
+    let price = reference::theoretical_or(g.base, g.under, g.days);
     let reckoning = reference::begun(price);
-    let tape = blank();
-    Session {
-        settings: g,
-        time: 0,
-        closed: false,
-        buys: 0,
-        sells: 0,
-        widened: 0,
-        cooling: 0,
-        reckoning: reckoning,
-        under: under,
-        given: 0,
-        tape: tape,
-    }
+    at_open(g, reckoning)
 }
 
 // The one session that a refused opening answers with: broad, open, every number zero. It is not sound.
@@ -71,20 +86,7 @@ pub fn fixed() -> Session
         under: 0,
     };
     let reckoning = reference::begun(0);
-    let tape = blank();
-    Session {
-        settings: settings,
-        time: 0,
-        closed: false,
-        buys: 0,
-        sells: 0,
-        widened: 0,
-        cooling: 0,
-        reckoning: reckoning,
-        under: 0,
-        given: 0,
-        tape: tape,
-    }
+    at_open(settings, reckoning)
 }
 
 // Opens a session, or refuses the settings by 12 or 13. It touches no table.

@@ -18,16 +18,16 @@ pub fn with_trade(s: Session, band: Band, price: u64, lots: u64) -> Session
 {
     let minute = s.reckoning.minute;
     let tape = s.tape;
-    let late = close::in_half_hour(s.settings.length, s.time);
+    let late = close::in_half_hour(s.settings.length, s.clock.time);
     let after = close::tape_after(tape, late, price, lots);
     let running = reference::minute_after(minute, price);
-    let cooling = slabs::cooling_after(s.widened, s.cooling, s.time, band, price);
+    let cooling = slabs::cooling_after(s.clock.widened, s.clock.cooling, s.clock.time, band, price);
     let reckoning = Reckoning {
         reference: s.reckoning.reference,
         minute: running,
     };
     let mut r = s;
-    r.cooling = cooling;
+    r.clock.cooling = cooling;
     r.reckoning = reckoning;
     r.tape = after;
     r

@@ -20,17 +20,17 @@ use Rattle.state_law.specs.Opening.{openedSession, fixedSession, openedB
 
 pub record Begun (s : Session) : Type 0 where
   -- so the first order has number 1
-  pub none-given : s .given ≡ 0
+  pub none-given : s .live .given ≡ 0
   -- so no band is widened before a trade begins a cooling-off
-  pub not-cooling : s .cooling ≡ 0
+  pub not-cooling : s .clock .cooling ≡ 0
   -- "It starts at the initial percent."
   pub initial : bandNow s ≡ bandAt (s .settings .base) (s .settings .tick) (slabOf (s .settings .category) .initial)
   -- "The opening reference is the theoretical price, or the base where the underlying is 0."
   pub reference : s .reckoning .reference ≡ openingReference (s .settings .base) (s .settings .under) (s .settings .days)
-  pub underlying : s .under ≡ s .settings .under
-  pub goes-on : s .closed ≡ false
+  pub underlying : s .clock .under ≡ s .settings .under
+  pub goes-on : s .clock .closed ≡ false
   -- no time has passed, no trade is made and no order rests
-  pub empty : s .time ∷ s .reckoning .minute .count ∷ s .tape .trades ∷ s .tape .half .count ∷ s .buys ∷ s .sells ∷ [] ≡ replicate 6 0
+  pub empty : s .clock .time ∷ s .reckoning .minute .count ∷ s .tape .trades ∷ s .tape .half .count ∷ s .live .buys ∷ s .live .sells ∷ [] ≡ replicate 6 0
 
 pub opened-settings : (g : Settings) → openedSession g .settings ≡ g
 unfolding openedSession
@@ -68,9 +68,9 @@ inTape t = t .trades ∷ t .half .count ∷ t .half .lots ∷ t .half .value ∷
 abbrev inSession : Session → List ℕ
 inSession s =
     inSettings (s .settings)
-    ++ (s .time ∷ s .buys ∷ s .sells ∷ s .widened ∷ s .cooling ∷ s .under ∷ s .given ∷ [])
+    ++ (s .clock .time ∷ s .live .buys ∷ s .live .sells ∷ s .clock .widened ∷ s .clock .cooling ∷ s .clock .under ∷ s .live .given ∷ [])
     ++ (inReckoning (s .reckoning) ++ inTape (s .tape))
 
-pub fixed-zero : (inSession fixedSession ≡ replicate 42 0) × (fixedSession .closed ≡ false)
+pub fixed-zero : (inSession fixedSession ≡ replicate 42 0) × (fixedSession .clock .closed ≡ false)
 unfolding fixedSession
 fixed-zero = (refl, refl)

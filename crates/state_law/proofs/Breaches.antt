@@ -18,38 +18,38 @@ fifteenMinutes = 15 * 60 * 1000
 
 -- ---- the clock steps of a session in the initial slab
 
-module _ (s : Session) (t : ℕ) (initial : s .widened ≡ 0) where
+module _ (s : Session) (t : ℕ) (initial : s .clock .widened ≡ 0) where
   -- where a cooling-off is over, "the percent becomes initial plus enhanced", and none runs any more
-  pub over-widens : overBy (s .cooling) t ≡ true →
-      (percentNow (clockStep s t) ≡ slabOf (s .settings .category) .initial + slabOf (s .settings .category) .enhanced) × (clockStep s t .cooling ≡ 0)
+  pub over-widens : overBy (s .clock .cooling) t ≡ true →
+      (percentNow (clockStep s t) ≡ slabOf (s .settings .category) .initial + slabOf (s .settings .category) .enhanced) × (clockStep s t .clock .cooling ≡ 0)
   unfolding clockStep widenedBy coolingBy percentOf
   over-widens e = (rw (e, initial), rw e)
 
   -- else it stays
-  pub not-over-stays : overBy (s .cooling) t ≡ false → percentNow (clockStep s t) ≡ slabOf (s .settings .category) .initial
+  pub not-over-stays : overBy (s .clock .cooling) t ≡ false → percentNow (clockStep s t) ≡ slabOf (s .settings .category) .initial
   unfolding clockStep widenedBy percentOf
   not-over-stays e = rw (e, initial)
 
 -- ---- a breach: in the initial slab, with no cooling-off running, a trade of any lots at either end of the band
 
-module _ (s : Session) (price lots : ℕ) (initial : s .widened ≡ 0) (none : s .cooling ≡ 0) (breach : touches (bandNow s) price ≡ true) where
+module _ (s : Session) (price lots : ℕ) (initial : s .clock .widened ≡ 0) (none : s .clock .cooling ≡ 0) (breach : touches (bandNow s) price ≡ true) where
   -- it starts a cooling-off of fifteen minutes,
-  pub breach-cools : withTrade s price lots .cooling ≡ s .time + fifteenMinutes
+  pub breach-cools : withTrade s price lots .clock .cooling ≡ s .clock .time + fifteenMinutes
   unfolding withTrade
   breach-cools =
-      starts (s .widened) (s .cooling) (s .time) (bandNow s) price
-      (join _ _ (eq-eqb (s .widened) 0 initial) (join _ _ (eq-eqb (s .cooling) 0 none) breach))
+      starts (s .clock .widened) (s .clock .cooling) (s .clock .time) (bandNow s) price
+      (join _ _ (eq-eqb (s .clock .widened) 0 initial) (join _ _ (eq-eqb (s .clock .cooling) 0 none) breach))
 
   -- at whose end, or at the first event after it, the band is widened,
-  pub breach-widens : (t : ℕ) → s .time + fifteenMinutes ≤ t →
+  pub breach-widens : (t : ℕ) → s .clock .time + fifteenMinutes ≤ t →
       percentNow (clockStep (withTrade s price lots) t) ≡ slabOf (s .settings .category) .initial + slabOf (s .settings .category) .enhanced
   unfolding withTrade
   breach-widens t h =
       over-widens (withTrade s price lots) t initial
-      (over-from (withTrade s price lots .cooling) t (omega (arith, breach-cools)) (omega (arith, breach-cools))) .0
+      (over-from (withTrade s price lots .clock .cooling) t (omega (arith, breach-cools)) (omega (arith, breach-cools))) .0
 
   -- and no sooner
-  pub breach-waits : (t : ℕ) → t < s .time + fifteenMinutes →
+  pub breach-waits : (t : ℕ) → t < s .clock .time + fifteenMinutes →
       percentNow (clockStep (withTrade s price lots) t) ≡ slabOf (s .settings .category) .initial
   unfolding withTrade
-  breach-waits t h = not-over-stays (withTrade s price lots) t initial (over-before (withTrade s price lots .cooling) t (omega (arith, breach-cools)))
+  breach-waits t h = not-over-stays (withTrade s price lots) t initial (over-before (withTrade s price lots .clock .cooling) t (omega (arith, breach-cools)))

@@ -27,21 +27,21 @@ unfolding withTrade minuteAfter
 once-in-the-minute s price lots = (refl, refl)
 
 -- by its lots in the half hour, if half an hour after it the day is at its length or past it;
-pub late-trade : (s : Session) (price lots : ℕ) → s .settings .length ≤ s .time + 30 * 60 * 1000 →
+pub late-trade : (s : Session) (price lots : ℕ) → s .settings .length ≤ s .clock .time + 30 * 60 * 1000 →
     withTrade s price lots .tape .half ≡ tallied (s .tape .half) price lots
 unfolding withTrade tapeAfter tallied
-late-trade s price lots h = rw (last-half-hour (s .settings .length) (s .time), le-leb (s .settings .length) (s .time + 30 * 60 * 1000) h)
+late-trade s price lots h = rw (last-half-hour (s .settings .length) (s .clock .time), le-leb (s .settings .length) (s .clock .time + 30 * 60 * 1000) h)
 
 -- before that it does not count there
-pub early-trade : (s : Session) (price lots : ℕ) → s .time + 30 * 60 * 1000 < s .settings .length →
+pub early-trade : (s : Session) (price lots : ℕ) → s .clock .time + 30 * 60 * 1000 < s .settings .length →
     withTrade s price lots .tape .half ≡ s .tape .half
 unfolding withTrade tapeAfter
-early-trade s price lots h = rw (last-half-hour (s .settings .length) (s .time), lt-leb (s .settings .length) (s .time + 30 * 60 * 1000) h)
+early-trade s price lots h = rw (last-half-hour (s .settings .length) (s .clock .time), lt-leb (s .settings .length) (s .clock .time + 30 * 60 * 1000) h)
 
 -- and it is the last trade
 pub last-traded : (other : ℕ) (s : Session) (price lots : ℕ) → Ten s → lastOr other (withTrade s price lots .tape) ≡ price
 unfolding withTrade
-last-traded other s price lots ten = last-newest other (s .tape) (inHalfHour (s .settings .length) (s .time)) price lots (ten .prices)
+last-traded other s price lots ten = last-newest other (s .tape) (inHalfHour (s .settings .length) (s .clock .time)) price lots (ten .prices)
 
 -- trades are made in their order
 pub trades-append : (s : Session) (xs ys : List Order) → withTrades s (xs ++ ys) ≡ withTrades (withTrades s xs) ys
@@ -53,21 +53,21 @@ trades-append s (x ∷ xs) ys = trades-append (withTrade s (x .price) (x .lots))
 
 module _ (s : Session) (t : ℕ) where
   -- no boundary: it stays
-  pub minute-runs : crossed (s .time) t ≡ 0 → clockStep s t .reckoning ≡ s .reckoning
+  pub minute-runs : crossed (s .clock .time) t ≡ 0 → clockStep s t .reckoning ≡ s .reckoning
   unfolding clockStep
-  minute-runs e = sym (reckon-none (s .reckoning) (s .under) (s .settings .days) (s .time) t e)
+  minute-runs e = sym (reckon-none (s .reckoning) (s .clock .under) (s .settings .days) (s .clock .time) t e)
 
   -- the boundary of a minute with trades: "the plain average of their prices, rounded down"
-  pub minute-averaged : crossed (s .time) t ≡ 1 → 1 ≤ s .reckoning .minute .count →
+  pub minute-averaged : crossed (s .clock .time) t ≡ 1 → 1 ≤ s .reckoning .minute .count →
       RoundedDown (s .reckoning .minute .sum) (s .reckoning .minute .count) (clockStep s t .reckoning .reference)
   unfolding clockStep reckoned boundaries
-  minute-averaged e some = rw e (average-down (s .under) (s .settings .days) (s .reckoning) some)
+  minute-averaged e some = rw e (average-down (s .clock .under) (s .settings .days) (s .reckoning) some)
 
   -- any boundaries without trades: "if an underlying is known, the theoretical price"
-  pub minutes-quiet : (crossed (s .time) t ≡ 0 → ⊥) → s .reckoning .minute .count ≡ 0 → 1 ≤ s .under →
-      clockStep s t .reckoning .reference ≡ theoretical (s .under) (s .settings .days)
+  pub minutes-quiet : (crossed (s .clock .time) t ≡ 0 → ⊥) → s .reckoning .minute .count ≡ 0 → 1 ≤ s .clock .under →
+      clockStep s t .reckoning .reference ≡ theoretical (s .clock .under) (s .settings .days)
   unfolding clockStep theoreticalOr
   minutes-quiet n e some =
       ap (λ (r : Reckoning). r .reference)
-      (sym (reckon-quiet (s .reckoning) (s .under) (s .settings .days) (s .time) t (quiet (theoretical (s .under) (s .settings .days))) _ refl
-      (rw (ne-eqb (s .under) 0 (λ z. omega arith))) n e))
+      (sym (reckon-quiet (s .reckoning) (s .clock .under) (s .settings .days) (s .clock .time) t (quiet (theoretical (s .clock .under) (s .settings .days))) _ refl
+      (rw (ne-eqb (s .clock .under) 0 (λ z. omega arith))) n e))

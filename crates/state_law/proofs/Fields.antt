@@ -19,29 +19,29 @@ pub record SetsOne {A : Type 0} (get : Session → A) (change : Session → A �
   pub there : (s : Session) (v : A) → get (change s v) ≡ v
   pub else-same : (s : Session) → change s (get s) ≡ s
 
-pub sets-time : SetsOne (λ s. s .time) setTime
+pub sets-time : SetsOne (λ s. s .clock .time) setTime
 sets-time = record { there = λ s v. refl; else-same = λ s. refl }
 
-pub sets-closed : SetsOne (λ s. s .closed) setClosed
+pub sets-closed : SetsOne (λ s. s .clock .closed) setClosed
 sets-closed = record { there = λ s v. refl; else-same = λ s. refl }
 
-pub sets-buys : SetsOne (λ s. s .buys) setBuys
+pub sets-buys : SetsOne (λ s. s .live .buys) setBuys
 sets-buys = record { there = λ s v. refl; else-same = λ s. refl }
 
-pub sets-sells : SetsOne (λ s. s .sells) setSells
+pub sets-sells : SetsOne (λ s. s .live .sells) setSells
 sets-sells = record { there = λ s v. refl; else-same = λ s. refl }
 
-pub sets-under : SetsOne (λ s. s .under) setUnder
+pub sets-under : SetsOne (λ s. s .clock .under) setUnder
 sets-under = record { there = λ s v. refl; else-same = λ s. refl }
 
-pub sets-given : SetsOne (λ s. s .given) setGiven
+pub sets-given : SetsOne (λ s. s .live .given) setGiven
 sets-given = record { there = λ s v. refl; else-same = λ s. refl }
 
 -- ---- days
 
 -- the live counts are those of the orders
 pub live-counts : (s : Session) (buys sells : List Order) →
-    (dayOf s buys sells .session .buys ≡ length buys) × (dayOf s buys sells .session .sells ≡ length sells)
+    (dayOf s buys sells .session .live .buys ≡ length buys) × (dayOf s buys sells .session .live .sells ≡ length sells)
 live-counts s buys sells = (refl, refl)
 
 -- the buys are a buy's own, the sells are across from it; and the other way round

@@ -1,15 +1,17 @@
--- A trade leaves room for one trade less, and the band as it was.
+-- A trade leaves room for one trade less, and the band as it was. The range of a session within bounds is within its own.
 use Prim.Native.Nat.{ℕ, _+_, _*_, _≤_}
 use native.Mathlib.Omega.{arith}
 use native.Mathlib.Nat.{mul-le-mul-right}
 use mathlib.Core.Path.{_≡_, refl}
 use mathlib.Core.Bool.{Bool, true, false}
 use Rattle.terms.specs.Sizes.{priceMost, lotsMost, tradesMost}
+use Rattle.rules_law.specs.declared.Range.{Range}
 use Rattle.rules_law.specs.declared.Tally.{Tally}
-use Rattle.rules_law.specs.Reference.{minuteAfter}
+use Rattle.rules_law.specs.Reference.{minuteAfter, RangeFits}
 use Rattle.rules_law.specs.Close.{inHalfHour, tallied, halfAfter, tapeAfter, TallyFits}
+use Rattle.rules_law.proofs.Rows.{row-small}
 use Rattle.state_law.specs.declared.Session.{Session}
-use Rattle.state_law.specs.Now.{bandNow}
+use Rattle.state_law.specs.Now.{Clocked, bandNow, rangeNow}
 use Rattle.state_law.specs.Trades.{withTrade, TradesFit}
 
 pub record HalfFits (h : Tally) (more : ℕ) : Type 0 where
@@ -24,9 +26,12 @@ half-after false h more price lots f c p l m = omega arith
 pub fits-after : (s : Session) (more price lots : ℕ) → TradesFit s (more + 1) → price ≤ priceMost → 1 ≤ lots → lots ≤ lotsMost → TradesFit (withTrade s price lots) more
 unfolding withTrade tapeAfter minuteAfter
 fits-after s more price lots f p l m =
-    let h = half-after (inHalfHour (s .settings .length) (s .time)) (s .tape .half) more price lots (f .half-fits) (f .half-few) p l m in
+    let h = half-after (inHalfHour (s .settings .length) (s .clock .time)) (s .tape .half) more price lots (f .half-fits) (f .half-few) p l m in
     omega arith
 
 pub band-kept : (s : Session) (price lots : ℕ) → bandNow (withTrade s price lots) ≡ bandNow s
 unfolding withTrade
 band-kept s price lots = refl
+
+pub range-fits : (s : Session) (r : Range) → Clocked s → r ≡ rangeNow s → RangeFits r
+range-fits s r c e = rw e (record { percent-small = omega (arith, row-small (s .settings .category)); reference-small = c .reference-small })

@@ -16,12 +16,12 @@ use Rattle.state_law.specs.Trades.{withTrade, withTrades}
 -- ---- the clock steps: they move the time, the slab and the reference, and leave all else
 
 pub record Stepped (s : Session) (t : ℕ) (s′ : Session) : Type 0 where
-  pub time : s′ .time ≡ t
+  pub time : s′ .clock .time ≡ t
   pub settings : s′ .settings ≡ s .settings
-  pub closed : s′ .closed ≡ s .closed
-  pub live : (s′ .buys ≡ s .buys) × (s′ .sells ≡ s .sells)
-  pub underlying : s′ .under ≡ s .under
-  pub given : s′ .given ≡ s .given
+  pub closed : s′ .clock .closed ≡ s .clock .closed
+  pub live : (s′ .live .buys ≡ s .live .buys) × (s′ .live .sells ≡ s .live .sells)
+  pub underlying : s′ .clock .under ≡ s .clock .under
+  pub given : s′ .live .given ≡ s .live .given
   pub tape : s′ .tape ≡ s .tape
 
 pub clock-leaves : (s : Session) (t : ℕ) → Stepped s t (clockStep s t)
@@ -34,24 +34,24 @@ unfolding widenedBy
 widened-same widened cooling t e = cond-false (overBy cooling t) (widened + 1) widened e
 
 -- and so the percent changes only there
-pub percent-changes : (s : Session) (t : ℕ) → not (eqb (percentNow s) (percentNow (clockStep s t))) ≡ true → overBy (s .cooling) t ≡ true
+pub percent-changes : (s : Session) (t : ℕ) → not (eqb (percentNow s) (percentNow (clockStep s t))) ≡ true → overBy (s .clock .cooling) t ≡ true
 unfolding clockStep
 percent-changes s t h =
     let p : ℕ = percentNow s in
-    cases (overBy (s .cooling) t)
+    cases (overBy (s .clock .cooling) t)
     (λ e. e)
-    (λ e. let z : not (eqb p p) ≡ true = rw (widened-same (s .widened) (s .cooling) t e) at h in
+    (λ e. let z : not (eqb p p) ≡ true = rw (widened-same (s .clock .widened) (s .clock .cooling) t e) at h in
     no-both (eqb p p) (eq-eqb p p refl) (not-true _ z))
 
 -- ---- trades: all but the cooling-off, the minute and the tape
 
 pub record Untouched (s s′ : Session) : Type 0 where
   pub settings : s′ .settings ≡ s .settings
-  pub time : s′ .time ≡ s .time
-  pub closed : s′ .closed ≡ s .closed
-  pub widened : s′ .widened ≡ s .widened
+  pub time : s′ .clock .time ≡ s .clock .time
+  pub closed : s′ .clock .closed ≡ s .clock .closed
+  pub widened : s′ .clock .widened ≡ s .clock .widened
   pub reference : s′ .reckoning .reference ≡ s .reckoning .reference
-  pub given : s′ .given ≡ s .given
+  pub given : s′ .live .given ≡ s .live .given
 
 pub trades-leave : (s : Session) (fills : List Order) → Untouched s (withTrades s fills)
 unfolding withTrades withTrade

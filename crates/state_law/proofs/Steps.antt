@@ -39,26 +39,20 @@ abbrev ticked : Session → ℕ → ℕ → ℕ → Reckoning → Session
 ticked s t widened cooling reckoning =
     record {
       settings = s .settings;
-      time = t;
-      closed = s .closed;
-      buys = s .buys;
-      sells = s .sells;
-      widened = widened;
-      cooling = cooling;
+      clock = record { time = t; closed = s .clock .closed; widened = widened; cooling = cooling; under = s .clock .under };
+      live = s .live;
       reckoning = reckoning;
-      under = s .under;
-      given = s .given;
       tape = s .tape;
     }
 
 -- TWO STEPS OF TIME ARE ONE
-pub clock-twice : (s : Session) (t u : ℕ) → s .time ≤ t → t ≤ u → clockStep (clockStep s t) u ≡ clockStep s u
+pub clock-twice : (s : Session) (t u : ℕ) → s .clock .time ≤ t → t ≤ u → clockStep (clockStep s t) u ≡ clockStep s u
 unfolding clockStep
 clock-twice s t u h k =
     λ i. ticked s u
-    (widened-twice (s .widened) (s .cooling) t u k i)
-    (cooling-twice (s .cooling) t u k i)
-    (reckoned-twice (s .reckoning) (s .under) (s .settings .days) (s .time) t u h k i)
+    (widened-twice (s .clock .widened) (s .clock .cooling) t u k i)
+    (cooling-twice (s .clock .cooling) t u k i)
+    (reckoned-twice (s .reckoning) (s .clock .under) (s .settings .days) (s .clock .time) t u h k i)
 
 -- ---- the band never narrows
 
@@ -81,5 +75,5 @@ percent-grows slab w c t =
 pub band-stays : (s : Session) (t x : ℕ) → inBand (bandNow s) x ≡ true → inBand (bandNow (clockStep s t)) x ≡ true
 unfolding clockStep
 band-stays s t x e =
-    band-grows (s .settings .base) (s .settings .tick) (percentNow s) (percentOf (slabOf (s .settings .category)) (widenedBy (s .widened) (s .cooling) t)) x
-    (percent-grows (slabOf (s .settings .category)) (s .widened) (s .cooling) t) e
+    band-grows (s .settings .base) (s .settings .tick) (percentNow s) (percentOf (slabOf (s .settings .category)) (widenedBy (s .clock .widened) (s .clock .cooling) t)) x
+    (percent-grows (slabOf (s .settings .category)) (s .clock .widened) (s .clock .cooling) t) e

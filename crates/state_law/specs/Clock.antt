@@ -3,6 +3,7 @@ use Prim.Native.Nat.{ℕ, _+_}
 use mathlib.Core.Bool.{cond}
 use Rattle.rules_law.specs.Slabs.{overBy}
 use Rattle.rules_law.specs.Reference.{reckoned}
+use Rattle.state_law.specs.declared.Dial.{Dial}
 use Rattle.state_law.specs.declared.Session.{Session}
 
 -- "At the first accepted event at or after its end, before that event acts, the percent becomes initial plus enhanced."
@@ -13,19 +14,24 @@ widenedBy widened cooling t = cond (overBy cooling t) (widened + 1) widened
 unfoldable pub coolingBy : ℕ → ℕ → ℕ
 coolingBy cooling t = cond (overBy cooling t) 0 cooling
 
+-- the clock at time t, with the slab that is then in force
+abbrev pub clockAt : Dial → ℕ → Dial
+clockAt c t =
+    record {
+      time = t;
+      closed = c .closed;
+      widened = widenedBy (c .widened) (c .cooling) t;
+      cooling = coolingBy (c .cooling) t;
+      under = c .under;
+    }
+
 -- the session at time t: the slab, then "every boundary up to and including its time"
 unfoldable pub clockStep : Session → ℕ → Session
 clockStep s t =
     record {
       settings = s .settings;
-      time = t;
-      closed = s .closed;
-      buys = s .buys;
-      sells = s .sells;
-      widened = widenedBy (s .widened) (s .cooling) t;
-      cooling = coolingBy (s .cooling) t;
-      reckoning = reckoned (s .reckoning) (s .under) (s .settings .days) (s .time) t;
-      under = s .under;
-      given = s .given;
+      clock = clockAt (s .clock) t;
+      live = s .live;
+      reckoning = reckoned (s .reckoning) (s .clock .under) (s .settings .days) (s .clock .time) t;
       tape = s .tape;
     }

@@ -1,4 +1,5 @@
 -- A day: the session with the live orders of each side, best first. All that happens to a session is said of days.
+use Prim.Native.Nat.{ℕ}
 use mathlib.Core.List.{List, []}
 use lib.ListN.{length}
 use Rattle.terms.specs.declared.Settings.{Settings}
@@ -8,6 +9,7 @@ use Rattle.terms.specs.declared.Side.the-variants.{Buy, Sell}
 use Rattle.state_law.specs.declared.Session.{Session}
 use Rattle.state_law.specs.Set.{setBuys, setSells}
 use Rattle.state_law.specs.Opening.{openedSession}
+use Rattle.state_law.specs.Clock.{clockStep}
 
 pub record Day : Type 0 where
   pub session : Session
@@ -31,6 +33,14 @@ across Sell d = d .buys
 abbrev pub dayWith : Side → Session → List Order → List Order → Day
 dayWith Buy s mine theirs = dayOf s mine theirs
 dayWith Sell s mine theirs = dayOf s theirs mine
+
+-- a day with another session
+abbrev pub dayBy : Session → Day → Day
+dayBy s d = record { session = s; buys = d .buys; sells = d .sells }
+
+-- the day at a time, after the clock steps
+abbrev pub steppedDay : Day → ℕ → Day
+steppedDay d t = dayBy (clockStep (d .session) t) d
 
 -- a day that has just begun
 abbrev pub opened : Settings → Day

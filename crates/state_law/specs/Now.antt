@@ -11,7 +11,7 @@ use Rattle.state_law.specs.declared.Session.{Session}
 
 -- "It starts at the initial percent. .. the percent becomes initial plus enhanced."
 abbrev pub percentNow : Session → ℕ
-percentNow s = percentOf (slabOf (s .settings .category)) (s .widened)
+percentNow s = percentOf (slabOf (s .settings .category)) (s .clock .widened)
 
 abbrev pub baseNow : Session → ℕ
 baseNow s = s .settings .base
@@ -27,15 +27,15 @@ rangeNow s = rangeOf (slabOf (s .settings .category)) (s .reckoning .reference)
 -- what code relies on in the numbers of a session: every sum and product that it makes stays within a word
 pub record Clocked (s : Session) : Type 0 where
   pub valid : Valid (s .settings)
-  pub time-small : s .time ≤ timeMost
-  pub buys-few : s .buys ≤ slots
-  pub sells-few : s .sells ≤ slots
-  pub widened-once : s .widened ≤ 1
-  pub cooling-near : s .cooling ≤ s .time + coolingLength
+  pub time-small : s .clock .time ≤ timeMost
+  pub buys-few : s .live .buys ≤ slots
+  pub sells-few : s .live .sells ≤ slots
+  pub widened-once : s .clock .widened ≤ 1
+  pub cooling-near : s .clock .cooling ≤ s .clock .time + coolingLength
   pub reference-some : 1 ≤ s .reckoning .reference
   pub reference-small : s .reckoning .reference ≤ referenceMost
-  pub under-small : s .under ≤ priceMost
-  pub given-small : s .given ≤ numbersMost
+  pub under-small : s .clock .under ≤ priceMost
+  pub given-small : s .live .given ≤ numbersMost
   pub trades-small : s .tape .trades ≤ tradesMost
 
 -- and in what it remembers of trades

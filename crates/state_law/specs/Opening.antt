@@ -16,15 +16,9 @@ abbrev pub atOpen : Settings → Reckoning → Session
 atOpen g reckoning =
     record {
       settings = g;
-      time = 0;
-      closed = false;
-      buys = 0;
-      sells = 0;
-      widened = 0;
-      cooling = 0;
+      clock = record { time = 0; closed = false; widened = 0; cooling = 0; under = g .under };
+      live = record { buys = 0; sells = 0; given = 0 };
       reckoning = reckoning;
-      under = g .under;
-      given = 0;
       tape = blankTape;
     }
 

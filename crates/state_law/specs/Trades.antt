@@ -7,22 +7,17 @@ use Rattle.rules_law.specs.Slabs.{coolingAfter}
 use Rattle.rules_law.specs.Reference.{minuteAfter, MinuteFits}
 use Rattle.rules_law.specs.Close.{inHalfHour, tapeAfter, TallyFits}
 use Rattle.state_law.specs.declared.Session.{Session}
+use Rattle.state_law.specs.Set.{coolingSet}
 use Rattle.state_law.specs.Now.{bandNow}
 
 unfoldable pub withTrade : Session → ℕ → ℕ → Session
 withTrade s price lots =
     record {
       settings = s .settings;
-      time = s .time;
-      closed = s .closed;
-      buys = s .buys;
-      sells = s .sells;
-      widened = s .widened;
-      cooling = coolingAfter (s .widened) (s .cooling) (s .time) (bandNow s) price;
+      clock = coolingSet (s .clock) (coolingAfter (s .clock .widened) (s .clock .cooling) (s .clock .time) (bandNow s) price);
+      live = s .live;
       reckoning = record { reference = s .reckoning .reference; minute = minuteAfter (s .reckoning .minute) price };
-      under = s .under;
-      given = s .given;
-      tape = tapeAfter (s .tape) (inHalfHour (s .settings .length) (s .time)) price lots;
+      tape = tapeAfter (s .tape) (inHalfHour (s .settings .length) (s .clock .time)) price lots;
     }
 
 -- one fill after the other
@@ -33,7 +28,7 @@ withTrades s (f ∷ fs) = withTrades (withTrade s (f .price) (f .lots)) fs
 -- so many more trades fit into a session
 pub record TradesFit (s : Session) (more : ℕ) : Type 0 where
   pub long : lengthLeast ≤ s .settings .length
-  pub time-small : s .time ≤ timeMost
+  pub time-small : s .clock .time ≤ timeMost
   pub trades-few : s .tape .trades + more ≤ tradesMost
   pub half-few : s .tape .half .count + more ≤ tradesMost
   pub minute-few : s .reckoning .minute .count + more ≤ tradesMost

@@ -7,20 +7,29 @@ use rules_law::Tape;
 use terms::Settings;
 use terms::Verdict;
 
-// Everything that is kept of a day but its live orders, which lie in the lent tables.
-// widened: how often the band has been widened; cooling: the end of the cooling-off, 0 where none runs;
-// buys, sells: live orders a side; given: order numbers given so far.
-pub struct Session {
-    pub settings: Settings,
+// What the clock's steps go by: the time of the last accepted event and whether it was the close; how often the band has been widened and
+// the end of the cooling-off, 0 where none runs; the underlying now, 0 where none is known.
+pub struct Dial {
     pub time: u64,
     pub closed: bool,
-    pub buys: u64,
-    pub sells: u64,
     pub widened: u64,
     pub cooling: u64,
-    pub reckoning: Reckoning,
     pub under: u64,
+}
+
+// The live orders of each side, and how many order numbers have been given.
+pub struct Live {
+    pub buys: u64,
+    pub sells: u64,
     pub given: u64,
+}
+
+// Everything that is kept of a day but its live orders, which lie in the lent tables.
+pub struct Session {
+    pub settings: Settings,
+    pub clock: Dial,
+    pub live: Live,
+    pub reckoning: Reckoning,
     pub tape: Tape,
 }
 

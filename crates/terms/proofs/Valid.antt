@@ -57,26 +57,9 @@ ranged-pass g r =
 pub facts : (g : Settings) → settingsRanged g ≡ true → settingsTicked g ≡ true → Valid g
 unfolding settingsTicked
 facts g h k =
-    let r = ranged g h in
     let last = both k in
     let first = both (last .0) in
-    record {
-      base-some = r .base-some;
-      base-small = r .base-small;
-      close-some = r .close-some;
-      close-small = r .close-small;
-      settle-some = r .settle-some;
-      settle-small = r .settle-small;
-      tick-some = r .tick-some;
-      tick-small = r .tick-small;
-      length-long = r .length-long;
-      length-small = r .length-small;
-      days-small = r .days-small;
-      under-small = r .under-small;
-      base-ticked = first .0;
-      close-ticked = first .1;
-      settle-ticked = last .1;
-    }
+    record { in-range = ranged g h; base-ticked = first .0; close-ticked = first .1; settle-ticked = last .1 }
 
 -- ---- "first that applies": 12, then 13
 

@@ -7,3 +7,4 @@ pub mod Reports
 pub mod Records
 pub mod Refusals
 pub mod Settings
+pub mod Options

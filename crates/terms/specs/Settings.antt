@@ -53,18 +53,7 @@ pub record Ranged (g : Settings) : Type 0 where
 
 -- what settings that 12 and 13 let pass are, as facts for those who compute with them
 pub record Valid (g : Settings) : Type 0 where
-  pub base-some : 1 ≤ g .base
-  pub base-small : g .base ≤ baseMost
-  pub close-some : 1 ≤ g .close
-  pub close-small : g .close ≤ priceMost
-  pub settle-some : 1 ≤ g .settle
-  pub settle-small : g .settle ≤ priceMost
-  pub tick-some : 1 ≤ g .tick
-  pub tick-small : g .tick ≤ tickMost
-  pub length-long : lengthLeast ≤ g .length
-  pub length-small : g .length ≤ timeMost
-  pub days-small : g .days ≤ daysMost
-  pub under-small : g .under ≤ priceMost
+  pub in-range : Ranged g
   pub base-ticked : onTick (g .tick) (g .base) ≡ true
   pub close-ticked : onTick (g .tick) (g .close) ≡ true
   pub settle-ticked : onTick (g .tick) (g .settle) ≡ true

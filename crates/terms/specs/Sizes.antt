@@ -65,3 +65,18 @@ daysMost = 366
 -- "a number above 999,999,999 to be written"
 abbrev pub writtenMost : ℕ
 writtenMost = 999999999
+
+-- the sizes that soundness and the rows of the table ask about, together: both are defined of any, so that what is said of a day by one set of
+-- sizes can be said of it by another
+pub record Sizes : Type 0 where
+  -- orders a side
+  pub side : ℕ
+  -- order numbers
+  pub numbers : ℕ
+  -- trades with which an order may still come
+  pub before : ℕ
+  -- trades in all
+  pub trades : ℕ
+
+abbrev pub sizes : Sizes
+sizes = record { side = slots; numbers = numbersMost; before = tradesBefore; trades = tradesMost }

@@ -1,5 +1,5 @@
 -- Every code is below 256.
-use Rattle.desk_answers.proofs.Codes.{code-below}
+use Rattle.desk_packing_law.proofs.Codes.{code-below}
 use borrow.Author.Needs.{needs}
 use Rattle.desk_answers.proofs.refused.Statement.{statement}
 use Rattle.desk_answers.proofs.refused.Tie as tie

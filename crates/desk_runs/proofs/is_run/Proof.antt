@@ -1,5 +1,5 @@
 -- Both tests.
-use Rattle.desk_runs.proofs.Packs.{run-tested}
+use Rattle.desk_packing_law.proofs.StagePacks.{run-tested}
 use borrow.Author.Needs.{needs}
 use Rattle.desk_runs.proofs.is_run.Statement.{statement}
 use Rattle.desk_runs.proofs.is_run.Tie as tie

@@ -1,5 +1,5 @@
 -- The stage, and the session behind it.
-use Rattle.desk_runs.proofs.Packs.{run-laid}
+use Rattle.desk_packing_law.proofs.StagePacks.{run-laid}
 use borrow.Author.Needs.{needs}
 use Rattle.desk_runs.proofs.lay.Statement.{statement}
 use Rattle.desk_runs.proofs.lay.Tie as tie

@@ -1,5 +1,5 @@
 -- The numbers in the part behind the first, then the first.
-use Rattle.desk_runs.proofs.Packs.{laid-behind}
+use Rattle.desk_packing_law.proofs.StagePacks.{laid-behind}
 use borrow.Author.Needs.{needs}
 use Rattle.desk_runs.proofs.lay_behind.Statement.{statement}
 use Rattle.desk_runs.proofs.lay_behind.Tie as tie

@@ -1,5 +1,5 @@
 -- By the test.
-use Rattle.desk_runs.proofs.Packs.{no-run, a-run}
+use Rattle.desk_packing_law.proofs.StagePacks.{no-run, a-run}
 use borrow.Author.Needs.{needs}
 use Rattle.desk_runs.proofs.unpack.Statement.{statement}
 use Rattle.desk_runs.proofs.unpack.Tie as tie

@@ -28,7 +28,7 @@ book-sound-requires c κs =
     let k = session-clocked (a .args .s) (sym (c .before .before .session-sound .ensures) ∙ not-false _ (c .before .if1 .left)) in
     let v = k .valid in
     let d : Dividing (a .args .s .settings .tick) (c .before .before .before .factor .result) =
-    record { tick-some = v .tick-some; tick-small = v .tick-small; factor-is = c .before .before .before .factor .ensures } in
+    record { tick-some = v .in-range .tick-some; tick-small = v .in-range .tick-small; factor-is = c .before .before .before .factor .ensures } in
     (search (needs, k), search (needs, k), search (needs, k), d, omega (arith, c .band-now .ensures .1))
 
 returns-2 : tie.Need-returns-2

@@ -21,10 +21,10 @@ same-length : tie.Need-same-length
 same-length c = search (needs, c .before .before .before .before .before .before .before .withdraw .kept, c .before .before .before .before .before .before .before .before .before .before .before .before .before .before .before .before .before .step-in .kept)
 
 same-length-2 : tie.Need-same-length-2
-same-length-2 c = search needs
+same-length-2 c = search (needs, c .before .before .before .before .before .before .before .withdraw .kept, c .before .before .before .before .before .before .before .before .before .before .before .before .before .before .before .before .before .step-in .kept)
 
 same-length-3 : tie.Need-same-length-3
-same-length-3 c = search needs
+same-length-3 c = search (needs, c .before .before .before .before .before .before .before .withdraw .kept, c .before .before .before .before .before .before .before .before .before .before .before .before .before .before .before .before .before .step-in .kept)
 
 returns : tie.Need-returns
 returns c = let a = c .before .before .before .before .before .before .before .before .before .before .before .before .before .before .before .before .before .before .before .before .before .before .before .before .before .args in rw (c .done .ensures) (cancel-done (a .s) (a .t) (a .number) (a .buys .now) (a .sells .now) (a .room .now) (c .before .before .before .before .before .before .before .before .before .before .before .before .before .before .before .before .before .before .before .before .before .before .before .before .before .pre) _ (c .before .before .before .before .before .before .before .before .before .before .before .before .before .before .before .before .before .before .before .before .before .step .ensures) _ _ _ _ (c .before .before .before .before .before .before .before .before .before .before .before .before .before .before .before .before .before .step-in .ensures) _ _ _ _ (c .before .before .before .before .before .before .before .withdraw .ensures))

@@ -5,7 +5,7 @@ use Rattle.acts.proofs.accepted.close.Statement.{statement}
 use Rattle.acts.proofs.accepted.close.Tie as tie
 
 finish-requires : tie.Need-finish-requires
-finish-requires c κs = let a = c .before .before .before .before .before .before .args in finish-asks (a .s) (a .t) (a .settle) (a .buys .now) (a .sells .now) (a .room .now) (c .before .before .before .before .before .before .pre) (search (needs, c .before .before .before .before .before .before .good .0 .1 .1 .1 .1 .1 .1 .1 .1 .1 .1)) (search (needs, c .before .before .before .before .before .before .good .0 .1 .1 .1 .1 .1 .1 .1 .1 .1 .1))
+finish-requires c κs = let a = c .before .before .before .before .before .before .args in finish-asks (a .s) (a .t) (a .settle) (a .buys .now) (a .sells .now) (a .room .now) (c .before .before .before .before .before .before .pre) (search (needs, c .before .before .before .before .before .before .good .0 .1 .1 .1 .1)) (search (needs, c .before .before .before .before .before .before .good .0 .1 .1 .1 .1))
 
 done-requires : tie.Need-done-requires
 done-requires c κs = search needs
@@ -20,7 +20,7 @@ same-length-3 : tie.Need-same-length-3
 same-length-3 c = search needs
 
 returns : tie.Need-returns
-returns c = let a = c .before .before .before .before .before .before .before .before .before .before .before .before .before .before .args in rw (c .done .ensures) (finish-done (a .s) (a .t) (a .settle) (a .buys .now) (a .sells .now) (a .room .now) _ _ _ _ (c .before .before .before .before .before .before .before .finish .ensures))
+returns c = let a = c .before .before .before .before .before .before .before .before .before .before .before .before .before .before .before .before .args in rw (c .done .ensures) (finish-done (a .s) (a .t) (a .settle) (a .buys .now) (a .sells .now) (a .room .now) _ _ _ _ (c .before .before .before .before .before .before .before .before .before .finish .ensures))
 
 pub close-spec : {M : Type 1} → statement M
 close-spec =

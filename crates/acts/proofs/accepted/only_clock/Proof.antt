@@ -24,7 +24,7 @@ same-length-3 : tie.Need-same-length-3
 same-length-3 c = search needs
 
 returns : tie.Need-returns
-returns c = let a = c .before .before .before .before .before .before .before .before .before .before .before .before .before .before .before .args in rw (c .done .ensures) (quiet-done (a .s) (a .t) (a .under) (a .a) (a .buys .now) (a .sells .now) (a .room .now) (c .before .before .before .before .before .before .before .before .before .before .before .before .before .before .before .pre .1) _ (c .before .before .before .before .before .before .before .before .before .before .before .step .ensures) _ _ _ _ (c .before .before .before .before .before .before .before .step-in .ensures))
+returns c = let a = c .before .before .before .before .before .before .before .before .before .before .before .before .before .before .before .before .args in rw (c .done .ensures) (quiet-done (a .s) (a .t) (a .under) (a .a) (a .buys .now) (a .sells .now) (a .room .now) (c .before .before .before .before .before .before .before .before .before .before .before .before .before .before .before .before .pre .1) _ (c .before .before .before .before .before .before .before .before .before .before .before .before .step .ensures) _ _ _ _ (c .before .before .before .before .before .before .before .before .step-in .ensures))
 
 pub only-clock-spec : {M : Type 1} → statement M
 only-clock-spec =

@@ -14,10 +14,10 @@ tell-requires : tie.Need-tell-requires
 tell-requires c κs = search needs
 
 sweep-requires : tie.Need-sweep-requires
-sweep-requires c κs = let a = c .before .before .before .before .before .before .before .before .before .before .args in sweep-asks (a .s) (a .band) (a .n) (a .count) (a .theirs .now) (a .room .now) (a .at) (c .before .before .before .before .before .before .before .before .before .before .pre) _ (c .before .before .before .before .before .before .incoming .ensures) _ _ (c .before .before .before .before .tell .ensures)
+sweep-requires c κs = let a = c .before .before .before .before .before .before .before .before .before .before .before .args in sweep-asks (a .s) (a .band) (a .n) (a .count) (a .theirs .now) (a .room .now) (a .at) (c .before .before .before .before .before .before .before .before .before .before .before .pre) _ (c .before .before .before .before .before .before .incoming .ensures) _ _ (c .before .before .before .before .tell .ensures)
 
 remember-requires : tie.Need-remember-requires
-remember-requires c κs = let a = c .before .before .before .before .before .before .before .before .before .before .before .before .before .before .before .before .args in remember-asks (a .s) (a .band) (a .n) (a .count) (a .theirs .now) (a .room .now) (a .at) (c .before .before .before .before .before .before .before .before .before .before .before .before .before .before .before .before .pre) _ (c .before .before .before .before .before .before .before .before .before .before .before .before .incoming .ensures) _ _ (c .before .before .before .before .before .before .before .before .before .before .tell .ensures) _ _ _ (c .before .before .before .before .before .sweep .ensures)
+remember-requires c κs = let a = c .before .before .before .before .before .before .before .before .before .before .before .before .before .before .before .before .before .args in remember-asks (a .s) (a .band) (a .n) (a .count) (a .theirs .now) (a .room .now) (a .at) (c .before .before .before .before .before .before .before .before .before .before .before .before .before .before .before .before .before .pre) _ (c .before .before .before .before .before .before .before .before .before .before .before .before .incoming .ensures) _ _ (c .before .before .before .before .before .before .before .before .before .before .tell .ensures) _ _ _ (c .before .before .before .before .before .sweep .ensures)
 
 same-length : tie.Need-same-length
 same-length c = search needs
@@ -26,7 +26,7 @@ same-length-2 : tie.Need-same-length-2
 same-length-2 c = search needs
 
 returns : tie.Need-returns
-returns c = let a = c .before .before .before .before .before .before .before .before .before .before .before .before .before .before .before .before .before .args in met (a .s) (a .band) (a .n) (a .count) (a .theirs .now) (a .room .now) (a .at) (c .before .before .before .before .before .before .before .before .before .before .before .before .before .before .before .before .before .pre) _ (c .before .before .before .before .before .before .before .before .before .before .before .before .before .incoming .ensures) _ _ (c .before .before .before .before .before .before .before .before .before .before .before .tell .ensures) _ _ _ (c .before .before .before .before .before .before .sweep .ensures) _ (c .remember .ensures)
+returns c = let a = c .before .before .before .before .before .before .before .before .before .before .before .before .before .before .before .before .before .before .args in met (a .s) (a .band) (a .n) (a .count) (a .theirs .now) (a .room .now) (a .at) (c .before .before .before .before .before .before .before .before .before .before .before .before .before .before .before .before .before .before .pre) _ (c .before .before .before .before .before .before .before .before .before .before .before .before .before .incoming .ensures) _ _ (c .before .before .before .before .before .before .before .before .before .before .before .tell .ensures) _ _ _ (c .before .before .before .before .before .before .sweep .ensures) _ (c .remember .ensures)
 
 pub meet-spec : {M : Type 1} → statement M
 meet-spec =

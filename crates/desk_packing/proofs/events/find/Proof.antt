@@ -1,5 +1,5 @@
 -- By its six numbers.
-use Rattle.desk_packing.specs.Events.{foundIn}
+use Rattle.desk_packing_law.specs.Events.{foundIn}
 use borrow.Author.Needs.{needs}
 use Rattle.desk_packing.proofs.events.find.Statement.{statement}
 use Rattle.desk_packing.proofs.events.find.Tie as tie

@@ -1,6 +1,6 @@
 -- By the number of what it does.
 use Rattle.records_law.proofs.Told.{numbered}
-use Rattle.desk_packing.specs.Events.{foundFrom}
+use Rattle.desk_packing_law.specs.Events.{foundFrom}
 use borrow.Author.Needs.{needs}
 use Rattle.desk_packing.proofs.events.found_from.Statement.{statement}
 use Rattle.desk_packing.proofs.events.found_from.Tie as tie

@@ -1,5 +1,5 @@
 -- By what it does.
-use Rattle.desk_packing.proofs.Packs.{packs-entry, packs-act}
+use Rattle.desk_packing_law.proofs.Packs.{packs-entry, packs-act}
 use borrow.Author.Needs.{needs}
 use Rattle.desk_packing.proofs.events.pack.Statement.{statement}
 use Rattle.desk_packing.proofs.events.pack.Tie as tie

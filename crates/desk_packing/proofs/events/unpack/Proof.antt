@@ -1,5 +1,5 @@
 -- By what was found.
-use Rattle.desk_packing.proofs.Packs.{an-event, no-event}
+use Rattle.desk_packing_law.proofs.Packs.{an-event, no-event}
 use borrow.Author.Needs.{needs}
 use Rattle.desk_packing.proofs.events.unpack.Statement.{statement}
 use Rattle.desk_packing.proofs.events.unpack.Tie as tie

@@ -4,7 +4,7 @@ use native.Mathlib.Omega.{arith}
 use mathlib.Core.Path.{_≡_}
 use lib.ListN.{length, take}
 use Rattle.tables.specs.Put.{put}
-use Rattle.desk_packing.proofs.Lays.{laid-none, laid-turn, laid-all}
+use Rattle.desk_packing_law.proofs.Lays.{laid-none, laid-turn, laid-all}
 use borrow.Author.Needs.{needs}
 use Rattle.desk_packing.proofs.runs.lay.Statement.{statement}
 use Rattle.desk_packing.proofs.runs.lay.Tie as tie

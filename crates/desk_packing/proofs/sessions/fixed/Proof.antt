@@ -1,5 +1,5 @@
 -- A session of zeros.
-use Rattle.desk_packing.proofs.Packs.{zeros-fixed}
+use Rattle.desk_packing_law.proofs.Packs.{zeros-fixed}
 use borrow.Author.Needs.{needs}
 use Rattle.desk_packing.proofs.sessions.fixed.Statement.{statement}
 use Rattle.desk_packing.proofs.sessions.fixed.Tie as tie

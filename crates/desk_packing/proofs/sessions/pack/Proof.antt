@@ -1,5 +1,7 @@
 -- Number by number; the category and whether it is closed by their numbers.
-use Rattle.desk_packing.proofs.Packs.{packed-right}
+use Rattle.desk_packing_law.proofs.Packs.{packed-right}
+use mathlib.Core.Path.{refl}
+use borrow.Author.Tests.{lt-ltb, le-ltb, le-leb, lt-leb, eq-eqb, ne-eqb}
 use borrow.Author.Needs.{needs}
 use Rattle.desk_packing.proofs.sessions.pack.Statement.{statement}
 use Rattle.desk_packing.proofs.sessions.pack.Tie as tie
@@ -10,68 +12,68 @@ of-category-requires c κs = search needs
 flag-of-requires : tie.Need-flag-of-requires
 flag-of-requires c κs = search needs
 
-array-read-t15 : tie.Need-array-read-t15
-array-read-t15 c = search needs
+array-read-t17 : tie.Need-array-read-t17
+array-read-t17 c = search needs
 
-array-read-t18 : tie.Need-array-read-t18
-array-read-t18 c = search needs
+array-read-t20 : tie.Need-array-read-t20
+array-read-t20 c = search needs
 
-array-read-t21 : tie.Need-array-read-t21
-array-read-t21 c = search needs
+array-read-t23 : tie.Need-array-read-t23
+array-read-t23 c = search needs
 
-array-read-t24 : tie.Need-array-read-t24
-array-read-t24 c = search needs
+array-read-t26 : tie.Need-array-read-t26
+array-read-t26 c = search needs
 
-array-read-t27 : tie.Need-array-read-t27
-array-read-t27 c = search needs
+array-read-t29 : tie.Need-array-read-t29
+array-read-t29 c = search needs
 
-array-read-t30 : tie.Need-array-read-t30
-array-read-t30 c = search needs
+array-read-t32 : tie.Need-array-read-t32
+array-read-t32 c = search needs
 
-array-read-t33 : tie.Need-array-read-t33
-array-read-t33 c = search needs
+array-read-t35 : tie.Need-array-read-t35
+array-read-t35 c = search needs
 
-array-read-t36 : tie.Need-array-read-t36
-array-read-t36 c = search needs
+array-read-t38 : tie.Need-array-read-t38
+array-read-t38 c = search needs
 
-array-read-t39 : tie.Need-array-read-t39
-array-read-t39 c = search needs
+array-read-t41 : tie.Need-array-read-t41
+array-read-t41 c = search needs
 
-array-read-t42 : tie.Need-array-read-t42
-array-read-t42 c = search needs
+array-read-t44 : tie.Need-array-read-t44
+array-read-t44 c = search needs
 
-array-read-t45 : tie.Need-array-read-t45
-array-read-t45 c = search needs
+array-read-t47 : tie.Need-array-read-t47
+array-read-t47 c = search needs
 
-array-read-t48 : tie.Need-array-read-t48
-array-read-t48 c = search needs
+array-read-t50 : tie.Need-array-read-t50
+array-read-t50 c = search needs
 
-array-read-t51 : tie.Need-array-read-t51
-array-read-t51 c = search needs
+array-read-t53 : tie.Need-array-read-t53
+array-read-t53 c = search needs
 
-array-read-t54 : tie.Need-array-read-t54
-array-read-t54 c = search needs
+array-read-t56 : tie.Need-array-read-t56
+array-read-t56 c = search needs
 
-array-read-t57 : tie.Need-array-read-t57
-array-read-t57 c = search needs
+array-read-t59 : tie.Need-array-read-t59
+array-read-t59 c = search needs
 
-array-read-t60 : tie.Need-array-read-t60
-array-read-t60 c = search needs
+array-read-t62 : tie.Need-array-read-t62
+array-read-t62 c = search needs
 
-array-read-t63 : tie.Need-array-read-t63
-array-read-t63 c = search needs
+array-read-t65 : tie.Need-array-read-t65
+array-read-t65 c = search needs
 
-array-read-t66 : tie.Need-array-read-t66
-array-read-t66 c = search needs
+array-read-t68 : tie.Need-array-read-t68
+array-read-t68 c = search needs
 
-array-read-t69 : tie.Need-array-read-t69
-array-read-t69 c = search needs
+array-read-t71 : tie.Need-array-read-t71
+array-read-t71 c = search needs
 
-array-read-t72 : tie.Need-array-read-t72
-array-read-t72 c = search needs
+array-read-t74 : tie.Need-array-read-t74
+array-read-t74 c = search needs
 
 returns : tie.Need-returns
-returns c = packed-right (c .before .before .before .before .before .before .before .before .before .args .s) _ _ (c .before .before .before .before .before .before .before .of-category .ensures) (c .before .before .before .before .before .before .flag-of .ensures)
+returns c = search packed-right
 
 pub pack-spec : {M : Type 1} → statement M
 pack-spec =
@@ -79,24 +81,24 @@ pack-spec =
     (tie.spec
     of-category-requires
     flag-of-requires
-    array-read-t15
-    array-read-t18
-    array-read-t21
-    array-read-t24
-    array-read-t27
-    array-read-t30
-    array-read-t33
-    array-read-t36
-    array-read-t39
-    array-read-t42
-    array-read-t45
-    array-read-t48
-    array-read-t51
-    array-read-t54
-    array-read-t57
-    array-read-t60
-    array-read-t63
-    array-read-t66
-    array-read-t69
-    array-read-t72
+    array-read-t17
+    array-read-t20
+    array-read-t23
+    array-read-t26
+    array-read-t29
+    array-read-t32
+    array-read-t35
+    array-read-t38
+    array-read-t41
+    array-read-t44
+    array-read-t47
+    array-read-t50
+    array-read-t53
+    array-read-t56
+    array-read-t59
+    array-read-t62
+    array-read-t65
+    array-read-t68
+    array-read-t71
+    array-read-t74
     returns)

@@ -1,5 +1,5 @@
 -- By the test.
-use Rattle.desk_packing.proofs.Packs.{no-session, a-session}
+use Rattle.desk_packing_law.proofs.Packs.{no-session, a-session}
 use borrow.Author.Needs.{needs}
 use Rattle.desk_packing.proofs.sessions.unpack.Statement.{statement}
 use Rattle.desk_packing.proofs.sessions.unpack.Tie as tie

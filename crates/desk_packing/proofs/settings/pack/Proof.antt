@@ -1,5 +1,5 @@
 -- Number by number.
-use Rattle.desk_packing.specs.Settings.{settingsNumbers}
+use Rattle.desk_packing_law.specs.Settings.{settingsNumbers}
 use borrow.Author.Needs.{needs}
 use Rattle.desk_packing.proofs.settings.pack.Statement.{statement}
 use Rattle.desk_packing.proofs.settings.pack.Tie as tie

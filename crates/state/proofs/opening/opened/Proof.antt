@@ -10,12 +10,12 @@ theoretical-or-requires c κs = search needs
 begun-requires : tie.Need-begun-requires
 begun-requires c κs = search needs
 
-blank-requires : tie.Need-blank-requires
-blank-requires c κs = search needs
+at-open-requires : tie.Need-at-open-requires
+at-open-requires c κs = search needs
 
 returns : tie.Need-returns
 unfolding openedSession
-returns c = simp (c .blank .ensures, c .before .begun .ensures, c .before .before .theoretical-or .ensures)
+returns c = simp (c .at-open .ensures, c .before .begun .ensures, c .before .before .theoretical-or .ensures)
 
 pub opened-spec : {M : Type 1} → statement M
-opened-spec = tie.close (tie.spec theoretical-or-requires begun-requires blank-requires returns)
+opened-spec = tie.close (tie.spec theoretical-or-requires begun-requires at-open-requires returns)

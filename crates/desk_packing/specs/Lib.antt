@@ -1,4 +1,0 @@
-pub mod Runs
-pub mod Settings
-pub mod Sessions
-pub mod Events

@@ -1,0 +1,8 @@
+pub mod Codes
+pub mod Lays
+pub mod Listed
+pub mod Packs
+pub mod Inverse
+pub mod EventInverse
+pub mod StagePacks
+pub mod StageInverse

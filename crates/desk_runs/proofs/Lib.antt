@@ -1,2 +1,0 @@
-pub mod Packs
-pub mod Inverse
