@@ -1,6 +1,7 @@
 /* Plays document 01's listing through the library, prints the report lines and compares them with the paper's. */
 #include "kakoludar.h"
 
+#include <inttypes.h>
 #include <stdio.h>
 #include <string.h>
 
@@ -36,6 +37,17 @@ static int refused(const char *what, uint64_t answer) {
     return 1;
 }
 
+/* What an app shows beside the book, to standard error. */
+static int show(void) {
+    uint64_t now[KAKOLUDAR_SIZE_STANDING];
+    uint64_t answer = kakoludar_standing(session, KAKOLUDAR_SIZE_SESSION, buys, KAKOLUDAR_SIZE_TABLE, sells,
+                                         KAKOLUDAR_SIZE_TABLE, now, KAKOLUDAR_SIZE_STANDING);
+    if (kakoludar_code(answer)) return refused("standing", answer);
+    fprintf(stderr, "band %" PRIu64 " to %" PRIu64 ", range %" PRIu64 " to %" PRIu64 "\n", now[KAKOLUDAR_STANDING_BAND_LOW],
+            now[KAKOLUDAR_STANDING_BAND_HIGH], now[KAKOLUDAR_STANDING_RANGE_LOW], now[KAKOLUDAR_STANDING_RANGE_HIGH]);
+    return 0;
+}
+
 int main(void) {
     const uint8_t *bytes = (const uint8_t *)INPUT;
     size_t left = sizeof INPUT - 1;
@@ -43,12 +55,17 @@ int main(void) {
     size_t written = 0;
     uint64_t settings[KAKOLUDAR_SIZE_SETTINGS], event[KAKOLUDAR_SIZE_EVENT], answer;
 
+    if (kakoludar_version() != KAKOLUDAR_VERSION) {
+        fprintf(stderr, "the library is of another version than its header\n");
+        return 1;
+    }
     answer = kakoludar_read_settings(bytes, left, settings, KAKOLUDAR_SIZE_SETTINGS);
     if (kakoludar_code(answer)) return refused("settings line", answer);
     bytes += kakoludar_count(answer);
     left -= kakoludar_count(answer);
     answer = kakoludar_open(settings, KAKOLUDAR_SIZE_SETTINGS, session, KAKOLUDAR_SIZE_SESSION);
     if (kakoludar_code(answer)) return refused("opening", answer);
+    if (show()) return 1;
 
     while (left > 0) {
         answer = kakoludar_read_event(bytes, left, event, KAKOLUDAR_SIZE_EVENT);
@@ -72,6 +89,7 @@ int main(void) {
         }
     }
 
+    if (show()) return 1;
     if (written != sizeof EXPECTED - 1 || memcmp(output, EXPECTED, written) != 0) {
         fprintf(stderr, "these are not the lines of the paper\n");
         return 1;

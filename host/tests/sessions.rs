@@ -102,7 +102,7 @@ const BLANK: u64 = 0xa5a5_a5a5_a5a5_a5a5;
 /// Soundness, both views and the standing in both engines.
 fn look(day: &Day, tally: &mut Tally) {
     stand(day, STANDING + tally.standings[0] as usize % 3, tally);
-    if tally.standings[0] % 50 == 0 {
+    if tally.standings[0].is_multiple_of(50) {
         for length in [0, 1, STANDING - 1] {
             stand(day, length, tally);
         }
