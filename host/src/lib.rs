@@ -43,7 +43,7 @@
 //! );
 //! assert!(out.ends_with(b"t=1000 say=trade buy=2 sell=1 qty=1 price=10150\n"));
 //! ```
-#![warn(missing_docs)]
+#![deny(missing_docs)]
 
 pub mod plain;
 pub mod raw;
