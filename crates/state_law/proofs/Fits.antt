@@ -33,5 +33,9 @@ pub band-kept : (s : Session) (price lots : ℕ) → bandNow (withTrade s price 
 unfolding withTrade
 band-kept s price lots = refl
 
+-- the tick of such a session is at least 1, so that code may divide by it
+pub tick-some : (s : Session) → Clocked s → 1 ≤ s .settings .tick
+tick-some s c = c .valid .in-range .tick-some
+
 pub range-fits : (s : Session) (r : Range) → Clocked s → r ≡ rangeNow s → RangeFits r
 range-fits s r c e = rw e (record { percent-small = omega (arith, row-small (s .settings .category)); reference-small = c .reference-small })

@@ -1,6 +1,7 @@
 -- A cascade of refusals, in the table's order.
 use borrow.Author.Needs.{needs}
 use Rattle.terms.proofs.Cascade.{cascade}
+use Rattle.state_law.proofs.Fits.{tick-some}
 use Rattle.refusal.proofs.rows.event_rows.Statement.{statement}
 use Rattle.refusal.proofs.rows.event_rows.Tie as tie
 
@@ -23,7 +24,7 @@ returns-4 : tie.Need-returns-4
 returns-4 c = search cascade depth 14
 
 ticks-right-requires : tie.Need-ticks-right-requires
-ticks-right-requires c κs = search needs
+ticks-right-requires c κs = search (needs, tick-some)
 
 returns-5 : tie.Need-returns-5
 returns-5 c = search cascade depth 14
