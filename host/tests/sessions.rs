@@ -258,6 +258,9 @@ fn the_two_engines_agree_on_sessions() {
     println!("closes by half hour, last ten, last trade, previous close: {:?}", tally.closes);
     println!("standings given, refused by 1, refused by 2: {:?}", tally.standings);
     assert!(tally.standings.iter().all(|&count| count > 500), "standings of a kind were not met");
+    let [events, standings] = [tally.events, tally.standings.iter().sum()].map(grouped);
+    let said = format!("{events} events and {standings} standings");
+    assert!(include_str!("../../README.md").contains(&said), "README.md does not say: {said}");
     for refusal in 1..=11 {
         assert!(tally.refusals[refusal] > 0, "refusal {refusal} was not met");
     }
@@ -270,6 +273,14 @@ fn the_two_engines_agree_on_sessions() {
     assert!(tally.closes.iter().all(|&count| count > 0), "a case of the close was not met");
     assert!(tally.events >= 100_000);
     assert_eq!(tally.deepest, 256);
+}
+
+/// A number with a comma before each three digits.
+fn grouped(number: u64) -> String {
+    match number {
+        0..1_000 => number.to_string(),
+        _ => format!("{},{:03}", grouped(number / 1_000), number % 1_000),
+    }
 }
 
 /// As `look`, for days whose session may be shorter than a session.
