@@ -101,7 +101,7 @@ enum kakoludar_refused {
 #define KAKOLUDAR_SIZE_TABLE 768   /* a side: 256 orders, best first */
 #define KAKOLUDAR_SIZE_ROOM 3120   /* the report room: 520 records */
 #define KAKOLUDAR_SIZE_RUN 45      /* where text in and text out stands: its stage, then the session's numbers */
-#define KAKOLUDAR_SIZE_STANDING 14 /* enum kakoludar_standing */
+#define KAKOLUDAR_SIZE_STANDING 14 /* enum kakoludar_standing_at */
 #define KAKOLUDAR_SIZE_COUNTS 2    /* of a feed: the bytes taken, the bytes printed */
 #define KAKOLUDAR_SIZE_LINE 128    /* bytes that a writer asks for */
 #define KAKOLUDAR_SIZE_TEXT 66560  /* bytes of output room with which a feed always makes progress: 520 lines of 128 */
@@ -220,7 +220,7 @@ enum kakoludar_why {
 };
 
 /* Where a day stands: what an app shows of it. */
-enum kakoludar_standing {
+enum kakoludar_standing_at {
     KAKOLUDAR_STANDING_PERCENT = 0,     /* the percent in force */
     KAKOLUDAR_STANDING_BAND_LOW = 1,    /* a limit below it is refused by 8 */
     KAKOLUDAR_STANDING_BAND_HIGH = 2,   /* a limit above it is refused by 8 */
@@ -268,7 +268,7 @@ uint64_t kakoludar_sound(const uint64_t *session, size_t session_len, const uint
 uint64_t kakoludar_view(uint64_t side, const uint64_t *session, size_t session_len, const uint64_t *buys, size_t buys_len,
                         const uint64_t *sells, size_t sells_len);
 
-/* Where a day stands (enum kakoludar_standing), by the same definitions that judge orders.
+/* Where a day stands (enum kakoludar_standing_at), by the same definitions that judge orders.
  *   Answers  0; 1 for a short table or run, a standing under 14 numbers too; 2 for numbers that are not sound or no session's.
  *   Writes   the standing's 14 numbers; where it refuses nothing.
  *   Never    steps the clock: it is of the session as it is after its last accepted event. What the time of the next event brings,
