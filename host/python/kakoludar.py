@@ -11,7 +11,8 @@ variable KAKOLUDAR_LIBRARY names, else the one that host/library has built besid
 
     k.run(open('examples/touch.in', 'rb').read())                    # a whole day as text: its report lines
 
-Prices are whole paise, quantities lots, times milliseconds from the open. docs/LINES.md has every line, refusal and formula."""
+Prices are whole paise, quantities lots, times milliseconds from the open. docs/LINES.md has every line, refusal and formula. What the
+library refuses is raised as Refused; a number that is below 0 or takes more than 64 bits never reaches it: ValueError."""
 import ctypes
 import ctypes.util
 import enum

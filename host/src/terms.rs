@@ -273,24 +273,76 @@ pub enum Why {
     End,
 }
 
-/// What the exchange tells of an event; `time` is the event's.
+/// What the exchange tells of an event.
 #[derive(Clone, Copy, PartialEq, Eq, Debug)]
-#[allow(missing_docs)] // the fields are those of the report lines: docs/LINES.md
 pub enum Report {
-    /// The order was taken and has this number.
-    Accept { time: u64, id: u64 },
-    /// A trade of two orders, at the price of the one that rested.
-    Trade { time: u64, buy: u64, sell: u64, lots: u64, price: u64 },
-    /// The rest of a market order rests now, as a limit order at this price.
-    Convert { time: u64, id: u64, lots: u64, price: u64 },
-    /// These lots of the order are cancelled; it does not rest any more.
-    Cancel { time: u64, id: u64, lots: u64, why: Why },
-    /// The band was widened: its ends now.
-    Slab { time: u64, low: u64, high: u64 },
+    /// The order was taken.
+    Accept {
+        /// The event's time.
+        time: u64,
+        /// The number that it was given.
+        id: u64,
+    },
+    /// Two orders traded.
+    Trade {
+        /// The event's time.
+        time: u64,
+        /// The buy order.
+        buy: u64,
+        /// The sell order.
+        sell: u64,
+        /// How many lots.
+        lots: u64,
+        /// The price of the order that rested.
+        price: u64,
+    },
+    /// The rest of a market order rests now, as a limit order.
+    Convert {
+        /// The event's time.
+        time: u64,
+        /// The order.
+        id: u64,
+        /// The lots that are left of it.
+        lots: u64,
+        /// Its limit from now on.
+        price: u64,
+    },
+    /// An order, or its rest, is cancelled; it does not rest any more.
+    Cancel {
+        /// The event's time.
+        time: u64,
+        /// The order.
+        id: u64,
+        /// The lots that are cancelled.
+        lots: u64,
+        /// Why.
+        why: Why,
+    },
+    /// The band was widened.
+    Slab {
+        /// The event's time.
+        time: u64,
+        /// Its lower end now.
+        low: u64,
+        /// Its upper end now.
+        high: u64,
+    },
     /// The reference price has changed.
-    Reference { time: u64, price: u64 },
-    /// The day is over: close price, and the next day's base.
-    Close { time: u64, price: u64, base: u64 },
+    Reference {
+        /// The event's time.
+        time: u64,
+        /// The reference price now.
+        price: u64,
+    },
+    /// The day is over.
+    Close {
+        /// The event's time.
+        time: u64,
+        /// The close price.
+        price: u64,
+        /// The next day's base.
+        base: u64,
+    },
 }
 
 impl Report {
