@@ -6,6 +6,7 @@ use std::collections::BTreeMap;
 
 const HEADER: &str = include_str!("../kakoludar.h");
 const LINES: &str = include_str!("../../docs/LINES.md");
+const SAVE: &str = include_str!("../examples/save.rs");
 
 /// The header's constants, without their common prefix.
 fn constants() -> BTreeMap<&'static str, u64> {
@@ -94,5 +95,22 @@ fn refusals_are_those_of_the_header_and_of_the_table() {
     for unknown in 18..=255 {
         let refusal = Refusal::from_number(unknown).expect("a code that is not 0 is a refusal");
         assert_eq!((refusal, refusal.number()), (Refusal::Unknown(unknown as u8), unknown));
+    }
+}
+
+/// The code that docs/LINES.md shows is that of the example, but for comments.
+#[test]
+fn the_recipe_is_the_example() {
+    let recipe = LINES.split("## Save and come back").nth(1).expect("the recipe's section");
+    let shown: Vec<&str> =
+        recipe.lines().take_while(|line| !line.starts_with("## ")).filter(|line| line.starts_with("    ")).collect();
+    let code = |line: &&str| line.split("//").next().unwrap_or("").trim().to_string();
+    let example: Vec<String> = SAVE.lines().map(|line| code(&line)).filter(|line| !line.is_empty()).collect();
+    let shown: Vec<String> = shown.iter().map(code).filter(|line| !line.is_empty()).collect();
+    let starts: Vec<usize> = (0..shown.len()).filter(|&at| shown[at].starts_with("fn ")).collect();
+    assert_eq!(starts.len(), 2);
+    for (at, &start) in starts.iter().enumerate() {
+        let function = &shown[start..starts.get(at + 1).copied().unwrap_or(shown.len())];
+        assert!(example.windows(function.len()).any(|lines| lines == function), "not in the example: {}", function[0]);
     }
 }
