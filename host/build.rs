@@ -4,11 +4,11 @@ use std::{env, path::PathBuf};
 
 fn main() {
     let build = PathBuf::from(env::var("CARGO_MANIFEST_DIR").unwrap()).join("build");
-    let library = build.join("libdesk.a");
+    let library = build.join("libkakoludar.a");
     println!("cargo::rerun-if-changed={}", library.display());
     if !library.exists() {
         panic!("{} is not there: run host/library first", library.display());
     }
     println!("cargo::rustc-link-search=native={}", build.display());
-    println!("cargo::rustc-link-lib=static=desk");
+    println!("cargo::rustc-link-lib=static=kakoludar");
 }

@@ -1,6 +1,7 @@
 /* Plays document 01's listing through the library, prints the report lines and compares them with the paper's. */
 #include "kakoludar.h"
 
+#include <inttypes.h>
 #include <stdio.h>
 #include <string.h>
 
@@ -29,11 +30,22 @@ static const char EXPECTED[] =
     "t=3600000 say=close price=10300 base=10200\n";
 
 /* All that a day needs; the library has no memory of its own. */
-static uint64_t session[KAKOLUDAR_SESSION], buys[KAKOLUDAR_TABLE], sells[KAKOLUDAR_TABLE], room[KAKOLUDAR_ROOM];
+static uint64_t session[KAKOLUDAR_SIZE_SESSION], buys[KAKOLUDAR_SIZE_TABLE], sells[KAKOLUDAR_SIZE_TABLE], room[KAKOLUDAR_SIZE_ROOM];
 
 static int refused(const char *what, uint64_t answer) {
-    fprintf(stderr, "%s: refused by %u, at %zu\n", what, KAKOLUDAR_CODE(answer), KAKOLUDAR_COUNT(answer));
+    fprintf(stderr, "%s: refused by %u, at %zu\n", what, kakoludar_code(answer), kakoludar_count(answer));
     return 1;
+}
+
+/* What an app shows beside the book, to standard error. */
+static int show(void) {
+    uint64_t now[KAKOLUDAR_SIZE_STANDING];
+    uint64_t answer = kakoludar_standing(session, KAKOLUDAR_SIZE_SESSION, buys, KAKOLUDAR_SIZE_TABLE, sells,
+                                         KAKOLUDAR_SIZE_TABLE, now, KAKOLUDAR_SIZE_STANDING);
+    if (kakoludar_code(answer)) return refused("standing", answer);
+    fprintf(stderr, "band %" PRIu64 " to %" PRIu64 ", range %" PRIu64 " to %" PRIu64 "\n", now[KAKOLUDAR_STANDING_BAND_LOW],
+            now[KAKOLUDAR_STANDING_BAND_HIGH], now[KAKOLUDAR_STANDING_RANGE_LOW], now[KAKOLUDAR_STANDING_RANGE_HIGH]);
+    return 0;
 }
 
 int main(void) {
@@ -41,30 +53,35 @@ int main(void) {
     size_t left = sizeof INPUT - 1;
     char output[1024];
     size_t written = 0;
-    uint64_t settings[KAKOLUDAR_SETTINGS], event[KAKOLUDAR_EVENT], answer;
+    uint64_t settings[KAKOLUDAR_SIZE_SETTINGS], event[KAKOLUDAR_SIZE_EVENT], answer;
 
-    answer = kakoludar_read_settings(bytes, left, settings, KAKOLUDAR_SETTINGS);
-    if (KAKOLUDAR_CODE(answer)) return refused("settings line", answer);
-    bytes += KAKOLUDAR_COUNT(answer);
-    left -= KAKOLUDAR_COUNT(answer);
-    answer = kakoludar_open(settings, KAKOLUDAR_SETTINGS, session, KAKOLUDAR_SESSION);
-    if (KAKOLUDAR_CODE(answer)) return refused("opening", answer);
+    if (kakoludar_version() != KAKOLUDAR_VERSION) {
+        fprintf(stderr, "the library is of another version than its header\n");
+        return 1;
+    }
+    answer = kakoludar_read_settings(bytes, left, settings, KAKOLUDAR_SIZE_SETTINGS);
+    if (kakoludar_code(answer)) return refused("settings line", answer);
+    bytes += kakoludar_count(answer);
+    left -= kakoludar_count(answer);
+    answer = kakoludar_open(settings, KAKOLUDAR_SIZE_SETTINGS, session, KAKOLUDAR_SIZE_SESSION);
+    if (kakoludar_code(answer)) return refused("opening", answer);
+    if (show()) return 1;
 
     while (left > 0) {
-        answer = kakoludar_read_event(bytes, left, event, KAKOLUDAR_EVENT);
-        if (KAKOLUDAR_CODE(answer)) return refused("event line", answer);
-        bytes += KAKOLUDAR_COUNT(answer);
-        left -= KAKOLUDAR_COUNT(answer);
+        answer = kakoludar_read_event(bytes, left, event, KAKOLUDAR_SIZE_EVENT);
+        if (kakoludar_code(answer)) return refused("event line", answer);
+        bytes += kakoludar_count(answer);
+        left -= kakoludar_count(answer);
 
-        answer = kakoludar_apply(session, KAKOLUDAR_SESSION, event, KAKOLUDAR_EVENT, buys, KAKOLUDAR_TABLE, sells,
-                                 KAKOLUDAR_TABLE, room, KAKOLUDAR_ROOM);
-        if (KAKOLUDAR_CODE(answer)) return refused("event", answer);
-        size_t count = KAKOLUDAR_COUNT(answer);
+        answer = kakoludar_apply(session, KAKOLUDAR_SIZE_SESSION, event, KAKOLUDAR_SIZE_EVENT, buys, KAKOLUDAR_SIZE_TABLE, sells,
+                                 KAKOLUDAR_SIZE_TABLE, room, KAKOLUDAR_SIZE_ROOM);
+        if (kakoludar_code(answer)) return refused("event", answer);
+        size_t count = kakoludar_count(answer);
         for (size_t i = 0; i < count; i++) {
-            uint8_t line[KAKOLUDAR_LINE];
-            answer = kakoludar_write_report(room + KAKOLUDAR_RECORD * i, KAKOLUDAR_RECORD, line, sizeof line);
-            if (KAKOLUDAR_CODE(answer)) return refused("report", answer);
-            size_t length = KAKOLUDAR_COUNT(answer);
+            uint8_t line[KAKOLUDAR_SIZE_LINE];
+            answer = kakoludar_write_report(room + KAKOLUDAR_SIZE_RECORD * i, KAKOLUDAR_SIZE_RECORD, line, sizeof line);
+            if (kakoludar_code(answer)) return refused("report", answer);
+            size_t length = kakoludar_count(answer);
             fwrite(line, 1, length, stdout);
             if (written + length > sizeof output) return 1;
             memcpy(output + written, line, length);
@@ -72,6 +89,7 @@ int main(void) {
         }
     }
 
+    if (show()) return 1;
     if (written != sizeof EXPECTED - 1 || memcmp(output, EXPECTED, written) != 0) {
         fprintf(stderr, "these are not the lines of the paper\n");
         return 1;

@@ -43,5 +43,8 @@ fn main() {
     let (buy, _) = read_event(b"t=1000 do=buy kind=limit life=day qty=1 price=10300\n").expect("an event line");
     let reports: Vec<Report> = day.apply(&buy).expect("accepted").collect();
     assert_eq!(reports[1], Report::Trade { time: 1_000, buy: 2, sell: 1, lots: 1, price: 10_150 });
+    // where it stands: an order above 10,300 would be refused, and nothing trades above 10,150 before the next minute
+    let stood = day.standing().expect("a sound session");
+    assert_eq!((stood.band.low, stood.band.high, stood.range.low, stood.range.high), (9_700, 10_300, 9_850, 10_150));
     assert_eq!(day.view(Side::Sell).next().map(|order| order.lots), Some(3));
 }

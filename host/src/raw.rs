@@ -2,6 +2,18 @@
 //! `kakoludar.h` says what each run of numbers holds.
 
 extern "C" {
+    fn kakoludar_version() -> u64;
+    fn kakoludar_layout() -> u64;
+    fn kakoludar_standing(
+        session: *const u64,
+        session_len: usize,
+        buys: *const u64,
+        buys_len: usize,
+        sells: *const u64,
+        sells_len: usize,
+        standing: *mut u64,
+        standing_len: usize,
+    ) -> u64;
     fn kakoludar_open(settings: *const u64, settings_len: usize, session: *mut u64, session_len: usize) -> u64;
     fn kakoludar_apply(
         session: *mut u64,
@@ -85,10 +97,22 @@ pub fn count(answer: u64) -> u64 {
 // Safety of every call below: each pointer and length are of one living slice, `&mut` slices overlap no other, and the library
 // keeps no pointer after it answers.
 
+/// The version of the library that is linked.
+pub fn version() -> u64 {
+    unsafe { kakoludar_version() }
+}
+
+/// The layout of the library that is linked.
+pub fn layout() -> u64 {
+    unsafe { kakoludar_layout() }
+}
+
+/// Opens a day: 0; 1; 12 or 13.
 pub fn open(settings: &[u64], session: &mut [u64]) -> u64 {
     unsafe { kakoludar_open(settings.as_ptr(), settings.len(), session.as_mut_ptr(), session.len()) }
 }
 
+/// Applies an event: the count of reports; 1 to 11.
 pub fn apply(session: &mut [u64], event: &[u64], buys: &mut [u64], sells: &mut [u64], room: &mut [u64]) -> u64 {
     unsafe {
         kakoludar_apply(
@@ -106,34 +130,58 @@ pub fn apply(session: &mut [u64], event: &[u64], buys: &mut [u64], sells: &mut [
     }
 }
 
+/// 1 where the session and its live orders are sound, else 0.
 pub fn sound(session: &[u64], buys: &[u64], sells: &[u64]) -> u64 {
     unsafe { kakoludar_sound(session.as_ptr(), session.len(), buys.as_ptr(), buys.len(), sells.as_ptr(), sells.len()) }
 }
 
+/// How many numbers of a side's table are live, from its start; the side is 1 for buy, 2 for sell.
 pub fn view(side: u64, session: &[u64], buys: &[u64], sells: &[u64]) -> u64 {
     unsafe { kakoludar_view(side, session.as_ptr(), session.len(), buys.as_ptr(), buys.len(), sells.as_ptr(), sells.len()) }
 }
 
+/// Where a day stands: 0; 1 or 2.
+pub fn standing(session: &[u64], buys: &[u64], sells: &[u64], standing: &mut [u64]) -> u64 {
+    unsafe {
+        kakoludar_standing(
+            session.as_ptr(),
+            session.len(),
+            buys.as_ptr(),
+            buys.len(),
+            sells.as_ptr(),
+            sells.len(),
+            standing.as_mut_ptr(),
+            standing.len(),
+        )
+    }
+}
+
+/// Reads a settings line: how many bytes it has; 1, 14, 15 with the place.
 pub fn read_settings(line: &[u8], settings: &mut [u64]) -> u64 {
     unsafe { kakoludar_read_settings(line.as_ptr(), line.len(), settings.as_mut_ptr(), settings.len()) }
 }
 
+/// Reads an event line: how many bytes it has; 1, 14, 15 with the place.
 pub fn read_event(line: &[u8], event: &mut [u64]) -> u64 {
     unsafe { kakoludar_read_event(line.as_ptr(), line.len(), event.as_mut_ptr(), event.len()) }
 }
 
+/// Writes a settings line: its length; 1, 12, 16, 17.
 pub fn write_settings(settings: &[u64], line: &mut [u8]) -> u64 {
     unsafe { kakoludar_write_settings(settings.as_ptr(), settings.len(), line.as_mut_ptr(), line.len()) }
 }
 
+/// Writes an event line: its length; 1, 4, 16, 17.
 pub fn write_event(event: &[u64], line: &mut [u8]) -> u64 {
     unsafe { kakoludar_write_event(event.as_ptr(), event.len(), line.as_mut_ptr(), line.len()) }
 }
 
+/// Writes a report line: its length, 0 where the numbers are no report's; 1, 16, 17.
 pub fn write_report(record: &[u64], line: &mut [u8]) -> u64 {
     unsafe { kakoludar_write_report(record.as_ptr(), record.len(), line.as_mut_ptr(), line.len()) }
 }
 
+/// Begins a run of text: 0; 1.
 pub fn start(run: &mut [u64]) -> u64 {
     unsafe { kakoludar_start(run.as_mut_ptr(), run.len()) }
 }
@@ -142,7 +190,9 @@ pub fn start(run: &mut [u64]) -> u64 {
 pub type Feed = fn(&mut [u64], &[u8], &mut [u64], &mut [u64], &mut [u64], &mut [u8], &mut [u64]) -> u64;
 
 macro_rules! feed {
-    ($name:ident, $call:ident) => {
+    ($words:literal, $name:ident, $call:ident) => {
+        #[doc = $words]
+        #[allow(clippy::too_many_arguments)]
         pub fn $name(
             run: &mut [u64],
             bytes: &[u8],
@@ -174,5 +224,5 @@ macro_rules! feed {
     };
 }
 
-feed!(feed, kakoludar_feed);
-feed!(end, kakoludar_end);
+feed!("Takes the whole lines of some bytes: why it took no more; 1.", feed, kakoludar_feed);
+feed!("Takes the last bytes of the input, and tells the end: why it took no more; 1.", end, kakoludar_end);

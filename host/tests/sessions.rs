@@ -16,6 +16,8 @@ struct Tally {
     unsound: u64,
     openings: u64,
     views: u64,
+    /// Standings by their answer.
+    standings: [u64; 3],
     refusals: [u64; 18],
     kinds: [u64; 8],
     whys: [u64; 6],
@@ -58,14 +60,14 @@ fn apply(day: &mut Day, event: &[u64], tally: &mut Tally) -> u64 {
     tally.refusals[code as usize] += 1;
     if code == 0 {
         tally.accepted += 1;
-        tally.deepest = tally.deepest.max(day.session[10].max(day.session[11]));
+        tally.deepest = tally.deepest.max(day.session[at::BUYS].max(day.session[at::SELLS]));
         for record in &day.room.as_chunks::<RECORD>().0[..count as usize] {
             tally.kinds[record[0] as usize] += 1;
             if record[0] == 4 {
                 tally.whys[record[4] as usize] += 1;
             }
             if record[0] == 7 {
-                let case = match (day.session[40], day.session[19]) {
+                let case = match (day.session[at::HALF_COUNT], day.session[at::TRADES]) {
                     (10.., _) => 0,
                     (_, 10..) => 1,
                     (_, 1..) => 2,
@@ -78,8 +80,33 @@ fn apply(day: &mut Day, event: &[u64], tally: &mut Tally) -> u64 {
     answer
 }
 
-/// Soundness and both views in both engines.
+/// Where the day stands in both engines: every number of a standing of some length.
+fn stand(day: &Day, length: usize, tally: &mut Tally) {
+    let mut stood = vec![BLANK; length];
+    let mut other = stood.clone();
+    let answer = desk::standing(&day.session, &day.buys, &day.sells, &mut stood);
+    let expected = plain::standing(&day.session, &day.buys, &day.sells, &mut other);
+    assert_eq!((answer, &stood), (expected, &other), "session {:?}", day.session);
+    // it is refused just where the session is not sound, and then writes nothing
+    let short = day.session.len() < SESSION || day.buys.len() < TABLE || day.sells.len() < TABLE || length < STANDING;
+    let sound = desk::sound(&day.session, &day.buys, &day.sells) == 1;
+    assert_eq!(answer, if short { 1 } else { 2 * u64::from(!sound) });
+    let written = if answer == 0 { STANDING } else { 0 };
+    assert!(stood[written..].iter().all(|&number| number == BLANK));
+    tally.standings[answer as usize] += 1;
+}
+
+/// What no call writes.
+const BLANK: u64 = 0xa5a5_a5a5_a5a5_a5a5;
+
+/// Soundness, both views and the standing in both engines.
 fn look(day: &Day, tally: &mut Tally) {
+    stand(day, STANDING + tally.standings[0] as usize % 3, tally);
+    if tally.standings[0].is_multiple_of(50) {
+        for length in [0, 1, STANDING - 1] {
+            stand(day, length, tally);
+        }
+    }
     let sound = desk::sound(&day.session, &day.buys, &day.sells);
     same("sound", &[sound], &[plain::sound(&day.session, &day.buys, &day.sells)], day, &[]);
     tally.soundness += 1;
@@ -111,12 +138,12 @@ fn play(seed: u64, style: Style, length: usize, trials: u64, tally: &mut Tally) 
     if rng.chance(12) {
         // late in a long day: many orders given, many trades made
         let trades = rng.pick(&[9_000, 59_700, 59_744, 59_745, 60_000]);
-        day.session[18] = rng.pick(&[1_000, 8_190, 30_000, 59_990, 60_000]);
-        day.session[19] = trades;
+        day.session[at::GIVEN] = rng.pick(&[1_000, 8_190, 30_000, 59_990, 60_000]);
+        day.session[at::TRADES] = trades;
         let band = day.plain().band();
         for i in 0..10 {
-            day.session[20 + i] = rng.pick(&[band.0, band.1, settings.base, settings.tick]);
-            day.session[30 + i] = rng.within(1, 10_000);
+            day.session[at::PRICES + i] = rng.pick(&[band.0, band.1, settings.base, settings.tick]);
+            day.session[at::SIZES + i] = rng.within(1, 10_000);
         }
     }
     let mut style = style;
@@ -138,7 +165,7 @@ fn play(seed: u64, style: Style, length: usize, trials: u64, tally: &mut Tally) 
     }
     if rng.chance(95) {
         let last = closing(&mut rng, &day).to_run();
-        let already = day.session[9];
+        let already = day.session[at::CLOSED];
         assert_eq!(desk::code(apply(&mut day, &last, tally)), 3 * already);
         look(&day, tally);
         for _ in 0..3 {
@@ -151,7 +178,7 @@ fn play(seed: u64, style: Style, length: usize, trials: u64, tally: &mut Tally) 
 
 /// Garbage behind the live parts and in the room.
 fn spill(rng: &mut Rng, day: &mut Day) {
-    let (buys, sells) = (3 * day.session[10] as usize, 3 * day.session[11] as usize);
+    let (buys, sells) = (3 * day.session[at::BUYS] as usize, 3 * day.session[at::SELLS] as usize);
     for number in day.buys[buys..].iter_mut().chain(&mut day.sells[sells..]).chain(&mut day.room) {
         *number = rng.next();
     }
@@ -229,6 +256,11 @@ fn the_two_engines_agree_on_sessions() {
     print_counts("reports by kind", &tally.kinds);
     print_counts("cancels by why", &tally.whys);
     println!("closes by half hour, last ten, last trade, previous close: {:?}", tally.closes);
+    println!("standings given, refused by 1, refused by 2: {:?}", tally.standings);
+    assert!(tally.standings.iter().all(|&count| count > 500), "standings of a kind were not met");
+    let [events, standings] = [tally.events, tally.standings.iter().sum()].map(grouped);
+    let said = format!("{events} events and {standings} standings");
+    assert!(include_str!("../../README.md").contains(&said), "README.md does not say: {said}");
     for refusal in 1..=11 {
         assert!(tally.refusals[refusal] > 0, "refusal {refusal} was not met");
     }
@@ -243,10 +275,19 @@ fn the_two_engines_agree_on_sessions() {
     assert_eq!(tally.deepest, 256);
 }
 
+/// A number with a comma before each three digits.
+fn grouped(number: u64) -> String {
+    match number {
+        0..1_000 => number.to_string(),
+        _ => format!("{},{:03}", grouped(number / 1_000), number % 1_000),
+    }
+}
+
 /// As `look`, for days whose session may be shorter than a session.
 fn look_anyhow(day: &Day, tally: &mut Tally) {
     let sound = desk::sound(&day.session, &day.buys, &day.sells);
     assert_eq!(sound, plain::sound(&day.session, &day.buys, &day.sells));
+    stand(day, STANDING, tally);
     tally.soundness += 1;
     tally.unsound += u64::from(sound == 0);
 }
@@ -286,8 +327,8 @@ fn the_two_engines_agree_on_openings() {
                 ]),
             };
         }
-        run.resize(if rng.chance(90) { 8 } else { rng.pick(&[9, 7, 0]) }, 3);
-        let length = if rng.chance(90) { 43 } else { rng.pick(&[44, 42, 0]) };
+        run.resize(if rng.chance(90) { SETTINGS } else { rng.pick(&[9, 7, 0]) }, 3);
+        let length = if rng.chance(90) { SESSION } else { rng.pick(&[SESSION + 1, SESSION - 1, 0]) };
         let mut session = rng.garbage(length);
         open(&run, &mut session, &mut tally);
     }

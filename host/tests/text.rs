@@ -60,6 +60,14 @@ fn the_library_prints_what_the_vectors_expect() {
     }
 }
 
+/// A run that has no session: its stage, the layout and zeros.
+fn unopened(stage: u64) -> Vec<u64> {
+    let mut run = vec![0; RUN];
+    run[0] = stage;
+    run[1 + at::LAYOUT] = LAYOUT;
+    run
+}
+
 /// What the library prints for pieces of an input, with an output room of some length. Every call is held to its promises:
 /// counts within what was handed in, the room untouched past what was printed, a line's start kept at most.
 fn fed_in_pieces(pieces: &mut dyn Iterator<Item = &[u8]>, room_length: usize, rng: &mut Rng) -> Vec<u8> {
@@ -71,7 +79,7 @@ fn fed_in_pieces(pieces: &mut dyn Iterator<Item = &[u8]>, room_length: usize, rn
     let (mut kept, mut printed) = (Vec::new(), Vec::new());
     let mut over = false;
     assert_eq!(raw::start(&mut run), 0);
-    assert!(run[..RUN].iter().all(|&number| number == 0));
+    assert_eq!(run[..RUN], unopened(0));
     for piece in pieces {
         kept.extend_from_slice(piece);
         loop {
@@ -169,7 +177,9 @@ fn a_refused_feed_writes_nothing() {
     let mut rng = Rng(79);
     let least = [RUN, TABLE, TABLE, ROOM, COUNTS];
     let input = day(3, Style::Busy);
-    for (which, short, call) in (0..=least.len()).flat_map(|i| [(i, 1, raw::feed as raw::Feed), (i, 2, raw::feed), (i, 1, raw::end)]) {
+    for (which, short, call) in
+        (0..=least.len()).flat_map(|i| [(i, 1, raw::feed as raw::Feed), (i, 2, raw::feed), (i, 1, raw::end)])
+    {
         let lengths = std::array::from_fn::<_, 5, _>(|i| least[i] - if i == which { short } else { 0 });
         let mut numbers = lengths.map(|length| rng.garbage(length));
         if lengths[0] == RUN {
@@ -279,10 +289,10 @@ fn the_end_answers_any_bytes() {
 fn no_run_is_over() {
     let mut rng = Rng(80);
     let input = day(4, Style::Busy);
-    for (at, number) in [(0, 3), (0, u64::MAX), (1, 8), (10, 2)] {
-        let mut run = vec![0; RUN];
-        run[0] = 1;
-        run[at] = number;
+    let layouts = [0, 6, LAYOUT - 1, LAYOUT + 1].map(|layout| (1 + at::LAYOUT, layout));
+    for (place, number) in [(0, 3), (0, u64::MAX), (1 + at::SETTINGS, 8), (1 + at::CLOSED, 2)].into_iter().chain(layouts) {
+        let mut run = unopened(1);
+        run[place] = number;
         let [mut buys, mut sells, mut room] = [TABLE, TABLE, ROOM].map(|length| rng.garbage(length));
         let mut counts = [9; COUNTS];
         let mut out = vec![7; TEXT];
@@ -291,7 +301,7 @@ fn no_run_is_over() {
         counts = [9; COUNTS];
         let end = raw::end(&mut run, &input, &mut buys, &mut sells, &mut room, &mut out, &mut counts);
         assert_eq!((end, counts), (512, [0, 0]));
-        assert!(run[0] == 2 && run[1..].iter().all(|&number| number == 0) && out.iter().all(|&byte| byte == 7));
+        assert!(run == unopened(2) && out.iter().all(|&byte| byte == 7));
     }
 }
 

@@ -41,7 +41,7 @@ fn a_day_is_played_and_kept() {
     assert_eq!((day.time(), day.reference()), (5, 10_000));
 
     let (buys, sells) = day.tables();
-    let mut again = Session::resume(*day.numbers(), *buys, *sells);
+    let mut again = Session::from_numbers(*day.numbers(), *buys, *sells);
     let event = limit(6, Side::Buy, 5, 10_150);
     let reports: Vec<Report> = again.apply(&event).unwrap().collect();
     assert_eq!(reports, day.apply(&event).unwrap().collect::<Vec<_>>());
@@ -56,12 +56,85 @@ fn a_day_is_played_and_kept() {
     assert_eq!(day.apply(&end).err(), Some(Refusal::Closed));
 }
 
+/// What docs/LINES.md reckons, as the library answers it.
+#[test]
+fn the_examples_of_the_formulas() {
+    let band = |category, base, tick, widened| {
+        let given = Settings { category, base, close: base, settle: base, tick, ..settings() };
+        let mut numbers = *Session::open(&given).unwrap().numbers();
+        numbers[terms::at::WIDENED] = widened;
+        let stood = Session::from_numbers(numbers, [0; terms::TABLE], [0; terms::TABLE]).standing().unwrap();
+        (stood.percent, stood.band.low, stood.band.high)
+    };
+    assert_eq!(band(Category::Sensitive, 1_003, 1, 0), (3, 973, 1_033));
+    assert_eq!(band(Category::Sensitive, 1_005, 5, 0), (3, 975, 1_035));
+    assert_eq!(band(Category::Gems, 10_000, 5, 0), (3, 9_700, 10_300));
+    assert_eq!(band(Category::Gems, 10_000, 5, 1), (6, 9_400, 10_600));
+    let percents = [(4, 6), (4, 6), (3, 4), (6, 9), (6, 9), (6, 9), (3, 6), (6, 9)];
+    for (category, percents) in Category::ALL.into_iter().zip(percents) {
+        assert_eq!((band(category, 100, 1, 0).0, band(category, 100, 1, 1).0), percents);
+    }
+    let opening = Session::open(&Settings { days: 73, under: 9_900, ..settings() }).unwrap();
+    assert_eq!(opening.reference(), 10_099);
+
+    let trade = |day: &mut Session, time, lots, price| {
+        day.apply(&limit(time, Side::Sell, lots, price)).unwrap();
+        day.apply(&limit(time, Side::Buy, lots, price)).unwrap();
+    };
+    let clock = |time| Event { time, act: Act::Clock };
+    let mut day = Session::open(&settings()).unwrap();
+    trade(&mut day, 0, 1, 10_150);
+    trade(&mut day, 60_000, 3, 10_150);
+    trade(&mut day, 61_000, 2, 10_300);
+    // the touch is told at once, the average with the next minute's first event
+    let stood = day.standing().unwrap();
+    assert_eq!(
+        (stood.reference, stood.cooling, stood.last),
+        (10_150, Some(961_000), Some(Traded { price: 10_300, lots: 2 }))
+    );
+    assert_eq!((stood.buys, stood.sells, stood.given, stood.trades), (0, 0, 6, 3));
+    day.apply(&clock(120_000)).unwrap();
+    let stood = day.standing().unwrap();
+    assert_eq!((stood.reference, stood.range), (10_225, Ends { low: 10_072, high: 10_378 }));
+    assert!(stood.range.hold(10_375) && !stood.range.hold(10_380));
+    day.apply(&clock(960_999)).unwrap();
+    assert_eq!(day.standing().unwrap().band, Ends { low: 9_700, high: 10_300 });
+    day.apply(&clock(961_000)).unwrap();
+    let stood = day.standing().unwrap();
+    assert_eq!((stood.percent, stood.band, stood.cooling), (6, Ends { low: 9_400, high: 10_600 }, None));
+    // a wider band does not widen the range, and a closed day answers too
+    assert_eq!(stood.range, Ends { low: 10_072, high: 10_378 });
+    day.apply(&Event { time: 3_600_000, act: Act::Close { settle: 10_200 } }).unwrap();
+    assert_eq!(day.standing(), Ok(stood));
+
+    // ten trades: the average weighted by lots, to the nearest tick, halves up
+    for (many, few, expected) in [(6, 4, 10_150), (2, 2, 10_155)] {
+        let mut day = Session::open(&Settings { base: 10_150, ..settings() }).unwrap();
+        for (lots, price) in [(many, 10_150), (few, 10_155)] {
+            for _ in 0..5 {
+                trade(&mut day, 5, lots, price);
+            }
+        }
+        let end = Event { time: 3_600_000, act: Act::Close { settle: 10_000 } };
+        assert_eq!(
+            day.apply(&end).unwrap().last(),
+            Some(Report::Close { time: 3_600_000, price: expected, base: expected })
+        );
+    }
+}
+
 #[test]
 fn damaged_numbers_are_refused() {
     let mut numbers = *Session::open(&settings()).unwrap().numbers();
-    numbers[14] = 0;
-    let mut day = Session::resume(numbers, [0; 768], [0; 768]);
+    numbers[terms::at::REFERENCE] = 0;
+    let mut day = Session::from_numbers(numbers, [0; terms::TABLE], [0; terms::TABLE]);
     assert!(!day.is_sound());
+    assert_eq!(day.apply(&limit(0, Side::Buy, 1, 10_000)).err(), Some(Refusal::Unsound));
+    assert_eq!(day.standing(), Err(Refusal::Unsound));
+    // numbers of another layout
+    numbers = *Session::open(&settings()).unwrap().numbers();
+    numbers[terms::at::LAYOUT] += 1;
+    let mut day = Session::from_numbers(numbers, [0; terms::TABLE], [0; terms::TABLE]);
     assert_eq!(day.apply(&limit(0, Side::Buy, 1, 10_000)).err(), Some(Refusal::Unsound));
 }
 

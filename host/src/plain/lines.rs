@@ -5,7 +5,9 @@ use crate::terms::*;
 /// Why bytes are no line: 14, or 15 with the length of the longest start that begins one.
 #[derive(Clone, Copy, PartialEq, Eq, Debug)]
 pub enum NoLine {
+    /// 14.
     Unfinished,
+    /// 15, and the place.
     Wrong(usize),
 }
 

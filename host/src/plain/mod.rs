@@ -33,26 +33,41 @@ const SLABS: [(u64, u64); 8] = [(4, 2), (4, 2), (3, 1), (6, 3), (6, 3), (6, 3), 
 /// Everything a day remembers beside its two tables.
 #[derive(Clone, PartialEq, Eq, Debug)]
 pub struct Session {
+    /// What the day was opened with.
     pub settings: Settings,
+    /// The time of the last accepted event.
     pub time: u64,
+    /// Whether the day is over.
     pub closed: bool,
+    /// Live orders of the buy table.
     pub buys: u64,
+    /// Live orders of the sell table.
     pub sells: u64,
     /// How often the band was widened: 0 or 1.
     pub widened: u64,
     /// When the cooling-off ends; 0 where none runs.
     pub cooling: u64,
+    /// The reference price.
     pub reference: u64,
+    /// The running minute's trades.
     pub minute_count: u64,
+    /// The sum of their prices.
     pub minute_sum: u64,
+    /// The underlying now; 0 where none is known.
     pub under: u64,
+    /// Order numbers given.
     pub given: u64,
+    /// Trades made.
     pub trades: u64,
-    /// The last ten trades, oldest first.
+    /// Prices of the last ten trades, oldest first.
     pub prices: [u64; 10],
+    /// Their lots.
     pub sizes: [u64; 10],
+    /// Trades of the closing half hour.
     pub half_count: u64,
+    /// Their lots.
     pub half_lots: u64,
+    /// The sum of price times lots.
     pub half_value: u64,
 }
 
@@ -175,6 +190,7 @@ impl Session {
         }
     }
 
+    /// Opens a day. Refused by 12 or 13.
     pub fn open(settings: Settings) -> Result<Session, Refusal> {
         settings.check()?;
         let reference = if settings.under == 0 { settings.base } else { settings.theoretical(settings.under) };
@@ -198,6 +214,31 @@ impl Session {
             Side::Buy => &buys[..3 * self.buys as usize],
             Side::Sell => &sells[..3 * self.sells as usize],
         }
+    }
+
+    /// Where the day stands as it is: no clock step is taken. Refused by 1 or 2.
+    pub fn standing(&self, buys: &[u64], sells: &[u64]) -> Result<Standing, Refusal> {
+        if buys.len() < TABLE || sells.len() < TABLE {
+            return Err(Refusal::ShortTable);
+        }
+        if !self.sound(buys, sells) {
+            return Err(Refusal::Unsound);
+        }
+        let (initial, enhanced) = SLABS[self.settings.category as usize];
+        let (band, range) = (self.settings.band(self.widened == 1), self.range());
+        let newest = self.trades.min(10) as usize;
+        Ok(Standing {
+            percent: if self.widened == 1 { initial + enhanced } else { initial },
+            band: Ends { low: band.low, high: band.high },
+            range: Ends { low: range.low, high: range.high },
+            reference: self.reference,
+            cooling: (self.cooling != 0).then_some(self.cooling),
+            last: (newest > 0).then(|| Traded { price: self.prices[newest - 1], lots: self.sizes[newest - 1] }),
+            buys: self.buys,
+            sells: self.sells,
+            given: self.given,
+            trades: self.trades,
+        })
     }
 
     fn ground(&self, buys: &[Order], sells: &[Order]) -> Option<Ground> {
@@ -540,4 +581,32 @@ fn order<const BUY: bool>(
         }
     };
     own.insert::<BUY>([id, price, left]);
+}
+
+#[cfg(test)]
+mod tests {
+    use super::*;
+
+    /// The paper: price x is in range when 200×|x−reference| is at most initial percent×reference.
+    #[test]
+    fn the_ends_of_the_range_are_the_last_prices_in_it() {
+        for category in Category::ALL {
+            let settings =
+                Settings { category, base: 100, close: 1, settle: 1, tick: 1, length: 3_600_000, days: 0, under: 0 };
+            let mut session = Session::open(settings).unwrap();
+            let (initial, _) = SLABS[category as usize];
+            let references = (1..2_000).chain([10_225, 9_999_999, REFERENCE_MOST - 1, REFERENCE_MOST]);
+            for reference in references {
+                session.reference = reference;
+                let range = session.range();
+                for x in [range.low.saturating_sub(1), range.low, reference, range.high, range.high + 1] {
+                    assert_eq!(
+                        range.holds(x),
+                        200 * x.abs_diff(reference) <= initial * reference,
+                        "{category:?} {reference} {x}"
+                    );
+                }
+            }
+        }
+    }
 }

@@ -13,54 +13,56 @@ fn answer(result: Result<usize, Refusal>) -> u64 {
 }
 
 impl Session {
+    /// The session's numbers, each in its place.
     pub fn to_run(&self) -> [u64; SESSION] {
         let mut run = [0; SESSION];
-        run[..8].copy_from_slice(&self.settings.to_run());
-        run[8..20].copy_from_slice(&[
-            self.time,
-            u64::from(self.closed),
-            self.buys,
-            self.sells,
-            self.widened,
-            self.cooling,
-            self.reference,
-            self.minute_count,
-            self.minute_sum,
-            self.under,
-            self.given,
-            self.trades,
-        ]);
-        run[20..30].copy_from_slice(&self.prices);
-        run[30..40].copy_from_slice(&self.sizes);
-        run[40..].copy_from_slice(&[self.half_count, self.half_lots, self.half_value]);
+        run[at::LAYOUT] = LAYOUT;
+        run[at::SETTINGS..][..SETTINGS].copy_from_slice(&self.settings.to_run());
+        run[at::TIME] = self.time;
+        run[at::CLOSED] = self.closed.into();
+        run[at::BUYS] = self.buys;
+        run[at::SELLS] = self.sells;
+        run[at::WIDENED] = self.widened;
+        run[at::COOLING] = self.cooling;
+        run[at::REFERENCE] = self.reference;
+        run[at::MINUTE_COUNT] = self.minute_count;
+        run[at::MINUTE_SUM] = self.minute_sum;
+        run[at::UNDER] = self.under;
+        run[at::GIVEN] = self.given;
+        run[at::TRADES] = self.trades;
+        run[at::PRICES..][..10].copy_from_slice(&self.prices);
+        run[at::SIZES..][..10].copy_from_slice(&self.sizes);
+        run[at::HALF_COUNT] = self.half_count;
+        run[at::HALF_LOTS] = self.half_lots;
+        run[at::HALF_VALUE] = self.half_value;
         run
     }
 
     /// Numbers that are no session are the fixed session.
     pub fn from_run(run: &[u64; SESSION]) -> Session {
-        let settings = run.first_chunk().and_then(Settings::from_run);
-        let (Some(settings), closed @ (0 | 1)) = (settings, run[9]) else {
+        let settings = run[at::SETTINGS..].first_chunk().and_then(Settings::from_run);
+        let (LAYOUT, Some(settings), closed @ (0 | 1)) = (run[at::LAYOUT], settings, run[at::CLOSED]) else {
             return Session::fixed();
         };
         Session {
             settings,
-            time: run[8],
+            time: run[at::TIME],
             closed: closed == 1,
-            buys: run[10],
-            sells: run[11],
-            widened: run[12],
-            cooling: run[13],
-            reference: run[14],
-            minute_count: run[15],
-            minute_sum: run[16],
-            under: run[17],
-            given: run[18],
-            trades: run[19],
-            prices: run[20..30].try_into().unwrap(),
-            sizes: run[30..40].try_into().unwrap(),
-            half_count: run[40],
-            half_lots: run[41],
-            half_value: run[42],
+            buys: run[at::BUYS],
+            sells: run[at::SELLS],
+            widened: run[at::WIDENED],
+            cooling: run[at::COOLING],
+            reference: run[at::REFERENCE],
+            minute_count: run[at::MINUTE_COUNT],
+            minute_sum: run[at::MINUTE_SUM],
+            under: run[at::UNDER],
+            given: run[at::GIVEN],
+            trades: run[at::TRADES],
+            prices: run[at::PRICES..][..10].try_into().unwrap(),
+            sizes: run[at::SIZES..][..10].try_into().unwrap(),
+            half_count: run[at::HALF_COUNT],
+            half_lots: run[at::HALF_LOTS],
+            half_value: run[at::HALF_VALUE],
         }
     }
 }
@@ -70,6 +72,7 @@ fn event_from(run: &[u64; EVENT]) -> Event {
     Event::from_run(run).unwrap_or(Event { time: u64::MAX, act: Act::Clock })
 }
 
+/// As `kakoludar_open`.
 pub fn open(settings: &[u64], session: &mut [u64]) -> u64 {
     let (Some(settings), Some(session)) = (settings.first_chunk(), session.first_chunk_mut::<SESSION>()) else {
         return Refusal::ShortTable.number();
@@ -79,6 +82,7 @@ pub fn open(settings: &[u64], session: &mut [u64]) -> u64 {
     answer(opened.map(|_| 0))
 }
 
+/// As `kakoludar_apply`.
 pub fn apply(session: &mut [u64], event: &[u64], buys: &mut [u64], sells: &mut [u64], room: &mut [u64]) -> u64 {
     let (Some(run), Some(event)) = (session.first_chunk_mut(), event.first_chunk()) else {
         return Refusal::ShortTable.number();
@@ -91,10 +95,12 @@ pub fn apply(session: &mut [u64], event: &[u64], buys: &mut [u64], sells: &mut [
     answer(applied)
 }
 
+/// As `kakoludar_sound`.
 pub fn sound(session: &[u64], buys: &[u64], sells: &[u64]) -> u64 {
     session.first_chunk().is_some_and(|run| Session::from_run(run).sound(buys, sells)).into()
 }
 
+/// As `kakoludar_view`.
 pub fn view(side: u64, session: &[u64], buys: &[u64], sells: &[u64]) -> u64 {
     let side = match side {
         1 => Side::Buy,
@@ -102,6 +108,17 @@ pub fn view(side: u64, session: &[u64], buys: &[u64], sells: &[u64]) -> u64 {
         _ => return 0,
     };
     session.first_chunk().map_or(0, |run| Session::from_run(run).view(side, buys, sells).len() as u64)
+}
+
+/// As `kakoludar_standing`.
+pub fn standing(session: &[u64], buys: &[u64], sells: &[u64], standing: &mut [u64]) -> u64 {
+    let (Some(session), Some(standing)) = (session.first_chunk(), standing.first_chunk_mut()) else {
+        return Refusal::ShortTable.number();
+    };
+    answer(Session::from_run(session).standing(buys, sells).map(|stood| {
+        *standing = stood.to_numbers();
+        0
+    }))
 }
 
 fn read<T, const N: usize>(read: Result<(T, usize), NoLine>, run: &mut [u64], numbers: impl Fn(&T) -> [u64; N]) -> u64 {
@@ -118,14 +135,17 @@ fn read<T, const N: usize>(read: Result<(T, usize), NoLine>, run: &mut [u64], nu
     }
 }
 
+/// As `kakoludar_read_settings`.
 pub fn read_settings(line: &[u8], settings: &mut [u64]) -> u64 {
     read(lines::read_settings(line), settings, Settings::to_run)
 }
 
+/// As `kakoludar_read_event`.
 pub fn read_event(line: &[u8], event: &mut [u64]) -> u64 {
     read(lines::read_event(line), event, Event::to_run)
 }
 
+/// As `kakoludar_write_settings`.
 pub fn write_settings(settings: &[u64], line: &mut [u8]) -> u64 {
     let Some(settings) = settings.first_chunk() else {
         return Refusal::ShortTable.number();
@@ -134,6 +154,7 @@ pub fn write_settings(settings: &[u64], line: &mut [u8]) -> u64 {
     answer(settings.and_then(|settings| lines::write_settings(&settings, line)))
 }
 
+/// As `kakoludar_write_event`.
 pub fn write_event(event: &[u64], line: &mut [u8]) -> u64 {
     let Some(event) = event.first_chunk() else {
         return Refusal::ShortTable.number();
@@ -142,6 +163,7 @@ pub fn write_event(event: &[u64], line: &mut [u8]) -> u64 {
     answer(event.and_then(|event| lines::write_event(&event, line)))
 }
 
+/// As `kakoludar_write_report`.
 pub fn write_report(record: &[u64], line: &mut [u8]) -> u64 {
     let Some(record) = record.first_chunk() else {
         return Refusal::ShortTable.number();

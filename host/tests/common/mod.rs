@@ -142,7 +142,7 @@ impl Day {
     }
 
     pub fn orders(&self) -> (Vec<[u64; 3]>, Vec<[u64; 3]>) {
-        (self.live(&self.buys, self.session[10]), self.live(&self.sells, self.session[11]))
+        (self.live(&self.buys, self.session[at::BUYS]), self.live(&self.sells, self.session[at::SELLS]))
     }
 }
 
@@ -403,34 +403,68 @@ pub fn damage_session(rng: &mut Rng, day: &mut Day) {
         s.half_lots.wrapping_mul(tick),
         s.half_lots.wrapping_mul(100_000_000),
     ];
-    let at = match rng.below(3) {
-        0 => 8 + rng.below(12) as usize,
-        1 => rng.pick(&[15, 16, 40, 41, 42, 12, 13, 14, 20, 29, 30, 39]),
+    let single = [
+        at::TIME,
+        at::CLOSED,
+        at::BUYS,
+        at::SELLS,
+        at::WIDENED,
+        at::COOLING,
+        at::REFERENCE,
+        at::MINUTE_COUNT,
+        at::MINUTE_SUM,
+        at::UNDER,
+        at::GIVEN,
+        at::TRADES,
+    ];
+    let edges = [
+        at::MINUTE_COUNT,
+        at::MINUTE_SUM,
+        at::HALF_COUNT,
+        at::HALF_LOTS,
+        at::HALF_VALUE,
+        at::WIDENED,
+        at::COOLING,
+        at::REFERENCE,
+        at::PRICES,
+        at::PRICES + 9,
+        at::SIZES,
+        at::SIZES + 9,
+    ];
+    let place = match rng.below(3) {
+        0 => rng.pick(&single),
+        1 => rng.pick(&edges),
         _ => rng.below(SESSION as u64) as usize,
     };
+    // what was stored before the layout was marked, or by another version
+    if place == at::LAYOUT {
+        day.session[place] = rng.pick(&[0, 6, 7, 8, LAYOUT - 1, LAYOUT + 1, u64::MAX]);
+        return;
+    }
     // what goes with the number is filled in at times, so that one condition alone is broken
-    if at == 19 && rng.chance(70) {
+    if place == at::TRADES && rng.chance(70) {
         for i in 0..10 {
-            if day.session[20 + i] == 0 {
-                day.session[20 + i] = tick;
-                day.session[30 + i] = 1;
+            if day.session[at::PRICES + i] == 0 {
+                day.session[at::PRICES + i] = tick;
+                day.session[at::SIZES + i] = 1;
             }
         }
     }
-    day.session[at] = near(rng, day.session[at], &related);
-    if at == 40 && rng.chance(50) {
-        let count = day.session[40];
-        day.session[41] = rng.pick(&[count, count.wrapping_mul(10_000)]);
-        let lots = day.session[41];
-        day.session[42] = rng.pick(&[lots.wrapping_mul(tick), lots.wrapping_mul(100_000_000)]);
+    day.session[place] = near(rng, day.session[place], &related);
+    if place == at::HALF_COUNT && rng.chance(50) {
+        let count = day.session[at::HALF_COUNT];
+        day.session[at::HALF_LOTS] = rng.pick(&[count, count.wrapping_mul(10_000)]);
+        let lots = day.session[at::HALF_LOTS];
+        day.session[at::HALF_VALUE] = rng.pick(&[lots.wrapping_mul(tick), lots.wrapping_mul(100_000_000)]);
         if rng.chance(50) {
-            let at = rng.pick(&[41, 42]);
-            day.session[at] = day.session[at].wrapping_add(rng.pick(&[1, u64::MAX]));
+            let place = rng.pick(&[at::HALF_LOTS, at::HALF_VALUE]);
+            day.session[place] = day.session[place].wrapping_add(rng.pick(&[1, u64::MAX]));
         }
     }
-    if at == 15 && rng.chance(50) {
-        let count = day.session[15];
-        day.session[16] = rng.pick(&[count, count.wrapping_mul(100_000_000)]).wrapping_add(rng.pick(&[0, 1, u64::MAX]));
+    if place == at::MINUTE_COUNT && rng.chance(50) {
+        let count = day.session[at::MINUTE_COUNT];
+        let sum = rng.pick(&[count, count.wrapping_mul(100_000_000)]).wrapping_add(rng.pick(&[0, 1, u64::MAX]));
+        day.session[at::MINUTE_SUM] = sum;
     }
 }
 
