@@ -14,11 +14,13 @@ use Rattle.terms.specs.Sizes.{writtenMost}
 use Rattle.terms.proofs.Logic.{cases, split, join}
 use Rattle.lines_text_law.specs.Numerals.{numeral, allWritable}
 use Rattle.terms.specs.Numbers.{Writable}
+use Rattle.tables.specs.Put.{put}
+use Rattle.tables.proofs.Puts.{put-none, put-put-before}
 use Rattle.lines_text_law.specs.Forms.{hole, piece, taken, fill, holes, longest}
 use Rattle.lines_text_law.specs.declared.Spot.{Spot}
-use Rattle.lines_text_law.specs.code.Room.{over, Put, Placed, Fits, PieceFits}
+use Rattle.lines_text_law.specs.code.Room.{Put, Placed, Fits, PieceFits}
 use Rattle.lines_text_law.proofs.Digits.{length-most, numeral-first, numeral-last, length-last}
-use Rattle.lines_text_law.proofs.Rooms.{over-over, set-over}
+use Rattle.lines_text_law.proofs.Rooms.{put-then, set-put}
 
 -- ---- numbers that can be written
 
@@ -108,40 +110,19 @@ fill-append [] g ns = refl
 fill-append (c ∷ f) g ns =
     rw (fill-append f g (drop (taken c) ns), drop-drop (holes f) (taken c) ns, append-assoc)
 
--- ---- rooms
-
-pub over-none : (d : List ℕ) (n : ℕ) → over d n [] ≡ d
-unfolding over
-over-none d n = rw (append-nil, add-zero) (take-append-drop n d)
-
--- what stands behind may be put first
-pub over-before : (d : List ℕ) (n : ℕ) (a b : List ℕ) (k : ℕ) → k ≡ n + length a → n + length (a ++ b) ≤ length d → over (over d k b) n a ≡ over d n (a ++ b)
-unfolding over
-over-before d n a b k q h =
-    let l = length-append a b in
-    let t = length-take-le k d (omega arith) in
-    let rest = drop (k + length b) d in
-    let e : take n (take k d ++ b ++ rest) ≡ take n d =
-    ap (take n) (append-assoc (take k d) b rest)
-    ∙ take-append-le n (take k d) (b ++ rest) (omega arith)
-    ∙ take-take n k d (omega arith) in
-    let f : drop (n + length a) (take k d ++ b ++ rest) ≡ b ++ rest =
-    ap (drop (n + length a)) (append-assoc (take k d) b rest) ∙ drop-at (take k d) (b ++ rest) (n + length a) (omega arith) in
-    let i : k + length b ≡ n + length (a ++ b) = omega arith in
-    rw (e, f, i) (simp append-assoc)
-
 -- ---- a number's digits, the last first
 
 pub digit-turn : (d : List ℕ) (n w p : ℕ) → 10 ≤ w → w ≤ writtenMost → p ≡ n + length (numeral w) → p ≤ length d
-    → over d n (numeral w) ≡ over (set d (p - 1) (48 + w % 10)) n (numeral (w / 10))
+    → put d n (numeral w) ≡ put (set d (p - 1) (48 + w % 10)) n (numeral (w / 10))
 digit-turn d n w p a b q h =
     let l = length-last w a b in
     let t = length-append (numeral (w / 10)) ((48 + w % 10) ∷ []) in
-    rw (numeral-last w a b, set-over d (p - 1) (48 + w % 10) (omega arith))
-    (sym (over-before d n (numeral (w / 10)) ((48 + w % 10) ∷ []) (p - 1) (omega arith) (omega arith)))
+    rw (numeral-last w a b, set-put d (p - 1) (48 + w % 10) (omega arith))
+    (let k : p - 1 ≡ n + length (numeral (w / 10)) = omega arith in
+    rw k (sym (put-put-before d n (numeral (w / 10)) ((48 + w % 10) ∷ []) (omega arith))))
 
-pub digit-end : (d : List ℕ) (n w : ℕ) → w < 10 → n < length d → over d n (numeral w) ≡ set d n (48 + w)
-digit-end d n w a h = rw (numeral-first w a, set-over d n (48 + w) h)
+pub digit-end : (d : List ℕ) (n w : ℕ) → w < 10 → n < length d → put d n (numeral w) ≡ set d n (48 + w)
+digit-end d n w a h = rw (numeral-first w a, set-put d n (48 + w) h)
 
 -- ---- what one byte of a form stands for, put at a spot
 
@@ -156,7 +137,7 @@ module _ {d : List ℕ} {from : Spot} {b : ℕ} {ns : List ℕ} (fits : PieceFit
 
     pub number-placed : {d′ : List ℕ} {end : ℕ} → Put d (from .at) (numeral (getD ns (from .used) 0)) d′ end
         → Placed d from (piece b (getD ns (from .used) 0)) (taken b) d′ (record { at = end; used = from .used + 1 })
-    number-placed p = record { put = rw (hole-piece b (getD ns (from .used) 0) e) p; used = rw (hole-taken b e) }
+    number-placed p = record { there = rw (hole-piece b (getD ns (from .used) 0) e) p; used = rw (hole-taken b e) }
 
   -- or the byte itself
   module _ (e : b ≡ hole → ⊥) where
@@ -166,7 +147,7 @@ module _ {d : List ℕ} {from : Spot} {b : ℕ} {ns : List ℕ} (fits : PieceFit
     pub byte-placed : Placed d from (piece b (getD ns (from .used) 0)) (taken b) (set d (from .at) b) (record { at = from .at + 1; used = from .used })
     byte-placed =
         record {
-          put = rw (byte-piece b (getD ns (from .used) 0) e) (record { next = refl; laid = set-over d (from .at) b byte-fits });
+          there = rw (byte-piece b (getD ns (from .used) 0) e) (record { next = refl; laid = set-put d (from .at) b byte-fits });
           used = omega (arith, byte-taken b e);
         }
 
@@ -178,7 +159,7 @@ pub record Left (d₀ f ns : List ℕ) (from : Spot) (d : List ℕ) (to : Spot) 
   pub same : length d ≡ length d₀
   pub used : to .used + holes (drop i f) ≡ from .used + holes f
   pub place : to .at + length (fill (drop i f) (drop (to .used) ns)) ≡ from .at + length (fill f (drop (from .used) ns))
-  pub rest : over d₀ (from .at) (fill f (drop (from .used) ns)) ≡ over d (to .at) (fill (drop i f) (drop (to .used) ns))
+  pub rest : put d₀ (from .at) (fill f (drop (from .used) ns)) ≡ put d (to .at) (fill (drop i f) (drop (to .used) ns))
 
 pub left-all : (d f ns : List ℕ) (from : Spot) → Left d f ns from d from 0
 left-all d f ns from = record { inside = omega arith; same = refl; used = refl; place = refl; rest = refl }
@@ -204,7 +185,7 @@ module _ {d₀ f ns : List ℕ} {from : Spot} {d : List ℕ} {to : Spot} {i : �
     pub left-turn : {d′ : List ℕ} {to′ : Spot} → length d′ ≡ length d → Placed d to next (taken (getD f i 0)) d′ to′ → Left d₀ f ns from d′ to′ (i + 1)
     left-turn {d′} {to′} s p =
         let rest = fill (drop (i + 1) f) (drop (to .used + taken (getD f i 0)) ns) in
-        let z = p .put .next in
+        let z = p .there .next in
         let u = p .used in
         record {
           inside = omega arith;
@@ -213,8 +194,8 @@ module _ {d₀ f ns : List ℕ} {from : Spot} {d : List ℕ} {to : Spot} {i : �
           place = rw u (omega (arith, turned, left .place));
           rest =
               left .rest
-              ∙ rw (fill-turn f ns i (to .used) more, u, p .put .laid)
-              (sym (over-over d (to .at) next rest (to′ .at) z (left-fits .within)));
+              ∙ rw (fill-turn f ns i (to .used) more, u, p .there .laid)
+              (sym (put-then d (to .at) next rest (to′ .at) z (left-fits .within)));
         }
 
   -- at the end all of it is there
@@ -222,6 +203,6 @@ module _ {d₀ f ns : List ℕ} {from : Spot} {d : List ℕ} {to : Spot} {i : �
   left-none h =
       let e = fill-end f (drop (to .used) ns) i h in
       record {
-        put = record { next = omega (arith, left .place, ap length e); laid = sym (left .rest ∙ rw e (over-none d (to .at))) };
+        there = record { next = omega (arith, left .place, ap length e); laid = sym (left .rest ∙ rw e (put-none d (to .at))) };
         used = omega (arith, left .used, holes-end f i h);
       }

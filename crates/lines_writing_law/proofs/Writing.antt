@@ -11,10 +11,11 @@ use borrow.Author.Tests.{le-leb, lt-leb, not-true, not-false}
 use Rattle.terms.specs.declared.Refusal.the-variants.{SmallLineRoom, NumberLong}
 use Rattle.terms.specs.Sizes.{lineRoom}
 use Rattle.terms.specs.Refusals.{firstFailed}
+use Rattle.tables.specs.Put.{put}
 use Rattle.lines_text_law.specs.Numerals.{allWritable}
 use Rattle.lines_text_law.specs.Forms.{fill, holes}
 use Rattle.lines_text_law.specs.declared.Spot.{Spot}
-use Rattle.lines_text_law.specs.code.Room.{over, Put, Placed, Fits}
+use Rattle.lines_text_law.specs.code.Room.{Put, Placed, Fits}
 use Rattle.lines_text_law.proofs.Rooms.{then}
 use Rattle.lines_text_law.proofs.Fills.{fill-length, fill-append, tested-writable}
 use Rattle.lines_writing_law.specs.declared.Wrote.{Wrote}
@@ -32,11 +33,11 @@ module _ (d line ns : List ℕ) where
   refused-number h k = record { answer = rw (le-leb lineRoom (length d) h, k); laid = rw (le-leb lineRoom (length d) h, k) }
 
   pub written : {d′ : List ℕ} {r : ℕ} → lineRoom ≤ length d → allWritable ns ≡ true → Put d 0 line d′ r → Writes d line ns (Wrote.Written r) d′
-  unfolding lineVerdict firstFailed over
+  unfolding lineVerdict firstFailed put
   written h k p =
       record {
         answer = rw (le-leb lineRoom (length d) h, k) (ap Wrote.Written (p .next ∙ zero-add (length line)));
-        laid = rw (le-leb lineRoom (length d) h, k) (p .laid ∙ rw (zero-add (length line)));
+        laid = rw (le-leb lineRoom (length d) h, k) (p .laid);
       }
 
 -- what a test that did not stop showed, and one that did
@@ -64,7 +65,7 @@ module _ {d h t ns : List ℕ} (formed : Formed h t ns) (large : lineRoom ≤ le
     tail-fits =
         let s = formed .short in
         let e = formed .enough in
-        let n = head .put .next in
+        let n = head .there .next in
         let u = head .used in
         record {
           within = omega (arith, fill-length h ns, fill-length t (drop (middle .used) ns));
@@ -76,7 +77,7 @@ module _ {d h t ns : List ℕ} (formed : Formed h t ns) (large : lineRoom ≤ le
     both-put tail =
         let s = formed .short in
         let e : middle .used ≡ holes h = head .used ∙ zero-add (holes h) in
-        rw (fill-append h t ns) (then (omega (arith, fill-length h ns)) (head .put) (rw e at (tail .put)))
+        rw (fill-append h t ns) (then (omega (arith, fill-length h ns)) (head .there) (rw e at (tail .there)))
 
 -- each answer of `write`: `search writer`
 pub ruleset writer = (needs, passed, stopped, refused-room, refused-number, head-fits, tail-fits, both-put, written)

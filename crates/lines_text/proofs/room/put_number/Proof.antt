@@ -5,7 +5,7 @@ use mathlib.Core.Path.{_≡_, refl, _∙_, sym}
 use lib.ListN.{length, length-set}
 use Rattle.terms.specs.Sizes.{writtenMost}
 use Rattle.lines_text_law.specs.Numerals.{numeral}
-use Rattle.lines_text_law.specs.code.Room.{over}
+use Rattle.tables.specs.Put.{put}
 use Rattle.lines_text_law.proofs.Digits.{length-first, length-last}
 use Rattle.lines_text_law.proofs.Fills.{digit-turn, digit-end}
 use borrow.Author.Needs.{needs}
@@ -18,7 +18,7 @@ Inv-loop room₀ at v end p₀ w₀ room p w =
     × (p ≡ at + length (numeral w))
     × (p ≤ length room)
     × (length room ≡ length room₀)
-    × (over room₀ at (numeral v) ≡ over room at (numeral w))
+    × (put room₀ at (numeral v) ≡ put room at (numeral w))
 
 abbrev μ-loop : tie.MeasureT-loop
 μ-loop room₀ at v end p₀ w₀ room p w = w
