@@ -15,7 +15,6 @@ use Rattle.terms.specs.declared.Side.the-variants.{Buy, Sell}
 use Rattle.terms.specs.declared.Report.{Report}
 use Rattle.terms.specs.declared.Why.{Why}
 use Rattle.terms.specs.declared.Why.the-variants.{DayEnd}
-use Rattle.terms.specs.Sizes.{slots}
 use Rattle.tables.specs.Lengths.{reportsMost}
 use Rattle.book_law.specs.Matching.{Swept, tradeReports, fateReports}
 use Rattle.book_law.proofs.Conserve.{sweep-fewer}

@@ -21,12 +21,12 @@ use Rattle.terms.specs.declared.Side.the-variants.{Buy, Sell}
 use Rattle.terms.specs.declared.Report.{Report}
 use Rattle.terms.specs.declared.Said.the-variants.{Accept, Trade, Convert, Cancel, Slab, Ref, Close}
 use Rattle.terms.specs.declared.Why.{Why}
-use Rattle.terms.specs.declared.Why.the-variants.{Asked, DayEnd}
+use Rattle.terms.specs.declared.Why.the-variants.{Asked}
 use Rattle.terms.proofs.Logic.{by, split, cond-true}
 use Rattle.rules_law.specs.Slabs.{slabOf, percentOf, bandAt, inBand, overBy}
 use Rattle.rules_law.specs.Reference.{inRange}
 use Rattle.book_law.specs.Priority.{removed, leftOf}
-use Rattle.book_law.specs.Matching.{Taker, taker, Swept, sweep, reportAt, dealOf, tradeReports, Fate, Done, Rests, Turns, Ends, settled, fateReports}
+use Rattle.book_law.specs.Matching.{Taker, taker, Swept, sweep, reportAt, dealOf, tradeReports, settled, fateReports}
 use Rattle.book_law.specs.Over.{Each, EachPrice}
 use Rattle.book_law.proofs.Over.{each-map}
 use Rattle.book_law.proofs.Fills.{Dealable, fills-dealable, each-swept}
@@ -43,7 +43,7 @@ use Rattle.state_law.proofs.Leaves.{percent-changes, trades-leave}
 use Rattle.soundness_law.specs.Sound.{sound}
 use Rattle.soundness_law.proofs.Kept.{not-widened}
 use Rattle.soundness_law.proofs.Days.{sound-day}
-use Rattle.acts_law.specs.Acts.{Acted, only, slabMoved, refMoved, clockReports, sweepIn, fateIn, entered, ended, dropped, sideOf, cancelReports, finished, stepped, timed, does, act}
+use Rattle.acts_law.specs.Acts.{Acted, only, slabMoved, refMoved, clockReports, sweepIn, fateIn, entered, ended, dropped, sideOf, finished, stepped, timed, does, act}
 use Rattle.acts_law.specs.Heard.{initialBand, enhancedBand, touchedBy}
 use Rattle.acts_law.proofs.Does.{Sets, setsUnder, setsNone, sets-alike, ends, does-by, across-by, Chains, begun-by}
 use Rattle.acts_law.proofs.Hears.{Listener, listen, FineSlab, Cooled, Known, knownOf, Knows, KnowsOf, Tells, TellsOf, none-tells, next-tells, one-tells, append-tells, later-by, cooled-more, cooled-trade, Plain, PlainAt, knows-more, plain-fine, plain-tells}

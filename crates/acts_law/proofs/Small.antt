@@ -1,6 +1,6 @@
 -- Every number in a report of an accepted event is small: times, order numbers, lots, prices, the ends of a band, a reference, closing
 -- prices. Each is within a bound that the refusals or a sound session give.
-use Prim.Native.Nat.{ℕ, _+_, _≤_, _<_}
+use Prim.Native.Nat.{ℕ, _+_, _≤_}
 use native.Mathlib.Omega.{arith}
 use mathlib.Core.Path.{_≡_, ap}
 use mathlib.Core.Bool.{Bool, true, false}

@@ -1,5 +1,5 @@
 -- The arrays of a session have ten numbers after every event that is accepted.
-use Prim.Native.Nat.{ℕ, _+_}
+use Prim.Native.Nat.{_+_}
 use mathlib.Core.List.{List}
 use Rattle.terms.specs.declared.Act.{Act}
 use Rattle.terms.specs.declared.Event.{Event}

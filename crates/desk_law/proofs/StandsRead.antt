@@ -1,5 +1,5 @@
 -- What an app reads in the numbers of a standing is what orders are judged by.
-use Prim.Native.Nat.{ℕ, _+_, _≤_}
+use Prim.Native.Nat.{ℕ}
 use native.Mathlib.Omega.{arith}
 use mathlib.Core.Path.{_≡_, refl, sym, ap, _∙_}
 use mathlib.Core.Bool.{Bool, true, false, _&&_, cond}
@@ -14,11 +14,9 @@ use Rattle.terms.specs.declared.Refusal.the-variants.{SmallRoom}
 use Rattle.terms.specs.declared.Verdict.{Verdict}
 use Rattle.terms.specs.declared.Verdict.the-variants.{Fine, Refused}
 use Rattle.terms.specs.Truth.{between}
-use Rattle.terms.proofs.Logic.{cases}
 use Rattle.terms.proofs.Refusals.{refusal-number}
 use Rattle.tables.specs.Put.{put}
 use Rattle.rules_law.specs.Reference.{inRange}
-use Rattle.state_law.specs.declared.Session.{Session}
 use Rattle.state_law.specs.Now.{bandNow, rangeNow}
 use Rattle.state_law.specs.Clock.{clockStep}
 use Rattle.refusal_law.specs.Refusals.{bandRight}

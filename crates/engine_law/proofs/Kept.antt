@@ -36,7 +36,7 @@ use Rattle.acts_law.specs.Small.{SmallReports}
 use Rattle.acts_law.specs.Asked.{wanted, askedBy, resting, accepts, numbersTo}
 use Rattle.acts_law.proofs.Stays.{act-stays}
 use Rattle.acts_law.proofs.Lots.{act-kept, act-asks}
-use Rattle.acts_law.proofs.Numbers.{act-counts, givenBy, act-given}
+use Rattle.acts_law.proofs.Numbers.{act-counts, act-given}
 use Rattle.acts_law.proofs.Hears.{Listener, knownOf, KnowsOf, TellsOf, none-tells}
 use Rattle.acts_law.proofs.Says.{act-tells, act-moved}
 use Rattle.acts_law.proofs.Widens.{act-widens}

@@ -22,7 +22,7 @@ use Rattle.state_law.specs.Opening.{openedSession}
 use Rattle.state_law.specs.Clock.{widenedBy, coolingBy, clockStep}
 use Rattle.state_law.specs.Trades.{withTrade, withTrades}
 use Rattle.state_law.specs.Day.{opened}
-use Rattle.soundness_law.specs.Sound.{timeSound, countsSound, slabSound, numbersSound, every, rememberedSound, halfSound, minuteSound, clockSound, tapeSound, sessionSound, counted, sound, soundBy}
+use Rattle.soundness_law.specs.Sound.{timeSound, countsSound, slabSound, numbersSound, every, rememberedSound, halfSound, minuteSound, clockSound, tapeSound, sessionSound, counted, soundBy}
 use Rattle.refusal_law.specs.Refusals.{numbersRight, inHours, ticksRight, bandRight, finds, hasPlace, hasNumbers, refusalOf}
 use Rattle.acts_law.specs.Acts.{clockReports, sweepIn, fateIn, entered, dropped, cancelReports, finished, act}
 use Rattle.acts_law.proofs.Listed.{settings, reports}

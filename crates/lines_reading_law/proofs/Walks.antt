@@ -2,7 +2,7 @@
 use Prim.Native.Nat.{ℕ}
 use mathlib.Core.Path.{_≡_, refl, ap}
 use mathlib.Core.List.{List, _++_}
-use lib.ListN.{length, drop}
+use lib.ListN.{length}
 use lib.Seq.{drop-append-seam}
 use Rattle.lines_reading_law.specs.Answers.{readEvent}
 use Rattle.lines_reading_law.specs.Walk.{eventAt}

@@ -12,7 +12,7 @@ use Rattle.book_sound_law.specs.Sound.{eachSound, distinct, uncrossed, bookSoun
 use Rattle.state_law.specs.Opening.{openedSession}
 use Rattle.state_law.specs.Clock.{widenedBy, coolingBy, clockStep}
 use Rattle.state_law.specs.Trades.{withTrade, withTrades}
-use Rattle.soundness_law.specs.Sound.{timeSound, countsSound, slabSound, numbersSound, every, rememberedSound, halfSound, minuteSound, clockSound, tapeSound, sessionSound, counted, sound, soundBy}
+use Rattle.soundness_law.specs.Sound.{timeSound, countsSound, slabSound, numbersSound, every, rememberedSound, halfSound, minuteSound, clockSound, tapeSound, sessionSound, counted, soundBy}
 use Rattle.refusal_law.specs.Refusals.{numbersRight, inHours, ticksRight, bandRight, finds, hasPlace, hasNumbers, refusalOf}
 use Rattle.engine_law.specs.Outcome.{outcome}
 use Rattle.lines_text_law.specs.Grammar.{word}

@@ -1,7 +1,5 @@
 -- Each result is an equation against the definitions, or the one right answer to bytes, so two are equal.
-use Prim.Native.Nat.{ℕ}
 use mathlib.Core.Path.{_≡_, refl, sym, ap, _∙_}
-use mathlib.Core.List.{List}
 use Rattle.terms.specs.declared.Event.{Event}
 use Rattle.terms.specs.declared.Settings.{Settings}
 use Rattle.lines_text_law.specs.Grammar.{Answer, whole, unfinished, wrong}

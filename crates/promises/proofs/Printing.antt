@@ -28,7 +28,7 @@ use Rattle.lines_text_law.specs.Grammar.{Answer, whole, unfinished, wrong}
 use Rattle.lines_reading_law.specs.Answers.{readEvent, readSettings}
 use Rattle.state_law.specs.Opening.{openedBy, openingOf, openedSession, fixedSession}
 use Rattle.state_law.specs.Day.{Day}
-use Rattle.soundness_law.specs.Sound.{sound, dayIn, soundBy}
+use Rattle.soundness_law.specs.Sound.{dayIn, soundBy}
 use Rattle.soundness_law.proofs.Clocked.{session-clocked}
 use Rattle.soundness_law.proofs.Days.{sound-day}
 use Rattle.engine_law.specs.Outcome.{Outcome, outcome}

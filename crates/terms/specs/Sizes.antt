@@ -1,6 +1,6 @@
 -- Document 01, "Numbers": the sizes, each named once. Later requests change them here. How long tables and records are stands in
 -- tables/specs/Lengths.antt.
-use Prim.Native.Nat.{ℕ, _+_, _*_}
+use Prim.Native.Nat.{ℕ, _+_}
 
 -- "Each side has a lent table of .. 256 orders"
 abbrev pub slots : ℕ

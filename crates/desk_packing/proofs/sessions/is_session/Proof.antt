@@ -1,7 +1,5 @@
 -- All three tests.
 use Rattle.desk_packing_law.proofs.Packs.{session-tested}
-use mathlib.Core.Path.{refl}
-use borrow.Author.Tests.{lt-ltb, le-ltb, le-leb, lt-leb, eq-eqb, ne-eqb}
 use borrow.Author.Needs.{needs}
 use Rattle.desk_packing.proofs.sessions.is_session.Statement.{statement}
 use Rattle.desk_packing.proofs.sessions.is_session.Tie as tie

@@ -1,7 +1,5 @@
 -- Number by number; the category and whether it is closed by their numbers.
 use Rattle.desk_packing_law.proofs.Packs.{packed-right}
-use mathlib.Core.Path.{refl}
-use borrow.Author.Tests.{lt-ltb, le-ltb, le-leb, lt-leb, eq-eqb, ne-eqb}
 use borrow.Author.Needs.{needs}
 use Rattle.desk_packing.proofs.sessions.pack.Statement.{statement}
 use Rattle.desk_packing.proofs.sessions.pack.Tie as tie

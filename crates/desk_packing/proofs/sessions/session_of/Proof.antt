@@ -1,7 +1,5 @@
 -- Section by section.
 use Rattle.desk_packing_law.proofs.Packs.{sections}
-use mathlib.Core.Path.{refl}
-use borrow.Author.Tests.{lt-ltb, le-ltb, le-leb, lt-leb, eq-eqb, ne-eqb}
 use borrow.Author.Needs.{needs}
 use Rattle.desk_packing.proofs.sessions.session_of.Statement.{statement}
 use Rattle.desk_packing.proofs.sessions.session_of.Tie as tie

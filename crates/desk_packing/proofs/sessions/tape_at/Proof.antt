@@ -1,7 +1,5 @@
 -- Number by number; the two arrays by their ten numbers each.
 use Rattle.desk_packing_law.proofs.Packs.{tape-with}
-use mathlib.Core.Path.{refl}
-use borrow.Author.Tests.{lt-ltb, le-ltb, le-leb, lt-leb, eq-eqb, ne-eqb}
 use borrow.Author.Needs.{needs}
 use Rattle.desk_packing.proofs.sessions.tape_at.Statement.{statement}
 use Rattle.desk_packing.proofs.sessions.tape_at.Tie as tie

@@ -1,7 +1,5 @@
 -- Number by number; the category by its row.
 use Rattle.desk_packing_law.proofs.Packs.{settings-with}
-use mathlib.Core.Path.{refl}
-use borrow.Author.Tests.{lt-ltb, le-ltb, le-leb, lt-leb, eq-eqb, ne-eqb}
 use borrow.Author.Needs.{needs}
 use Rattle.desk_packing.proofs.settings.settings_at.Statement.{statement}
 use Rattle.desk_packing.proofs.settings.settings_at.Tie as tie

@@ -1,7 +1,6 @@
 -- The reach is at most the reference, so neither end leaves a word.
 use borrow.Author.Needs.{needs}
 use native.Mathlib.Omega.{arith}
-use mathlib.Core.Path.{refl}
 use Rattle.rules_law.specs.Reference.{rangeLow, rangeHigh}
 use Rattle.rules_law.proofs.Ranges.{range-product, reach-small}
 use Rattle.rules.proofs.reference.range_ends.Statement.{statement}
