@@ -1,5 +1,5 @@
 -- An order accepted and matched: what its calls ask, and what they leave.
-use Prim.Native.Nat.{ℕ, _+_, _*_, _≤_}
+use Prim.Native.Nat.{ℕ, _+_, _*_, _≤_, _<_}
 use native.Mathlib.Omega.{arith}
 use mathlib.Core.Path.{_≡_, ap, _∙_}
 use mathlib.Core.List.{List, [], _∷_, _++_}
@@ -10,7 +10,7 @@ use Rattle.terms.specs.declared.Entry.{Entry}
 use Rattle.terms.specs.declared.Order.{Order}
 use Rattle.terms.specs.declared.Report.{Report}
 use Rattle.terms.specs.declared.Said.the-variants.{Accept}
-use Rattle.terms.specs.Sizes.{recordLength, slots}
+use Rattle.terms.specs.Sizes.{recordLength, slots, numbersMost}
 use Rattle.terms.specs.Records.{recordsOf}
 use Rattle.rules_law.specs.Reference.{RangeFits}
 use Rattle.tables.specs.Put.{put}
@@ -31,7 +31,7 @@ use Rattle.state_law.specs.Set.{setGiven}
 use Rattle.state_law.specs.Now.{bandNow}
 use Rattle.state_law.specs.Trades.{withTrades, TradesFit}
 use Rattle.acts_law.specs.Acts.{lastIn, sweepIn}
-use Rattle.acts_law.specs.Written.{Written, fillsAt, Deals, EachDeals}
+use Rattle.acts_law.specs.Written.{Written, fillsAt, Deals, EachDeals, Remembering}
 use Rattle.acts_law.specs.Entering.{incomingIn, Meeting, MetAs}
 use Rattle.acts_law.proofs.Reports.{written-length, written-then}
 use Rattle.acts_law.proofs.Recalled.{recalls, deals-each}
@@ -96,14 +96,17 @@ module _ (s : Session) (band : Band) (n : Entry) (count : ℕ) (t room : List �
         let e : EachSwept Deals swept = each-swept Deals deals-part _ 0 (n .lots) (decode count t) (g .deals) in
         e .fills
 
-    pub remember-asks : TradesFit (setGiven s (s .given + 1)) (m .trades) × (band ≡ bandNow s) × (m .trades ≤ slots) × (first + recordLength * m .trades ≤ length room′) × EachDeals (m .trades) (drop first room′)
+    pub remember-asks : (s .given < numbersMost) × Remembering (setGiven s (s .given + 1)) band room′ first (m .trades)
     remember-asks =
-        rw (trades-is, stands) (
-          omega (arith, g .fits, few),
-          g .banded,
-          omega (arith, few, g .holds .few),
-          omega (arith, trade-space, kept-length),
-          record { at = deals-each (s .time) (n .side) (s .given + 1) (drop (length (recordsOf trade-reports)) (drop first room₁)) (swept .fills) fills-deal },
+        rw trades-is (
+          g .given-few,
+          record {
+            fits = omega (arith, g .fits, few);
+            banded = g .banded;
+            few = omega (arith, few, g .holds .few);
+            space = omega (arith, trade-space, kept-length);
+            deals = rw stands (record { at = deals-each (s .time) (n .side) (s .given + 1) (drop (length (recordsOf trade-reports)) (drop first room₁)) (swept .fills) fills-deal });
+          },
         )
 
     pub met : (after : Session) → after ≡ withTrades (setGiven s (s .given + 1)) (fillsAt (m .trades) (drop first room′)) →
@@ -116,6 +119,7 @@ module _ (s : Session) (band : Band) (n : Entry) (count : ℕ) (t room : List �
           book = k .book ∙ ap (λ (v : Swept). tableOf (v .rest) t) swept-is;
           count = ap (λ (r : Matched). r .count) (k .answer) ∙ ap (λ (v : Swept). length (v .rest)) swept-is;
           told = written-then room at (reportAt (s .time) (Accept (s .given + 1)) ∷ []) room₁ first trade-reports room′ (m .at) w told (omega (arith, g .space));
+          fits = omega (arith, g .space, few, length-trades (s .time) (n .side) (s .given + 1) (swept .fills));
           session = e ∙ rw (trades-is, stands) (recalls (s .time) (n .side) (s .given + 1) (drop (length (recordsOf trade-reports)) (drop first room₁)) (setGiven s (s .given + 1)) (swept .fills));
           left = ap (λ (r : Matched). r .left) (k .answer) ∙ ap (λ (v : Swept). v .left) swept-is;
           last = ap (λ (r : Matched). r .last) (k .answer) ∙ last-is;

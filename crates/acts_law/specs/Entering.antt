@@ -5,6 +5,7 @@ use mathlib.Core.List.{List, _∷_}
 use lib.ListN.{length}
 use Rattle.terms.specs.declared.Entry.{Entry}
 use Rattle.terms.specs.declared.Order.{Order}
+use Rattle.terms.specs.declared.Report.{Report}
 use Rattle.terms.specs.declared.Band.{Band}
 use Rattle.terms.specs.declared.Life.the-variants.{AllDay}
 use Rattle.terms.specs.declared.Said.the-variants.{Accept}
@@ -38,11 +39,17 @@ pub record Meeting (s : Session) (band : Band) (count : ℕ) (t room : List ℕ)
   pub fits : TradesFit s count
   pub deals : Each Deals (decode count t)
 
+-- the accept report and the trades
+abbrev pub acceptedReports : Session → Entry → List Order → List Report
+acceptedReports s n os =
+    reportAt (s .time) (Accept (s .given + 1)) ∷ tradeReports (s .time) (n .side) (s .given + 1) (sweepIn s n os .fills)
+
 -- the table across, the room and the answer once it has met the counter side
 pub record MetAs (s : Session) (n : Entry) (os : List Order) (t room : List ℕ) (at : ℕ) (t′ room′ : List ℕ) (r : Met) : Type 0 where
   pub book : t′ ≡ tableOf (sweepIn s n os .rest) t
   pub count : r .count ≡ length (sweepIn s n os .rest)
-  pub told : Written room at (reportAt (s .time) (Accept (s .given + 1)) ∷ tradeReports (s .time) (n .side) (s .given + 1) (sweepIn s n os .fills)) room′ (r .at)
+  pub told : Written room at (acceptedReports s n os) room′ (r .at)
+  pub fits : at + recordLength * length (acceptedReports s n os) ≤ length room
   pub session : r .session ≡ withTrades (setGiven s (s .given + 1)) (sweepIn s n os .fills)
   pub left : r .left ≡ sweepIn s n os .left
   pub last : r .last ≡ ownLastOr (lastIn s) (sweepIn s n os .fills)

@@ -13,8 +13,13 @@ use terms::Band;
 use terms::Entry;
 use terms::Said;
 ghost use mathlib.Core.Path.{_≡_};
-ghost use Prim.Native.Nat.{_+_};
+ghost use Prim.Native.Nat.{_+_, _<_};
+ghost use lib.ListN.{drop};
+ghost use Rattle.terms.specs.Sizes.{numbersMost};
 ghost use Rattle.tables.specs.Tables.{decode};
+ghost use Rattle.state_law.specs.Set.{setGiven};
+ghost use Rattle.state_law.specs.Trades.{withTrades};
+ghost use Rattle.acts_law.specs.Written.{fillsAt, Remembering};
 ghost use Rattle.acts_law.specs.Entering.{incomingIn, Meeting, MetAs, Entering, EnteredAs};
 
 // The order as it meets the counter side: with the next number, the range, and the price that stands for its last trade.
@@ -37,6 +42,16 @@ fn incoming(s: Session, n: Entry, number: u64) -> Incoming
     }
 }
 
+// The session after the order has its number and its trades, whose records stand in the room from a place on.
+fn numbered(s: Session, band: Band, room: &[u64], at: usize, trades: usize) -> Session
+    requires { ⌜ (s .given < numbersMost) × Remembering (setGiven s (s .given + 1)) band (now room) at trades ⌝ }
+    ensures { λ r. ⌜ r ≡ withTrades (setGiven s (s .given + 1)) (fillsAt trades (drop at (now (room .entry)))) ⌝ }
+{
+    let mut given = s;
+    given.given = s.given + 1;
+    remembering::remember(given, band, room, at, trades)
+}
+
 // Accepted and matched: the accept report, the trades in the room, the counter table and the session.
 fn meet(
     s: Session,
@@ -51,13 +66,11 @@ fn meet(
     ensures { λ r. ⌜ MetAs s n (decode count (now (theirs .entry))) (now (theirs .entry)) (now (room .entry)) at (now (theirs .exit)) (now (room .exit)) r ⌝ }
 {
     let number = s.given + 1;
-    let mut given = s;
-    given.given = number;
     let x = incoming(s, n, number);
     let first = telling::tell(room, at, s.time, Said::Accept(number));
     let m = crossing::sweep(theirs, count, room, first, x);
     let trades = m.trades;
-    let session = remembering::remember(given, band, room, first, trades);
+    let session = numbered(s, band, room, first, trades);
     Met {
         session: session,
         count: m.count,
