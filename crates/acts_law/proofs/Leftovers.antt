@@ -9,7 +9,7 @@ use Rattle.terms.specs.declared.Side.{Side}
 use Rattle.terms.specs.declared.Why.{Why}
 use Rattle.terms.specs.declared.Said.the-variants.{Convert}
 use Rattle.terms.specs.Sizes.{slots}
-use Rattle.tables.specs.Tables.{decode, tableOf, Holds}
+use Rattle.tables.specs.Tables.{decode, tableOf}
 use Rattle.tables.proofs.Slots.{length-decode}
 use Rattle.book_law.specs.Priority.{insert}
 use Rattle.book_law.specs.Matching.{reportAt}
@@ -24,11 +24,11 @@ rested {side} {o} {n} {t} e = record { book = e; counted = omega (arith, length-
 
 module _ {n at : ℕ} {t room : List ℕ} {fate : Remainder} where
   -- a remainder that rests, at its limit or turned into one, has a place
-  pub rest-asks : {price : ℕ} → Settling n t room at fate → fate ≡ Remainder.Resting price → Holds n t × (n < slots)
-  rest-asks g e = (g .holds, g .place (rw e))
+  pub rest-asks : {price : ℕ} → Settling n t room at fate → fate ≡ Remainder.Resting price → n < slots
+  rest-asks g e = g .place (rw e)
 
-  pub turn-asks : {price : ℕ} → Settling n t room at fate → fate ≡ Remainder.Turned price → Holds n t × (n < slots)
-  turn-asks g e = (g .holds, g .place (rw e))
+  pub turn-asks : {price : ℕ} → Settling n t room at fate → fate ≡ Remainder.Turned price → n < slots
+  turn-asks g e = g .place (rw e)
 
   module _ {side : Side} {time number left : ℕ} where
     pub left-none : Settling n t room at fate → fate ≡ Remainder.Nothing →

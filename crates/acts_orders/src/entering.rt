@@ -1,5 +1,6 @@
 // An order that comes in: accepted, matched with the counter side, its remainder settled.
 use crate::leftover;
+use acts_law::Crossed;
 use acts_law::Entered;
 use acts_law::Met;
 use acts_reports::remembering;
@@ -18,9 +19,10 @@ ghost use lib.ListN.{drop};
 ghost use Rattle.terms.specs.Sizes.{numbersMost};
 ghost use Rattle.tables.specs.Tables.{decode};
 ghost use Rattle.state_law.specs.Set.{setGiven};
+ghost use Rattle.state_law.specs.Now.{bandNow};
 ghost use Rattle.state_law.specs.Trades.{withTrades};
 ghost use Rattle.acts_law.specs.Written.{fillsAt, Remembering};
-ghost use Rattle.acts_law.specs.Entering.{incomingIn, Meeting, MetAs, Entering, EnteredAs};
+ghost use Rattle.acts_law.specs.Entering.{incomingIn, Meeting, CrossedAs, MetAs, Entering, EnteredAs};
 
 // The order as it meets the counter side: with the next number, the range, and the price that stands for its last trade.
 fn incoming(s: Session, n: Entry, number: u64) -> Incoming
@@ -52,7 +54,29 @@ fn numbered(s: Session, band: Band, room: &[u64], at: usize, trades: usize) -> S
     remembering::remember(given, band, room, at, trades)
 }
 
-// Accepted and matched: the accept report, the trades in the room, the counter table and the session.
+// Accepted and matched: the accept report, the trades in the room, the counter table.
+fn cross(
+    s: Session,
+    n: Entry,
+    theirs: &mut [u64],
+    count: usize,
+    room: &mut [u64],
+    at: usize,
+) -> Crossed
+    requires { ⌜ Meeting s (bandNow s) count (now theirs) (now room) at ⌝ }
+    ensures { λ r. ⌜ CrossedAs s n (decode count (now (theirs .entry))) (now (theirs .entry)) (now (room .entry)) at (now (theirs .exit)) (now (room .exit)) r ⌝ }
+{
+    let number = s.given + 1;
+    let x = incoming(s, n, number);
+    let first = telling::tell(room, at, s.time, Said::Accept(number));
+    let matched = crossing::sweep(theirs, count, room, first, x);
+    Crossed {
+        first: first,
+        matched: matched,
+    }
+}
+
+// The same, and the session.
 fn meet(
     s: Session,
     band: Band,
@@ -65,12 +89,9 @@ fn meet(
     requires { ⌜ Meeting s band count (now theirs) (now room) at ⌝ }
     ensures { λ r. ⌜ MetAs s n (decode count (now (theirs .entry))) (now (theirs .entry)) (now (room .entry)) at (now (theirs .exit)) (now (room .exit)) r ⌝ }
 {
-    let number = s.given + 1;
-    let x = incoming(s, n, number);
-    let first = telling::tell(room, at, s.time, Said::Accept(number));
-    let m = crossing::sweep(theirs, count, room, first, x);
-    let trades = m.trades;
-    let session = numbered(s, band, room, first, trades);
+    let c = cross(s, n, theirs, count, room, at);
+    let m = c.matched;
+    let session = numbered(s, band, room, c.first, m.trades);
     Met {
         session: session,
         count: m.count,
