@@ -1,10 +1,10 @@
 -- What each callee asks and shows of the act that its arm matched is so of the event.
 use borrow.Author.Needs.{needs}
-use Rattle.engine_law.proofs.Dones.{ready-by, acted-by, quiet-under, quiet-clock}
+use Rattle.engine_law.proofs.Dones.{ready-by, acted-by, under-begins, clock-begins, under-acted, clock-acted}
 use Rattle.acts.proofs.accepted.carry_out.Statement.{statement}
 use Rattle.acts.proofs.accepted.carry_out.Tie as tie
 
-ruleset answers = (needs, ready-by, acted-by, quiet-under, quiet-clock)
+ruleset answers = (needs, ready-by, acted-by, under-begins, clock-begins, under-acted, clock-acted)
 
 enum-known-a : tie.Need-enum-known-a
 enum-known-a c = search answers
