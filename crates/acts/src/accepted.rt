@@ -5,6 +5,7 @@ use acts_orders::entering;
 use acts_reports::counting;
 use acts_reports::telling;
 use engine_law::Applied;
+use engine_law::Begun;
 use state::clock;
 use state_law::Session;
 use tables::orders;
@@ -13,10 +14,14 @@ use terms::Entry;
 use terms::Event;
 use terms::Side;
 ghost use mathlib.Core.Path.{_≡_};
+ghost use mathlib.Core.Bool.{true};
+ghost use Rattle.state_law.specs.Set.{setTime, setClosed};
+ghost use Rattle.state_law.specs.code.Tens.{Ten};
 ghost use Rattle.acts_law.specs.Acts.{act};
 ghost use Rattle.soundness_law.specs.Sound.{dayIn};
 ghost use Rattle.engine_law.specs.Calls.{eventAt, Ready, ActedAs};
-ghost use Rattle.engine_law.specs.code.Steps.{Stepping, SteppedAs, Quiet};
+ghost use Rattle.acts_law.specs.code.Entering.{Entering};
+ghost use Rattle.engine_law.specs.code.Steps.{Stepping, SteppedAs, Begins, BegunAs, QuietAs, OrderedAs, Withdrawing, CancelledAs};
 
 // What every event but the close begins with: the tables' tails are cleared, and the clock steps are reported.
 fn step_in(old: Session, s: Session, buys: &mut [u64], sells: &mut [u64], room: &mut [u64]) -> usize
@@ -30,24 +35,56 @@ fn step_in(old: Session, s: Session, buys: &mut [u64], sells: &mut [u64], room: 
     telling::tell_clock(room, 0, old, s)
 }
 
+// An event begins: the clock steps, and their reports.
+fn begin(s: Session, t: u64, buys: &mut [u64], sells: &mut [u64], room: &mut [u64]) -> Begun
+    requires { ⌜ Begins s t (now buys) (now sells) (now room) ⌝ }
+    ensures { λ r. ⌜ BegunAs s t (now (buys .entry)) (now (sells .entry)) (now (room .entry)) (now (buys .exit)) (now (sells .exit)) (now (room .exit)) r ⌝ }
+{
+    let stepped = clock::step(s, t);
+    let at = step_in(s, stepped, buys, sells, room);
+    Begun {
+        session: stepped,
+        at: at,
+    }
+}
+
 // Under and clock: the clock steps alone, and perhaps another underlying.
 fn only_clock(
     s: Session,
     t: u64,
     under: u64,
-    a: Act,
     buys: &mut [u64],
     sells: &mut [u64],
     room: &mut [u64],
 ) -> Applied
-    requires { ⌜ Ready s t a (now buys) (now sells) (now room) × Quiet s under a ⌝ }
-    ensures { λ r. ⌜ ActedAs (act (dayIn s (now (buys .entry)) (now (sells .entry))) (eventAt t a)) (now (buys .entry)) (now (sells .entry)) (now (room .entry)) (now (buys .exit)) (now (sells .exit)) (now (room .exit)) r ⌝ }
+    requires { ⌜ Begins s t (now buys) (now sells) (now room) ⌝ }
+    ensures { λ r. ⌜ QuietAs s t under (now (buys .entry)) (now (sells .entry)) (now (room .entry)) (now (buys .exit)) (now (sells .exit)) (now (room .exit)) r ⌝ }
 {
-    let stepped = clock::step(s, t);
-    let at = step_in(s, stepped, buys, sells, room);
-    let mut r = stepped;
+    let nbuys = s.live.buys as usize;
+    let nsells = s.live.sells as usize;
+    let b = begin(s, t, buys, sells, room);
+    let mut r = b.session;
     r.clock.under = under;
-    counting::done(r, s.live.buys as usize, s.live.sells as usize, at)
+    counting::done(r, nbuys, nsells, b.at)
+}
+
+// A cancel behind the clock steps.
+fn withdraw(
+    s: Session,
+    number: u64,
+    t: u64,
+    buys: &mut [u64],
+    nbuys: usize,
+    sells: &mut [u64],
+    nsells: usize,
+    room: &mut [u64],
+    at: usize,
+) -> Applied
+    requires { ⌜ Withdrawing number nbuys (now buys) nsells (now sells) (now room) at ⌝ }
+    ensures { λ r. ⌜ CancelledAs number t s nbuys (now (buys .entry)) nsells (now (sells .entry)) (now (room .entry)) at (now (buys .exit)) (now (sells .exit)) (now (room .exit)) r ⌝ }
+{
+    let w = withdrawing::withdraw(number, t, buys, nbuys, sells, nsells, room, at);
+    counting::done(s, w.buys, w.sells, w.at)
 }
 
 // A cancel.
@@ -62,52 +99,47 @@ fn cancel(
     requires { ⌜ Ready s t (Act.Withdraw number) (now buys) (now sells) (now room) ⌝ }
     ensures { λ r. ⌜ ActedAs (act (dayIn s (now (buys .entry)) (now (sells .entry))) (eventAt t (Act.Withdraw number))) (now (buys .entry)) (now (sells .entry)) (now (room .entry)) (now (buys .exit)) (now (sells .exit)) (now (room .exit)) r ⌝ }
 {
-    let stepped = clock::step(s, t);
-    let at = step_in(s, stepped, buys, sells, room);
     let nbuys = s.live.buys as usize;
     let nsells = s.live.sells as usize;
-    let w = withdrawing::withdraw(number, t, buys, nbuys, sells, nsells, room, at);
-    counting::done(stepped, w.buys, w.sells, w.at)
+    let b = begin(s, t, buys, sells, room);
+    let stepped = b.session;
+    withdraw(stepped, number, t, buys, nbuys, sells, nsells, room, b.at)
 }
 
-// A buy.
+// A buy behind the clock steps: its own side is that of the buys.
 fn buy(
     s: Session,
-    t: u64,
     n: Entry,
     buys: &mut [u64],
+    nbuys: usize,
     sells: &mut [u64],
+    nsells: usize,
     room: &mut [u64],
+    at: usize,
 ) -> Applied
-    requires { ⌜ Ready s t (Act.Enter n) (now buys) (now sells) (now room) × (n .side ≡ Side.Buy) ⌝ }
-    ensures { λ r. ⌜ ActedAs (act (dayIn s (now (buys .entry)) (now (sells .entry))) (eventAt t (Act.Enter n))) (now (buys .entry)) (now (sells .entry)) (now (room .entry)) (now (buys .exit)) (now (sells .exit)) (now (room .exit)) r ⌝ }
+    requires { ⌜ Entering s n nbuys (now buys) nsells (now sells) (now room) at ⌝ }
+    ensures { λ r. ⌜ OrderedAs Side.Buy s n nbuys (now (buys .entry)) nsells (now (sells .entry)) (now (room .entry)) at (now (buys .exit)) (now (sells .exit)) (now (room .exit)) r ⌝ }
 {
-    let stepped = clock::step(s, t);
-    let at = step_in(s, stepped, buys, sells, room);
-    let nbuys = s.live.buys as usize;
-    let nsells = s.live.sells as usize;
-    let r = entering::enter(stepped, n, buys, nbuys, sells, nsells, room, at);
+    let r = entering::enter(s, n, buys, nbuys, sells, nsells, room, at);
     let session = r.session;
     counting::done(session, r.mine, r.theirs, r.at)
 }
 
-// A sell.
+// A sell behind the clock steps: its own side is that of the sells.
 fn sell(
     s: Session,
-    t: u64,
     n: Entry,
     buys: &mut [u64],
+    nbuys: usize,
     sells: &mut [u64],
+    nsells: usize,
     room: &mut [u64],
+    at: usize,
 ) -> Applied
-    requires { ⌜ Ready s t (Act.Enter n) (now buys) (now sells) (now room) × (n .side ≡ Side.Sell) ⌝ }
-    ensures { λ r. ⌜ ActedAs (act (dayIn s (now (buys .entry)) (now (sells .entry))) (eventAt t (Act.Enter n))) (now (buys .entry)) (now (sells .entry)) (now (room .entry)) (now (buys .exit)) (now (sells .exit)) (now (room .exit)) r ⌝ }
+    requires { ⌜ Entering s n nsells (now sells) nbuys (now buys) (now room) at ⌝ }
+    ensures { λ r. ⌜ OrderedAs Side.Sell s n nsells (now (sells .entry)) nbuys (now (buys .entry)) (now (room .entry)) at (now (sells .exit)) (now (buys .exit)) (now (room .exit)) r ⌝ }
 {
-    let stepped = clock::step(s, t);
-    let at = step_in(s, stepped, buys, sells, room);
-    let nbuys = s.live.buys as usize;
-    let nsells = s.live.sells as usize;
-    let r = entering::enter(stepped, n, sells, nsells, buys, nbuys, room, at);
+    let r = entering::enter(s, n, sells, nsells, buys, nbuys, room, at);
     let session = r.session;
     counting::done(session, r.theirs, r.mine, r.at)
 }
@@ -125,10 +157,25 @@ fn order(
     ensures { λ r. ⌜ ActedAs (act (dayIn s (now (buys .entry)) (now (sells .entry))) (eventAt t (Act.Enter n))) (now (buys .entry)) (now (sells .entry)) (now (room .entry)) (now (buys .exit)) (now (sells .exit)) (now (room .exit)) r ⌝ }
 {
     let side = n.side;
+    let nbuys = s.live.buys as usize;
+    let nsells = s.live.sells as usize;
+    let b = begin(s, t, buys, sells, room);
+    let at = b.at;
+    let stepped = b.session;
     match side {
-        Side::Buy => buy(s, t, n, buys, sells, room),
-        Side::Sell => sell(s, t, n, buys, sells, room),
+        Side::Buy => buy(stepped, n, buys, nbuys, sells, nsells, room, at),
+        Side::Sell => sell(stepped, n, buys, nbuys, sells, nsells, room, at),
     }
+}
+
+// The session of a day that is closed. The trades that it remembers have ten places.
+fn closed(s: Session, t: u64) -> Session
+    ensures { λ r. ⌜ (r ≡ setClosed (setTime s t) true) × Ten s ⌝ }
+{
+    let mut r = s;
+    r.clock.time = t;
+    r.clock.closed = true;
+    r
 }
 
 // The close.
@@ -143,11 +190,9 @@ fn close(
     requires { ⌜ Ready s t (Act.Finish settle) (now buys) (now sells) (now room) ⌝ }
     ensures { λ r. ⌜ ActedAs (act (dayIn s (now (buys .entry)) (now (sells .entry))) (eventAt t (Act.Finish settle))) (now (buys .entry)) (now (sells .entry)) (now (room .entry)) (now (buys .exit)) (now (sells .exit)) (now (room .exit)) r ⌝ }
 {
+    let after = closed(s, t);
     let at = closing::finish(s, t, settle, buys, sells, room);
-    let mut r = s;
-    r.clock.time = t;
-    r.clock.closed = true;
-    counting::done(r, 0, 0, at)
+    counting::done(after, 0, 0, at)
 }
 
 // By what the event does.
@@ -166,8 +211,8 @@ pub fn carry_out(
     match a {
         Act::Enter(n) => order(s, t, n, buys, sells, room),
         Act::Withdraw(number) => cancel(s, t, number, buys, sells, room),
-        Act::Under(price) => only_clock(s, t, price, a, buys, sells, room),
-        Act::Clock => only_clock(s, t, s.clock.under, a, buys, sells, room),
+        Act::Under(price) => only_clock(s, t, price, buys, sells, room),
+        Act::Clock => only_clock(s, t, s.clock.under, buys, sells, room),
         Act::Finish(settle) => close(s, t, settle, buys, sells, room),
     }
 }

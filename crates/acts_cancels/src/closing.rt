@@ -3,15 +3,32 @@ use acts_reports::telling;
 use rules::close;
 use state_law::Session;
 use terms::Said;
-ghost use Prim.Native.Nat.{_+_, _*_, _≤_};
-ghost use lib.ListN.{length};
-ghost use Rattle.terms.specs.Sizes.{slots};
-ghost use Rattle.tables.specs.Lengths.{tableLength, recordLength};
 ghost use Rattle.tables.specs.Tables.{decode};
-ghost use Rattle.state_law.specs.Now.{Steady};
-ghost use Rattle.acts_law.specs.code.Written.{Finished};
+ghost use Rattle.acts_law.specs.Acts.{finished};
+ghost use Rattle.acts_law.specs.code.Written.{Written, Finishing, Finished};
 
-// The cancels of both sides and the close report; both tables are empty then. The place behind the reports is the answer.
+// The cancels of the buys, those of the sells and the close report. The place behind them is the answer.
+fn tell_close(
+    s: Session,
+    time: u64,
+    settle: u64,
+    buys: &[u64],
+    sells: &[u64],
+    room: &mut [u64],
+) -> usize
+    requires { ⌜ Finishing s (now buys) (now sells) (now room) ⌝ }
+    ensures { λ r. ⌜ Written (now (room .entry)) 0 (finished s time settle (decode (s .live .buys) (now (buys .entry))) (decode (s .live .sells) (now (sells .entry))) .reports) (now (room .exit)) r ⌝ }
+{
+    let tape = s.tape;
+    let nbuys = s.live.buys as usize;
+    let nsells = s.live.sells as usize;
+    let closing = close::closing(s.settings.tick, s.settings.close, tape, settle);
+    let bought = telling::cancel_all(room, 0, time, buys, nbuys);
+    let sold = telling::cancel_all(room, bought, time, sells, nsells);
+    telling::tell(room, sold, time, Said::Close(closing))
+}
+
+// These reports, and both tables empty.
 pub fn finish(
     s: Session,
     time: u64,
@@ -20,16 +37,10 @@ pub fn finish(
     sells: &mut [u64],
     room: &mut [u64],
 ) -> usize
-    requires { ⌜ Steady s × (tableLength ≤ length (now buys)) × (tableLength ≤ length (now sells)) × (recordLength * (slots + slots + 1) ≤ length (now room)) ⌝ }
+    requires { ⌜ Finishing s (now buys) (now sells) (now room) ⌝ }
     ensures { λ r. ⌜ Finished s time settle (decode (s .live .buys) (now (buys .entry))) (decode (s .live .sells) (now (sells .entry))) (now (buys .entry)) (now (sells .entry)) (now (room .entry)) (now (buys .exit)) (now (sells .exit)) (now (room .exit)) r ⌝ }
 {
-    let tape = s.tape;
-    let nbuys = s.live.buys as usize;
-    let nsells = s.live.sells as usize;
-    let closing = close::closing(s.settings.tick, s.settings.close, tape, settle);
-    let bought = telling::cancel_all(room, 0, time, buys, nbuys);
-    let sold = telling::cancel_all(room, bought, time, sells, nsells);
-    let next = telling::tell(room, sold, time, Said::Close(closing));
+    let next = tell_close(s, time, settle, buys, sells, room);
     tables::orders::clear_tail(buys, 0);
     tables::orders::clear_tail(sells, 0);
     next

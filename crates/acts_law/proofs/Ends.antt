@@ -9,7 +9,6 @@ use Rattle.terms.specs.declared.Closing.{Closing}
 use Rattle.terms.specs.declared.Order.{Order}
 use Rattle.terms.specs.declared.Said.the-variants.{Close}
 use Rattle.terms.specs.declared.Why.the-variants.{Asked, DayEnd}
-use Rattle.terms.specs.Sizes.{slots}
 use Rattle.tables.specs.Lengths.{recordLength}
 use Rattle.rules_law.specs.Close.{closingOf}
 use Rattle.tables.specs.Tables.{decode, tableOf, Holds}
@@ -19,7 +18,7 @@ use Rattle.book_law.specs.Matching.{reportAt}
 use Rattle.book_law.proofs.Over.{length-removed}
 use Rattle.state_law.specs.declared.Session.{Session}
 use Rattle.acts_law.specs.Acts.{ended, cancelReports, closeReport, finished}
-use Rattle.acts_law.specs.code.Written.{Written, RestsIn, WithdrawnAs, Finished}
+use Rattle.acts_law.specs.code.Written.{Written, RestsIn, WithdrawnAs, Finishing, Finished}
 use Rattle.acts_law.proofs.Reports.{written-length, written-then, length-cancels}
 
 -- ---- a cancel
@@ -81,44 +80,46 @@ behind-all : (room : List ℕ) (at time n : ℕ) (t room₁ : List ℕ) (next : 
     next ≡ at + recordLength * n
 behind-all room at time n t room₁ next w = omega (arith, w .behind, length-cancels DayEnd time (decode n t), length-decode n t)
 
-module _ (time n : ℕ) (tb : List ℕ) (few : n ≤ slots) (k : ℕ) (ts : List ℕ) (short : k ≤ slots) (room : List ℕ)
-    (long : recordLength * (slots + slots + 1) ≤ length room) (room₁ : List ℕ) (bought : ℕ) (w : Written room 0 (cancelReports DayEnd time (decode n tb)) room₁ bought) where
-  fits-buys : 0 + recordLength * length (cancelReports DayEnd time (decode n tb)) ≤ length room
-  fits-buys = omega (arith, length-cancels DayEnd time (decode n tb), length-decode n tb)
+module _ {s : Session} (time : ℕ) {tb ts room : List ℕ} (g : Finishing s tb ts room) {room₁ : List ℕ} {bought : ℕ}
+    (w : Written room 0 (cancelReports DayEnd time (decode (s .live .buys) tb)) room₁ bought) where
+  fits-buys : 0 + recordLength * length (cancelReports DayEnd time (decode (s .live .buys) tb)) ≤ length room
+  fits-buys = omega (arith, g .room-long, g .steady .clocked .buys-few, length-cancels DayEnd time (decode (s .live .buys) tb), length-decode (s .live .buys) tb)
 
   length-bought : length room₁ ≡ length room
-  length-bought = written-length room 0 (cancelReports DayEnd time (decode n tb)) room₁ bought w fits-buys
+  length-bought = written-length room 0 (cancelReports DayEnd time (decode (s .live .buys) tb)) room₁ bought w fits-buys
 
   -- there is room for the sells' cancels behind the buys',
-  pub sells-fit : bought + recordLength * k ≤ length room₁
-  sells-fit = omega (arith, behind-all room 0 time n tb room₁ bought w, length-bought)
+  pub sells-fit : bought + recordLength * s .live .sells ≤ length room₁
+  sells-fit =
+      omega (arith, g .room-long, g .steady .clocked .buys-few, g .steady .clocked .sells-few, behind-all room 0 time (s .live .buys) tb room₁ bought w, length-bought)
 
-  module _ (room₂ : List ℕ) (sold : ℕ) (v : Written room₁ bought (cancelReports DayEnd time (decode k ts)) room₂ sold) where
-    fits-sells : bought + recordLength * length (cancelReports DayEnd time (decode k ts)) ≤ length room₁
-    fits-sells = omega (arith, sells-fit, length-cancels DayEnd time (decode k ts), length-decode k ts)
+  module _ {room₂ : List ℕ} {sold : ℕ} (v : Written room₁ bought (cancelReports DayEnd time (decode (s .live .sells) ts)) room₂ sold) where
+    fits-sells : bought + recordLength * length (cancelReports DayEnd time (decode (s .live .sells) ts)) ≤ length room₁
+    fits-sells = omega (arith, sells-fit, length-cancels DayEnd time (decode (s .live .sells) ts), length-decode (s .live .sells) ts)
 
     length-sold : length room₂ ≡ length room₁
-    length-sold = written-length room₁ bought (cancelReports DayEnd time (decode k ts)) room₂ sold v fits-sells
+    length-sold = written-length room₁ bought (cancelReports DayEnd time (decode (s .live .sells) ts)) room₂ sold v fits-sells
 
     -- and for the close report behind those
     pub close-fits : sold + recordLength ≤ length room₂
     close-fits =
-        omega (arith, behind-all room 0 time n tb room₁ bought w, behind-all room₁ bought time k ts room₂ sold v, length-bought, length-sold)
+        omega (arith, g .room-long, g .steady .clocked .buys-few, g .steady .clocked .sells-few, behind-all room 0 time (s .live .buys) tb room₁ bought w, behind-all room₁ bought time (s .live .sells) ts room₂ sold v, length-bought, length-sold)
 
-    pub closed : (s : Session) (settle : ℕ) (closing : Closing) → closing ≡ closingOf (s .settings .tick) (s .settings .close) (s .tape) settle →
-        (room₃ : List ℕ) (next : ℕ) → Written room₂ sold (reportAt time (Close closing) ∷ []) room₃ next →
-        (tb₁ ts₁ : List ℕ) → tb₁ ≡ tableOf (decode 0 tb) tb → ts₁ ≡ tableOf (decode 0 ts) ts →
-        Finished s time settle (decode n tb) (decode k ts) tb ts room tb₁ ts₁ room₃ next
-    unfolding finished decode
-    closed s settle closing d room₃ next z tb₁ ts₁ e f =
-        let buys = cancelReports DayEnd time (decode n tb) in
-        let sells = cancelReports DayEnd time (decode k ts) in
+    pub all-told : (settle : ℕ) {closing : Closing} {room₃ : List ℕ} {next : ℕ} →
+        closing ≡ closingOf (s .settings .tick) (s .settings .close) (s .tape) settle → Written room₂ sold (reportAt time (Close closing) ∷ []) room₃ next →
+        Written room 0 (finished s time settle (decode (s .live .buys) tb) (decode (s .live .sells) ts) .reports) room₃ next
+    unfolding finished
+    all-told settle {closing} {room₃} {next} d z =
+        let buys = cancelReports DayEnd time (decode (s .live .buys) tb) in
+        let sells = cancelReports DayEnd time (decode (s .live .sells) ts) in
         let last = closeReport s time settle ∷ [] in
-        record {
-          bought = e;
-          sold = f;
-          told =
-              written-then room 0 buys room₁ bought (sells ++ last) room₃ next w
-              (written-then room₁ bought sells room₂ sold last room₃ next v (rw d at z) fits-sells)
-              fits-buys;
-        }
+        written-then room 0 buys room₁ bought (sells ++ last) room₃ next w
+        (written-then room₁ bought sells room₂ sold last room₃ next v (rw d at z) fits-sells)
+        fits-buys
+
+-- no order is left in the tables
+pub all-finished : {s : Session} {time settle : ℕ} {buys sells : List Order} {tb ts room tb₁ ts₁ room₁ : List ℕ} {next : ℕ} →
+    Written room 0 (finished s time settle buys sells .reports) room₁ next → tb₁ ≡ tableOf (decode 0 tb) tb → ts₁ ≡ tableOf (decode 0 ts) ts →
+    Finished s time settle buys sells tb ts room tb₁ ts₁ room₁ next
+unfolding decode
+all-finished w e f = record { bought = e; sold = f; told = w }

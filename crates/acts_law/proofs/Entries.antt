@@ -26,7 +26,7 @@ use Rattle.acts_law.specs.declared.Met.{Met}
 use Rattle.acts_law.specs.declared.Placed.{Placed}
 use Rattle.acts_law.specs.Acts.{sweepIn, fateIn, entered}
 use Rattle.acts_law.specs.code.Written.{fateFrom, remainderOf, fateBack, takesPlace, Settling, Settled}
-use Rattle.acts_law.specs.code.Entering.{Meeting, MetAs, Entering, EnteredAs}
+use Rattle.acts_law.specs.code.Entering.{acceptedReports, Meeting, MetAs, Entering, EnteredAs}
 use Rattle.acts_law.proofs.Reports.{written-length, written-then}
 
 back : (f : Fate) → fateBack (remainderOf f) ≡ f
@@ -43,25 +43,30 @@ places Ioc kind band last left out e =
     (λ z. false≢true (rw z at e))
     (λ z. cases out (λ o. false≢true (rw (z, o) at e)) (λ o. false≢true (rw (z, o) at e))))
 
-module _ (s : Session) (n : Entry) (nmine : ℕ) (mine : List ℕ) (ntheirs : ℕ) (theirs room : List ℕ) (at : ℕ)
-    (g : Entering s n nmine mine ntheirs theirs room at) (band : Band) (b : band ≡ bandNow s) where
-  pub meet-asks : Meeting s band ntheirs theirs room at
-  meet-asks =
+pub meet-asks : {s : Session} {n : Entry} {nmine ntheirs at : ℕ} {mine theirs room : List ℕ} {band : Band} → Entering s n nmine mine ntheirs theirs room at → band ≡ bandNow s →
+    Meeting s band ntheirs theirs room at
+meet-asks {s} g b =
+    record {
+      banded = b;
+      given-few = g .given-few;
+      ranged = range-fits s _ (g .clocked) refl;
+      holds = g .holds-theirs;
+      space = omega (arith, g .space);
+      fits = g .fits;
+      deals = g .deals;
+    }
+
+module _ {s : Session} {n : Entry} (ntheirs : ℕ) {at : ℕ} {theirs room theirs′ room′ : List ℕ} {m : Met} (k : MetAs s n (decode ntheirs theirs) theirs room at theirs′ room′ m)
+    (band : Band) {f : Remainder} (e : f ≡ remainderOf (fateFrom (n .life) (n .kind) band (m .last) (m .left) (m .out))) (nmine : ℕ) (mine : List ℕ) where
+  pub settle-asks : Entering s n nmine mine ntheirs theirs room at → Settling nmine mine room′ (m .at) f
+  settle-asks g =
       record {
-        banded = b;
-        given-few = g .given-few;
-        ranged = range-fits s _ (g .clocked) refl;
-        holds = g .holds-theirs;
-        space = omega (arith, g .space);
-        fits = g .fits;
-        deals = g .deals;
+        holds = g .holds-mine;
+        space = omega (arith, k .few, g .space, length-decode ntheirs theirs, written-length room at (acceptedReports s n (decode ntheirs theirs)) room′ (m .at) (k .told) (k .fits));
+        place = λ p. g .place (places (n .life) (n .kind) band (m .last) (m .left) (m .out) (rw e at p));
       }
 
-  module _ (theirs′ room′ : List ℕ) (m : Met) (k : MetAs s n (decode ntheirs theirs) theirs room at theirs′ room′ m)
-      (f : Remainder) (e : f ≡ remainderOf (fateFrom (n .life) (n .kind) band (m .last) (m .left) (m .out))) where
-    abbrev accepted : List Report
-    accepted = reportAt (s .clock .time) (Accept (s .live .given + 1)) ∷ tradeReports (s .clock .time) (n .side) (s .live .given + 1) (sweepIn s n (decode ntheirs theirs) .fills)
-
+  module _ (b : band ≡ bandNow s) where
     fate-is : fateBack f ≡ fateIn s n (sweepIn s n (decode ntheirs theirs))
     unfolding fateIn fateOf
     fate-is =
@@ -69,21 +74,10 @@ module _ (s : Session) (n : Entry) (nmine : ℕ) (mine : List ℕ) (ntheirs : �
         ∙ (back (fateFrom (n .life) (n .kind) band (m .last) (m .left) (m .out))
         ∙ rw (k .last, k .left, k .out, b))
 
-    accepted-space : at + recordLength * length accepted ≤ length room
-    accepted-space = omega (arith, k .told .behind, k .few, g .space, length-decode ntheirs theirs)
-
-    pub settle-asks : Settling nmine mine room′ (m .at) f
-    settle-asks =
-        record {
-          holds = g .holds-mine;
-          space = omega (arith, k .few, g .space, length-decode ntheirs theirs, written-length room at accepted room′ (m .at) (k .told) accepted-space);
-          place = λ p. g .place (places (n .life) (n .kind) band (m .last) (m .left) (m .out) (rw e at p));
-        }
-
-    pub entered-as : (mine′ room″ : List ℕ) (p : Placed) → Settled (n .side) (s .clock .time) (s .live .given + 1) (m .left) (fateBack f) (decode nmine mine) mine room′ (m .at) mine′ room″ p →
+    pub entered-as : {mine′ room″ : List ℕ} {p : Placed} → Settled (n .side) (s .clock .time) (s .live .given + 1) (m .left) (fateBack f) (decode nmine mine) mine room′ (m .at) mine′ room″ p →
         EnteredAs s n (decode nmine mine) (decode ntheirs theirs) mine theirs room at mine′ theirs′ room″ (record { session = m .session; mine = p .count; theirs = m .count; at = p .at })
     unfolding entered
-    entered-as mine′ room″ p q =
+    entered-as {mine′} {room″} {p} q =
         let r = rw (fate-is, k .left) at q in
         record {
           booked = r .book;
@@ -91,5 +85,5 @@ module _ (s : Session) (n : Entry) (nmine : ℕ) (mine : List ℕ) (ntheirs : �
           nmine = r .count;
           ntheirs = k .count;
           session = k .session;
-          told = written-then room at accepted room′ (m .at) _ room″ (p .at) (k .told) (r .told) accepted-space;
+          told = written-then room at (acceptedReports s n (decode ntheirs theirs)) room′ (m .at) _ room″ (p .at) (k .told) (r .told) (k .fits);
         }

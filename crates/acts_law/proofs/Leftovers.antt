@@ -1,5 +1,6 @@
 -- A remainder settled, in each of its four cases.
-use Prim.Native.Nat.{ℕ}
+use Prim.Native.Nat.{ℕ, _+_, _<_}
+use native.Mathlib.Omega.{arith}
 use mathlib.Core.Path.{_≡_, sym}
 use mathlib.Core.List.{List, [], _∷_}
 use lib.ListN.{length}
@@ -7,30 +8,43 @@ use Rattle.terms.specs.declared.Order.{Order}
 use Rattle.terms.specs.declared.Side.{Side}
 use Rattle.terms.specs.declared.Why.{Why}
 use Rattle.terms.specs.declared.Said.the-variants.{Convert}
-use Rattle.tables.specs.Tables.{decode, tableOf, Holds}
+use Rattle.terms.specs.Sizes.{slots}
+use Rattle.tables.specs.Tables.{decode, tableOf}
 use Rattle.tables.proofs.Slots.{length-decode}
 use Rattle.book_law.specs.Priority.{insert}
-use Rattle.book_law.specs.Matching.{Done, Rests, Turns, Ends, reportAt}
+use Rattle.book_law.specs.Matching.{reportAt}
+use Rattle.book_law.proofs.Over.{length-insert}
 use Rattle.acts_law.specs.Acts.{ended}
-use Rattle.acts_law.specs.code.Written.{Written, Settled}
+use Rattle.acts_law.specs.declared.Remainder.{Remainder}
+use Rattle.acts_law.specs.code.Written.{Written, fateBack, RestedAs, Settling, Settled}
 use Rattle.acts_law.proofs.Reports.{written-none}
 
-module _ (side : Side) (time number left n : ℕ) (t room : List ℕ) (at : ℕ) where
-  -- the order that a remainder becomes at a price
-  abbrev pub leftAt : ℕ → Order
-  leftAt price = record { number = number; price = price; lots = left }
+pub rested : {side : Side} {o : Order} {n : ℕ} {t t′ : List ℕ} → t′ ≡ tableOf (insert side o (decode n t)) t → RestedAs side o n t t′ (n + 1)
+rested {side} {o} {n} {t} e = record { book = e; counted = omega (arith, length-insert side o (decode n t), length-decode n t) }
 
-  pub settled-none : Holds n t → Settled side time number left Done (decode n t) t room at t room (record { count = n; at = at })
-  settled-none h = record { book = h .shape; count = sym (length-decode n t); told = written-none room at }
+module _ {n at : ℕ} {t room : List ℕ} {fate : Remainder} where
+  -- a remainder that rests, at its limit or turned into one, has a place
+  pub rest-asks : {price : ℕ} → Settling n t room at fate → fate ≡ Remainder.Resting price → n < slots
+  rest-asks g e = g .place (rw e)
 
-  pub settled-rests : (price : ℕ) (t′ : List ℕ) (k : ℕ) → (t′ ≡ tableOf (insert side (leftAt price) (decode n t)) t) × (k ≡ length (insert side (leftAt price) (decode n t))) →
-      Settled side time number left (Rests price) (decode n t) t room at t′ room (record { count = k; at = at })
-  settled-rests price t′ k e = record { book = e .0; count = e .1; told = written-none room at }
+  pub turn-asks : {price : ℕ} → Settling n t room at fate → fate ≡ Remainder.Turned price → n < slots
+  turn-asks g e = g .place (rw e)
 
-  pub settled-turns : (price : ℕ) (t′ : List ℕ) (k : ℕ) (room′ : List ℕ) (next : ℕ) → (t′ ≡ tableOf (insert side (leftAt price) (decode n t)) t) × (k ≡ length (insert side (leftAt price) (decode n t))) →
-      Written room at (reportAt time (Convert (leftAt price)) ∷ []) room′ next → Settled side time number left (Turns price) (decode n t) t room at t′ room′ (record { count = k; at = next })
-  settled-turns price t′ k room′ next e w = record { book = e .0; count = e .1; told = w }
+  module _ {side : Side} {time number left : ℕ} where
+    pub left-none : Settling n t room at fate → fate ≡ Remainder.Nothing →
+        Settled side time number left (fateBack fate) (decode n t) t room at t room (record { count = n; at = at })
+    left-none g e = rw e (record { book = g .holds .shape; count = sym (length-decode n t); told = written-none room at })
 
-  pub settled-ends : (why : Why) (room′ : List ℕ) (next : ℕ) → Holds n t → Written room at (ended time number left why ∷ []) room′ next →
-      Settled side time number left (Ends why) (decode n t) t room at t room′ (record { count = n; at = next })
-  settled-ends why room′ next h w = record { book = h .shape; count = sym (length-decode n t); told = w }
+    pub left-rests : {price count : ℕ} {o : Order} {t′ : List ℕ} → fate ≡ Remainder.Resting price → o ≡ record { number = number; price = price; lots = left } →
+        RestedAs side o n t t′ count → Settled side time number left (fateBack fate) (decode n t) t room at t′ room (record { count = count; at = at })
+    left-rests e h r = let q = rw h at r in rw e (record { book = q .book; count = q .counted; told = written-none room at })
+
+    pub left-turns : {price count next : ℕ} {o : Order} {t′ room′ : List ℕ} → fate ≡ Remainder.Turned price → o ≡ record { number = number; price = price; lots = left } →
+        RestedAs side o n t t′ count → Written room at (reportAt time (Convert o) ∷ []) room′ next →
+        Settled side time number left (fateBack fate) (decode n t) t room at t′ room′ (record { count = count; at = next })
+    left-turns e h r w = let q = rw h at r in rw e (record { book = q .book; count = q .counted; told = rw h at w })
+
+    pub left-ends : {why : Why} {next : ℕ} {room′ : List ℕ} → Settling n t room at fate → fate ≡ Remainder.Ended why →
+        Written room at (ended time number left why ∷ []) room′ next →
+        Settled side time number left (fateBack fate) (decode n t) t room at t room′ (record { count = n; at = next })
+    left-ends g e w = rw e (record { book = g .holds .shape; count = sym (length-decode n t); told = w })

@@ -1,7 +1,7 @@
 -- An order accepted and matched: what its calls ask, and what they leave.
 use Prim.Native.Nat.{ℕ, _+_, _*_, _≤_}
 use native.Mathlib.Omega.{arith}
-use mathlib.Core.Path.{_≡_, ap, _∙_}
+use mathlib.Core.Path.{_≡_, ap, _∙_, refl}
 use mathlib.Core.List.{List, [], _∷_, _++_}
 use lib.ListN.{length, take, drop, length-take}
 use lib.Seq.{drop-at}
@@ -32,8 +32,9 @@ use Rattle.state_law.specs.Set.{setGiven}
 use Rattle.state_law.specs.Now.{bandNow}
 use Rattle.state_law.specs.Trades.{withTrades, TradesFit}
 use Rattle.acts_law.specs.Acts.{lastIn, sweepIn}
-use Rattle.acts_law.specs.code.Written.{Written, fillsAt, Deals, EachDeals}
-use Rattle.acts_law.specs.code.Entering.{incomingIn, Meeting, MetAs}
+use Rattle.acts_law.specs.code.Written.{Written, fillsAt, Deals, EachDeals, Remembering}
+use Rattle.acts_law.specs.declared.Crossed.{Crossed}
+use Rattle.acts_law.specs.code.Entering.{incomingIn, Meeting, CrossedAs, MetAs}
 use Rattle.acts_law.proofs.Reports.{written-length, written-then}
 use Rattle.acts_law.proofs.Recalled.{recalls, deals-each}
 
@@ -45,13 +46,17 @@ behind t at vs h = drop-at (take at t) (vs ++ drop (length vs) (drop at t)) at (
 deals-part : (o : Order) (k : ℕ) → 1 ≤ k → k ≤ o .lots → Deals o → Deals (part o k)
 deals-part o k l m d = record { price-small = d .price-small; lots-some = l; lots-small = omega (arith, d .lots-small) }
 
+pub sweep-range : {s : Session} {band : Band} (n : Entry) {count at : ℕ} {t room : List ℕ} {x : Incoming} → Meeting s band count t room at →
+    x ≡ incomingIn s n (s .live .given + 1) → RangeFits (x .range)
+sweep-range n g e = rw e (g .ranged)
+
 module _ (s : Session) (band : Band) (n : Entry) (count : ℕ) (t room : List ℕ) (at : ℕ) (g : Meeting s band count t room at)
     (x : Incoming) (xe : x ≡ incomingIn s n (s .live .given + 1)) (room₁ : List ℕ) (first : ℕ) (w : Written room at (reportAt (s .clock .time) (Accept (s .live .given + 1)) ∷ []) room₁ first) where
   same-length : length room₁ ≡ length room
   same-length = written-length room at (reportAt (s .clock .time) (Accept (s .live .given + 1)) ∷ []) room₁ first w (omega (arith, g .space))
 
-  pub sweep-asks : Holds count t × (first + recordLength * count ≤ length room₁) × RangeFits (x .range)
-  sweep-asks = (g .holds, omega (arith, g .space, w .behind, same-length), rw xe (g .ranged))
+  pub sweep-space : first + recordLength * count ≤ length room₁
+  sweep-space = omega (arith, g .space, w .behind, same-length)
 
   module _ (t′ room′ : List ℕ) (m : Matched) (k : SweptInto x (decode count t) t room₁ first t′ room′ m) where
     abbrev swept : Swept
@@ -97,19 +102,20 @@ module _ (s : Session) (band : Band) (n : Entry) (count : ℕ) (t room : List �
         let e : EachSwept Deals swept = each-swept Deals deals-part _ 0 (n .lots) (decode count t) (g .deals) in
         e .fills
 
-    pub remember-asks : TradesFit (setGiven s (s .live .given + 1)) (m .trades) × (band ≡ bandNow s) × (m .trades ≤ slots) × (first + recordLength * m .trades ≤ length room′) × EachDeals (m .trades) (drop first room′)
-    remember-asks =
-        rw (trades-is, stands) (
-          omega (arith, g .fits, few),
-          g .banded,
-          omega (arith, few, g .holds .few),
-          omega (arith, trade-space, kept-length),
-          record { at = deals-each (s .clock .time) (n .side) (s .live .given + 1) (drop (length (recordsOf trade-reports)) (drop first room₁)) (swept .fills) fills-deal },
+    remembers : Remembering (setGiven s (s .live .given + 1)) (bandNow s) room′ first (m .trades)
+    remembers =
+        rw trades-is (
+          record {
+            fits = omega (arith, g .fits, few);
+            banded = refl;
+            few = omega (arith, few, g .holds .few);
+            space = omega (arith, trade-space, kept-length);
+            deals = rw stands (record { at = deals-each (s .clock .time) (n .side) (s .live .given + 1) (drop (length (recordsOf trade-reports)) (drop first room₁)) (swept .fills) fills-deal });
+          }
         )
 
-    pub met : (after : Session) → after ≡ withTrades (setGiven s (s .live .given + 1)) (fillsAt (m .trades) (drop first room′)) →
-        MetAs s n (decode count t) t room at t′ room′ (record { session = after; count = m .count; at = m .at; left = m .left; last = m .last; out = m .out })
-    met after e =
+    pub crossed : CrossedAs s n (decode count t) t room at t′ room′ (record { first = first; matched = m })
+    crossed =
         let a : m .at ≡ first + recordLength * length (swept .fills) = ap (λ (r : Matched). r .at) (k .answer) ∙ ap (λ (v : Swept). first + recordLength * length (v .fills)) swept-is in
         let told : Written room₁ first trade-reports room′ (m .at) =
         record { laid = laid; behind = omega (arith, a, length-trades (s .clock .time) (n .side) (s .live .given + 1) (swept .fills)) } in
@@ -117,9 +123,35 @@ module _ (s : Session) (band : Band) (n : Entry) (count : ℕ) (t room : List �
           book = k .book ∙ ap (λ (v : Swept). tableOf (v .rest) t) swept-is;
           count = ap (λ (r : Matched). r .count) (k .answer) ∙ ap (λ (v : Swept). length (v .rest)) swept-is;
           told = written-then room at (reportAt (s .clock .time) (Accept (s .live .given + 1)) ∷ []) room₁ first trade-reports room′ (m .at) w told (omega (arith, g .space));
-          session = e ∙ rw (trades-is, stands) (recalls (s .clock .time) (n .side) (s .live .given + 1) (drop (length (recordsOf trade-reports)) (drop first room₁)) (setGiven s (s .live .given + 1)) (swept .fills));
+          fits = omega (arith, g .space, few, length-trades (s .clock .time) (n .side) (s .live .given + 1) (swept .fills));
           left = ap (λ (r : Matched). r .left) (k .answer) ∙ ap (λ (v : Swept). v .left) swept-is;
           last = ap (λ (r : Matched). r .last) (k .answer) ∙ last-is;
           out = ap (λ (r : Matched). r .out) (k .answer) ∙ ap (λ (v : Swept). v .out) swept-is;
           few = omega (arith, a, few, w .behind, length-decode count t);
+          remembers = remembers;
+          recalled = rw (trades-is, stands) (recalls (s .clock .time) (n .side) (s .live .given + 1) (drop (length (recordsOf trade-reports)) (drop first room₁)) (setGiven s (s .live .given + 1)) (swept .fills));
         }
+
+-- as the band in force is the one that code has
+pub cross-asks : {s : Session} {band : Band} {count at : ℕ} {t room : List ℕ} → Meeting s band count t room at → Meeting s (bandNow s) count t room at
+cross-asks g =
+    record { banded = refl; given-few = g .given-few; ranged = g .ranged; holds = g .holds; space = g .space; fits = g .fits; deals = g .deals }
+
+module _ {s : Session} {n : Entry} {os : List Order} {t room t′ room′ : List ℕ} {at : ℕ} {r : Crossed} (k : CrossedAs s n os t room at t′ room′ r) where
+  pub remember-asks : {band : Band} {count : ℕ} {t₀ : List ℕ} → Meeting s band count t₀ room at → Remembering (setGiven s (s .live .given + 1)) band room′ (r .first) (r .matched .trades)
+  remember-asks g = rw (g .banded) (k .remembers)
+
+  pub met : {after : Session} → after ≡ withTrades (setGiven s (s .live .given + 1)) (fillsAt (r .matched .trades) (drop (r .first) room′)) →
+      MetAs s n os t room at t′ room′ (record { session = after; count = r .matched .count; at = r .matched .at; left = r .matched .left; last = r .matched .last; out = r .matched .out })
+  met e =
+      record {
+        book = k .book;
+        count = k .count;
+        told = k .told;
+        fits = k .fits;
+        session = e ∙ k .recalled;
+        left = k .left;
+        last = k .last;
+        out = k .out;
+        few = k .few;
+      }

@@ -9,6 +9,7 @@ use Rattle.terms.specs.declared.Order.{Order}
 use Rattle.terms.specs.declared.Band.{Band}
 use Rattle.terms.specs.declared.Side.{Side}
 use Rattle.terms.specs.declared.Side.the-variants.{Buy, Sell}
+use Rattle.terms.specs.Sizes.{priceMost, lotsMost}
 use Rattle.tables.specs.Lengths.{recordLength}
 use Rattle.tables.specs.Records.{recordOf, recordsOf}
 use Rattle.terms.specs.declared.Report.{Report}
@@ -19,7 +20,7 @@ use Rattle.state_law.specs.declared.Session.{Session}
 use Rattle.state_law.specs.Now.{bandNow}
 use Rattle.state_law.specs.Trades.{withTrade, withTrades, TradesFit}
 use Rattle.state_law.proofs.Fits.{fits-after, band-kept}
-use Rattle.acts_law.specs.code.Written.{fillAt, fillsAt, Deals, EachDeals}
+use Rattle.acts_law.specs.code.Written.{fillAt, fillsAt, Deals, EachDeals, Remembering}
 
 -- ---- in the code's loop
 
@@ -31,46 +32,47 @@ read-at : (room : List ℕ) (p k : ℕ) → getD (drop p room) k 0 ≡ getD room
 read-at room p k = getD-drop p room k 0
 
 pub record Recalling (band : Band) (room : List ℕ) (at n : ℕ) (s₀ s : Session) (i : ℕ) : Type 0 where
+  pub could : Remembering s₀ band room at n
   pub places : i ≤ n
   pub fits : TradesFit s (n - i)
   pub banded : band ≡ bandNow s
   pub rest : withTrades s₀ (fillsAt n (drop at room)) ≡ withTrades s (fillsAt (n - i) (drop (at + recordLength * i) room))
 
-pub recall-none : (band : Band) (room : List ℕ) (at n : ℕ) (s : Session) → TradesFit s n → band ≡ bandNow s → Recalling band room at n s s 0
-recall-none band room at n s f b =
+pub recall-from : {s : Session} {band : Band} {room : List ℕ} {at n : ℕ} → Remembering s band room at n → Recalling band room at n s s 0
+recall-from {s} {band} {room} {at} {n} g =
     let z : n - 0 ≡ n = omega arith in
     let p : at + recordLength * 0 ≡ at = omega arith in
-    record { places = omega arith; fits = rw z f; banded = b; rest = rw (z, p) }
+    record { could = g; places = omega arith; fits = rw z (g .fits); banded = g .banded; rest = rw (z, p) }
 
-module _ (room : List ℕ) (at n i : ℕ) (e : EachDeals n (drop at room)) (h : i < n) where
+module _ {band : Band} {room : List ℕ} {at n i : ℕ} {s₀ s : Session} (h : i < n) (r : Recalling band room at n s₀ s i) where
   -- what the code reads is what the record has
-  pub deals-at : Deals (record { number = 0; price = getD room (at + recordLength * i + 5) 0; lots = getD room (at + recordLength * i + 4) 0 })
+  deals-at : Deals (record { number = 0; price = getD room (at + recordLength * i + 5) 0; lots = getD room (at + recordLength * i + 4) 0 })
   deals-at =
-      let d = e .at i h in
+      let d = r .could .deals .at i h in
       let p : drop (recordLength * i) (drop at room) ≡ drop (at + recordLength * i) room = drop-drop (recordLength * i) at room in
       rw (← read-at room (at + recordLength * i) 5, ← read-at room (at + recordLength * i) 4, ← p) d
 
-  module _ (band : Band) (s₀ s : Session) (r : Recalling band room at n s₀ s i) where
-    pub one-fits : TradesFit s 1
-    one-fits = fewer s 1 (n - i) (omega arith) (r .fits)
+  pub trade-asks : TradesFit s 1 × (band ≡ bandNow s) × (getD room (at + recordLength * i + 5) 0 ≤ priceMost) × (getD room (at + recordLength * i + 4) 0 ≤ lotsMost)
+  trade-asks = (fewer s 1 (n - i) (omega arith) (r .fits), r .banded, deals-at .price-small, deals-at .lots-small)
 
-    -- one trade more
-    pub recall-turn : (s′ : Session) → s′ ≡ withTrade s (getD room (at + recordLength * i + 5) 0) (getD room (at + recordLength * i + 4) 0) → Recalling band room at n s₀ s′ (i + 1)
-    unfolding fillsAt withTrades
-    recall-turn s′ w =
-        let d = deals-at in
-        let m : n - i ≡ suc (n - (i + 1)) = omega arith in
-        let m₁ : n - i ≡ n - (i + 1) + 1 = omega arith in
-        let k : at + recordLength * i + recordLength ≡ at + recordLength * (i + 1) = omega arith in
-        let q : drop recordLength (drop (at + recordLength * i) room) ≡ drop (at + recordLength * (i + 1)) room =
-        drop-drop recordLength (at + recordLength * i) room ∙ ap (λ (j : ℕ). drop j room) k in
-        let t : TradesFit s (n - (i + 1) + 1) = rw m₁ at (r .fits) in
-        rw w (record {
-          places = omega arith;
-          fits = fits-after s (n - (i + 1)) (getD room (at + recordLength * i + 5) 0) (getD room (at + recordLength * i + 4) 0) t (d .price-small) (d .lots-some) (d .lots-small);
-          banded = r .banded ∙ sym (band-kept s (getD room (at + recordLength * i + 5) 0) (getD room (at + recordLength * i + 4) 0));
-          rest = r .rest ∙ rw (m, read-at room (at + recordLength * i) 5, read-at room (at + recordLength * i) 4, q);
-        })
+  -- one trade more
+  pub recall-next : {s′ : Session} → s′ ≡ withTrade s (getD room (at + recordLength * i + 5) 0) (getD room (at + recordLength * i + 4) 0) → Recalling band room at n s₀ s′ (i + 1)
+  unfolding fillsAt withTrades
+  recall-next w =
+      let d = deals-at in
+      let m : n - i ≡ suc (n - (i + 1)) = omega arith in
+      let m₁ : n - i ≡ n - (i + 1) + 1 = omega arith in
+      let k : at + recordLength * i + recordLength ≡ at + recordLength * (i + 1) = omega arith in
+      let q : drop recordLength (drop (at + recordLength * i) room) ≡ drop (at + recordLength * (i + 1)) room =
+      drop-drop recordLength (at + recordLength * i) room ∙ ap (λ (j : ℕ). drop j room) k in
+      let t : TradesFit s (n - (i + 1) + 1) = rw m₁ at (r .fits) in
+      rw w (record {
+        could = r .could;
+        places = omega arith;
+        fits = fits-after s (n - (i + 1)) (getD room (at + recordLength * i + 5) 0) (getD room (at + recordLength * i + 4) 0) t (d .price-small) (d .lots-some) (d .lots-small);
+        banded = r .banded ∙ sym (band-kept s (getD room (at + recordLength * i + 5) 0) (getD room (at + recordLength * i + 4) 0));
+        rest = r .rest ∙ rw (m, read-at room (at + recordLength * i) 5, read-at room (at + recordLength * i) 4, q);
+      })
 
 pub recall-all : (band : Band) (room : List ℕ) (at n i : ℕ) (s₀ s : Session) → Recalling band room at n s₀ s i → n ≤ i → s ≡ withTrades s₀ (fillsAt n (drop at room))
 unfolding fillsAt withTrades

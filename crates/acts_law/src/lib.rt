@@ -3,6 +3,7 @@
 // every trade is where settings and reports allow it, no slab is told but where the band is widened, and the reports of an event stand in
 // document 01's order and fit the room.
 
+use matching_law::Matched;
 use state_law::Session;
 use terms::Why;
 
@@ -25,6 +26,12 @@ pub struct Withdrawn {
     pub buys: usize,
     pub sells: usize,
     pub at: usize,
+}
+
+// An order that is accepted and matched: the place of its first trade's record, and what matching answered.
+pub struct Crossed {
+    pub first: usize,
+    pub matched: Matched,
 }
 
 // An order that has met the counter side: the session, the counter orders that remain, the place behind the reports, the lots left,

@@ -1,5 +1,6 @@
 // An order that comes in: accepted, matched with the counter side, its remainder settled.
 use crate::leftover;
+use acts_law::Crossed;
 use acts_law::Entered;
 use acts_law::Met;
 use acts_reports::remembering;
@@ -13,9 +14,15 @@ use terms::Band;
 use terms::Entry;
 use terms::Said;
 ghost use mathlib.Core.Path.{_≡_};
-ghost use Prim.Native.Nat.{_+_};
+ghost use Prim.Native.Nat.{_+_, _<_};
+ghost use lib.ListN.{drop};
+ghost use Rattle.terms.specs.Sizes.{numbersMost};
 ghost use Rattle.tables.specs.Tables.{decode};
-ghost use Rattle.acts_law.specs.code.Entering.{incomingIn, Meeting, MetAs, Entering, EnteredAs};
+ghost use Rattle.state_law.specs.Set.{setGiven};
+ghost use Rattle.state_law.specs.Now.{bandNow};
+ghost use Rattle.state_law.specs.Trades.{withTrades};
+ghost use Rattle.acts_law.specs.code.Written.{fillsAt, Remembering};
+ghost use Rattle.acts_law.specs.code.Entering.{incomingIn, Meeting, CrossedAs, MetAs, Entering, EnteredAs};
 
 // The order as it meets the counter side: with the next number, the range, and the price that stands for its last trade.
 fn incoming(s: Session, n: Entry, number: u64) -> Incoming
@@ -37,7 +44,40 @@ fn incoming(s: Session, n: Entry, number: u64) -> Incoming
     }
 }
 
-// Accepted and matched: the accept report, the trades in the room, the counter table and the session.
+// The session after the order has its number and its trades, whose records stand in the room from a place on.
+fn numbered(s: Session, band: Band, room: &[u64], at: usize, trades: usize) -> Session
+    requires { ⌜ (s .live .given < numbersMost) × Remembering (setGiven s (s .live .given + 1)) band (now room) at trades ⌝ }
+    ensures { λ r. ⌜ r ≡ withTrades (setGiven s (s .live .given + 1)) (fillsAt trades (drop at (now (room .entry)))) ⌝ }
+{
+    let mut given = s;
+    let number = s.live.given + 1;
+    given.live.given = number;
+    remembering::remember(given, band, room, at, trades)
+}
+
+// Accepted and matched: the accept report, the trades in the room, the counter table.
+fn cross(
+    s: Session,
+    n: Entry,
+    theirs: &mut [u64],
+    count: usize,
+    room: &mut [u64],
+    at: usize,
+) -> Crossed
+    requires { ⌜ Meeting s (bandNow s) count (now theirs) (now room) at ⌝ }
+    ensures { λ r. ⌜ CrossedAs s n (decode count (now (theirs .entry))) (now (theirs .entry)) (now (room .entry)) at (now (theirs .exit)) (now (room .exit)) r ⌝ }
+{
+    let number = s.live.given + 1;
+    let x = incoming(s, n, number);
+    let first = telling::tell(room, at, s.clock.time, Said::Accept(number));
+    let matched = crossing::sweep(theirs, count, room, first, x);
+    Crossed {
+        first: first,
+        matched: matched,
+    }
+}
+
+// The same, and the session.
 fn meet(
     s: Session,
     band: Band,
@@ -50,14 +90,9 @@ fn meet(
     requires { ⌜ Meeting s band count (now theirs) (now room) at ⌝ }
     ensures { λ r. ⌜ MetAs s n (decode count (now (theirs .entry))) (now (theirs .entry)) (now (room .entry)) at (now (theirs .exit)) (now (room .exit)) r ⌝ }
 {
-    let number = s.live.given + 1;
-    let mut given = s;
-    given.live.given = number;
-    let x = incoming(s, n, number);
-    let first = telling::tell(room, at, s.clock.time, Said::Accept(number));
-    let m = crossing::sweep(theirs, count, room, first, x);
-    let trades = m.trades;
-    let session = remembering::remember(given, band, room, first, trades);
+    let c = cross(s, n, theirs, count, room, at);
+    let m = c.matched;
+    let session = numbered(s, band, room, c.first, m.trades);
     Met {
         session: session,
         count: m.count,
@@ -92,17 +127,7 @@ pub fn enter(
     let behind = m.at;
     let session = m.session;
     let fate = leftover::fate(life, kind, band, m.last, left, m.out);
-    let p = leftover::settle(
-        mine,
-        nmine,
-        side,
-        number,
-        left,
-        fate,
-        s.clock.time,
-        room,
-        behind,
-    );
+    let p = leftover::settle(mine, nmine, side, number, left, fate, s.clock.time, room, behind);
     Entered {
         session: session,
         mine: p.count,

@@ -12,12 +12,10 @@ use terms::Side;
 use terms::Why;
 ghost use mathlib.Core.Path.{_≡_};
 ghost use Prim.Native.Nat.{_<_};
-ghost use lib.ListN.{length};
 ghost use Rattle.terms.specs.Sizes.{slots};
-ghost use Rattle.tables.specs.Tables.{decode, tableOf, Holds};
-ghost use Rattle.book_law.specs.Priority.{insert};
+ghost use Rattle.tables.specs.Tables.{decode, Holds};
 ghost use Rattle.book_law.specs.Matching.{fateOfLeft};
-ghost use Rattle.acts_law.specs.code.Written.{remainderOf, fateFrom, fateBack, Settling, Settled};
+ghost use Rattle.acts_law.specs.code.Written.{remainderOf, fateFrom, fateBack, RestedAs, Settling, Settled};
 
 // A market order that lives all day turns into a limit at its last price, if that is in the band.
 fn turned(band: Band, last: u64) -> Remainder
@@ -68,7 +66,7 @@ fn order_of(number: u64, price: u64, lots: u64) -> Order
 // The remainder takes its place on its own side.
 fn rest(mine: &mut [u64], n: usize, side: Side, o: Order) -> usize
     requires { ⌜ Holds n (now mine) × (n < slots) ⌝ }
-    ensures { λ r. ⌜ (now (mine .exit) ≡ tableOf (insert side o (decode n (now (mine .entry)))) (now (mine .entry))) × (r ≡ length (insert side o (decode n (now (mine .entry))))) ⌝ }
+    ensures { λ r. ⌜ RestedAs side o n (now (mine .entry)) (now (mine .exit)) r ⌝ }
 {
     let count = n + 1;
     book::side::add(mine, n, side, o);

@@ -7,7 +7,8 @@ use mathlib.Core.List.{List, [], append-nil}
 use lib.Dec.{ltb}
 use lib.ListN.{length}
 use Rattle.terms.specs.declared.Act.{Act}
-use Rattle.terms.specs.declared.Act.the-variants.{Withdraw, Finish}
+use Rattle.terms.specs.declared.Act.the-variants.{Withdraw, Under, Clock, Finish}
+use Rattle.terms.specs.declared.Event.{Event}
 use Rattle.terms.specs.declared.Order.{Order}
 use Rattle.terms.specs.Sizes.{slots}
 use Rattle.tables.specs.Lengths.{recordLength, tableLength}
@@ -19,6 +20,7 @@ use Rattle.book_law.specs.Priority.{rests, removed}
 use Rattle.state_law.specs.declared.Session.{Session}
 use Rattle.state_law.specs.Set.{setUnder, setTime, setClosed}
 use Rattle.state_law.specs.Now.{Steady}
+use Rattle.state_law.specs.code.Tens.{Ten}
 use Rattle.state_law.specs.Clock.{clockStep}
 use Rattle.state_law.specs.Day.{dayOf}
 use Rattle.soundness_law.specs.Sound.{dayIn}
@@ -28,13 +30,15 @@ use Rattle.refusal_law.specs.Carried.{carries}
 use Rattle.refusal_law.specs.Refusals.{finds}
 use Rattle.refusal_law.proofs.Accepted.{in-day}
 use Rattle.acts_law.specs.Acts.{Acted, clockReports, act, dropped, finished}
-use Rattle.acts_law.specs.code.Written.{Written, RestsIn, WithdrawnAs, Finished}
+use Rattle.acts_law.specs.code.Written.{Written, WithdrawnAs, Finishing, Finished}
 use Rattle.acts_law.specs.declared.Withdrawn.{Withdrawn}
 use Rattle.acts_law.proofs.Reports.{written-then}
 use Rattle.engine_law.specs.declared.Answer.{Answer}
+use Rattle.engine_law.specs.declared.Applied.{Applied}
+use Rattle.engine_law.specs.declared.Begun.{Begun}
 use Rattle.engine_law.specs.Calls.{eventAt, Ready, ActedAs}
-use Rattle.engine_law.specs.code.Steps.{doneAt, SteppedAs, Quiet, under, clock}
-use Rattle.engine_law.proofs.Starts.{accepts, after-buys, after-sells, same-room, behind-clock, clock-space}
+use Rattle.engine_law.specs.code.Steps.{doneAt, Begins, BegunAs, QuietAs, Withdrawing, CancelledAs}
+use Rattle.engine_law.proofs.Starts.{accepts, begins, after-buys, after-sells, same-room, behind-clock, clock-space}
 
 -- ---- the answer of every act
 
@@ -53,90 +57,97 @@ done-as a s bs ss nbuys nsells at buys sells room buys′ sells′ room′ d b c
 
 -- ---- under and clock
 
-quiet-open : {s : Session} {u : ℕ} {a : Act} → Quiet s u a → carries a .closes ≡ false
-quiet-open (under price) = refl
-quiet-open clock = refl
-
-module _ (s : Session) (t u : ℕ) (a : Act) (buys sells room : List ℕ) (r : Ready s t a buys sells room) (q : Quiet s u a) where
-  pub quiet-time : ltb t (s .settings .length) ≡ true
-  quiet-time = in-day (dayIn s buys sells) (eventAt t a) (accepts s t a buys sells room r) (quiet-open q)
-
-quiet-day : (s : Session) (t u : ℕ) (a : Act) (buys sells : List ℕ) → Quiet s u a → act (dayIn s buys sells) (eventAt t a) .day ≡ dayOf (setUnder (clockStep s t) u) (decode (s .live .buys) buys) (decode (s .live .sells) sells)
-unfolding act clockStep
-quiet-day s t u a buys sells (under price) = refl
-quiet-day s t u a buys sells clock = refl
-
-quiet-reports : (s : Session) (t u : ℕ) (a : Act) (buys sells : List ℕ) → Quiet s u a → act (dayIn s buys sells) (eventAt t a) .reports ≡ clockReports s (clockStep s t)
-unfolding act
-quiet-reports s t u a buys sells (under price) = append-nil (clockReports s (clockStep s t))
-quiet-reports s t u a buys sells clock = append-nil (clockReports s (clockStep s t))
-
-pub quiet-done : (s : Session) (t u : ℕ) (a : Act) (buys sells room : List ℕ) → Quiet s u a → (s′ : Session) → s′ ≡ clockStep s t → (buys₁ sells₁ room₁ : List ℕ) (at : ℕ) →
-    SteppedAs s s′ buys sells room buys₁ sells₁ room₁ at → ActedAs (act (dayIn s buys sells) (eventAt t a)) buys sells room buys₁ sells₁ room₁ (doneAt (setUnder s′ u) (s .live .buys) (s .live .sells) at)
-quiet-done s t u a buys sells room q s′ e buys₁ sells₁ room₁ at k =
-    done-as (act (dayIn s buys sells) (eventAt t a)) (setUnder s′ u) (decode (s .live .buys) buys) (decode (s .live .sells) sells) (s .live .buys) (s .live .sells) at buys sells room buys₁ sells₁ room₁
-    (quiet-day s t u a buys sells q ∙ ap (λ (x : Session). dayOf (setUnder x u) (decode (s .live .buys) buys) (decode (s .live .sells) sells)) (sym e))
+quiet-done : {s : Session} {t u : ℕ} (a : Act) {buys sells room buys₁ sells₁ room₁ : List ℕ} {r : Applied} → QuietAs s t u buys sells room buys₁ sells₁ room₁ r →
+    act (dayIn s buys sells) (eventAt t a) .day ≡ dayOf (setUnder (clockStep s t) u) (decode (s .live .buys) buys) (decode (s .live .sells) sells) →
+    act (dayIn s buys sells) (eventAt t a) .reports ≡ clockReports s (clockStep s t) →
+    ActedAs (act (dayIn s buys sells) (eventAt t a)) buys sells room buys₁ sells₁ room₁ r
+quiet-done {s} {t} {u} a {buys} {sells} {room} {buys₁} {sells₁} {room₁} q day told =
+    let k = q .began in
+    let b : Begun = q .begun in
+    rw (q .answer)
+    (done-as (act (dayIn s buys sells) (eventAt t a)) (setUnder (b .session) u) (decode (s .live .buys) buys) (decode (s .live .sells) sells) (s .live .buys) (s .live .sells) (b .at) buys sells room buys₁ sells₁ room₁
+    (day ∙ ap (λ (x : Session). dayOf (setUnder x u) (decode (s .live .buys) buys) (decode (s .live .sells) sells)) (sym (k .session)))
     (sym (length-decode (s .live .buys) buys))
     (sym (length-decode (s .live .sells) sells))
-    (k .bought)
-    (k .sold)
-    (rw (quiet-reports s t u a buys sells q, ← e) (k .told))
+    (k .stepped .bought)
+    (k .stepped .sold)
+    (rw (told, ← k .session) (k .stepped .told)))
+
+module _ (s : Session) (e : Event) {buys sells room buys₁ sells₁ room₁ : List ℕ} {r : Applied} where
+  pub under-acted : {price : ℕ} → e .act ≡ Under price → QuietAs s (e .time) price buys sells room buys₁ sells₁ room₁ r →
+      ActedAs (act (dayIn s buys sells) e) buys sells room buys₁ sells₁ room₁ r
+  unfolding act clockStep
+  under-acted h q = rw h (quiet-done (Under _) q refl (append-nil (clockReports s (clockStep s (e .time)))))
+
+  pub clock-acted : e .act ≡ Clock → QuietAs s (e .time) (s .clock .under) buys sells room buys₁ sells₁ room₁ r →
+      ActedAs (act (dayIn s buys sells) e) buys sells room buys₁ sells₁ room₁ r
+  unfolding act clockStep
+  clock-acted h q = rw h (quiet-done Clock q refl (append-nil (clockReports s (clockStep s (e .time)))))
+
+-- neither ends the day
+pub under-begins : {s : Session} {t price : ℕ} {a : Act} {buys sells room : List ℕ} → Ready s t a buys sells room → a ≡ Under price → Begins s t buys sells room
+under-begins r h = begins r (rw h)
+
+pub clock-begins : {s : Session} {t : ℕ} {a : Act} {buys sells room : List ℕ} → Ready s t a buys sells room → a ≡ Clock → Begins s t buys sells room
+clock-begins r h = begins r (rw h)
 
 -- ---- a cancel
 
-module _ (s : Session) (t number : ℕ) (buys sells room : List ℕ) (r : Ready s t (Withdraw number) buys sells room) where
-  pub cancel-time : ltb t (s .settings .length) ≡ true
-  cancel-time = in-day (dayIn s buys sells) (eventAt t (Withdraw number)) (accepts s t (Withdraw number) buys sells room r) refl
-
-  found : (rests number (decode (s .live .buys) buys) || rests number (decode (s .live .sells) sells)) ≡ true
+module _ {s : Session} {t number : ℕ} {buys sells room buys₁ sells₁ room₁ : List ℕ} {b : Begun} (k : BegunAs s t buys sells room buys₁ sells₁ room₁ b) where
+  pub cancel-asks : Ready s t (Withdraw number) buys sells room → Withdrawing number (s .live .buys) buys₁ (s .live .sells) sells₁ room₁ (b .at)
   unfolding finds
-  found = accepts s t (Withdraw number) buys sells room r .found
+  cancel-asks r =
+      record {
+        holds-buys = after-buys k .holds;
+        holds-sells = after-sells k .holds;
+        space = omega (arith, behind-clock k, same-room k, r .room-long);
+        rests = record { somewhere = rw (after-buys k .reads, after-sells k .reads) (accepts r .found) };
+      }
 
-  module _ (s′ : Session) (e : s′ ≡ clockStep s t) (buys₁ sells₁ room₁ : List ℕ) (at : ℕ) (k : SteppedAs s s′ buys sells room buys₁ sells₁ room₁ at) where
-    abbrev bought : After (s .live .buys) (decode (s .live .buys) buys) buys buys₁
-    bought = after-buys s t (Withdraw number) buys sells room r cancel-time s′ buys₁ sells₁ room₁ at k
-
-    abbrev sold : After (s .live .sells) (decode (s .live .sells) sells) sells sells₁
-    sold = after-sells s t (Withdraw number) buys sells room r cancel-time s′ buys₁ sells₁ room₁ at k
-
-    pub withdraw-asks : Holds (s .live .buys) buys₁ × Holds (s .live .sells) sells₁ × (at + recordLength ≤ length room₁) × RestsIn number (decode (s .live .buys) buys₁) (decode (s .live .sells) sells₁)
-    withdraw-asks = (
-      bought .holds,
-      sold .holds,
-      omega (arith, behind-clock s t (Withdraw number) buys sells room r cancel-time s′ buys₁ sells₁ room₁ at k, same-room s t (Withdraw number) buys sells room r cancel-time s′ buys₁ sells₁ room₁ at k, r .room-long),
-      record { somewhere = rw (bought .reads, sold .reads) found },
-    )
-
-    pub cancel-done : (buys₂ sells₂ room₂ : List ℕ) (w : Withdrawn) → WithdrawnAs number t (decode (s .live .buys) buys₁) (decode (s .live .sells) sells₁) buys₁ sells₁ room₁ at buys₂ sells₂ room₂ w →
-        ActedAs (act (dayIn s buys sells) (eventAt t (Withdraw number))) buys sells room buys₂ sells₂ room₂ (doneAt s′ (w .buys) (w .sells) (w .at))
-    unfolding act dropped clockStep
-    cancel-done buys₂ sells₂ room₂ w v =
-        let v′ = rw (bought .reads, sold .reads) at v in
-        let space = clock-space s t (Withdraw number) buys sells room r cancel-time s′ buys₁ sells₁ room₁ at k in
-        cases (rests number (decode (s .live .buys) buys))
-        (λ z. done-as (act (dayIn s buys sells) (eventAt t (Withdraw number))) s′ (removed number (decode (s .live .buys) buys)) (decode (s .live .sells) sells) (w .buys) (w .sells) (w .at) buys sells room buys₂ sells₂ room₂
-        (rw (z, e)) (rw z at (v′ .nbuys)) (rw z at (v′ .nsells)) ((rw z at (v′ .bought)) ∙ bought .past _) ((rw z at (v′ .sold)) ∙ sold .past _)
-        (rw (z, ← e) (written-then room 0 (clockReports s s′) room₁ at _ room₂ (w .at) (k .told) (rw z at (v′ .told)) space)))
-        (λ z. done-as (act (dayIn s buys sells) (eventAt t (Withdraw number))) s′ (decode (s .live .buys) buys) (removed number (decode (s .live .sells) sells)) (w .buys) (w .sells) (w .at) buys sells room buys₂ sells₂ room₂
-        (rw (z, e)) (rw z at (v′ .nbuys)) (rw z at (v′ .nsells)) ((rw z at (v′ .bought)) ∙ bought .past _) ((rw z at (v′ .sold)) ∙ sold .past _)
-        (rw (z, ← e) (written-then room 0 (clockReports s s′) room₁ at _ room₂ (w .at) (k .told) (rw z at (v′ .told)) space)))
+  -- what was withdrawn, in the words of the definition, by the side on which the order rests
+  pub cancel-acted : {buys₂ sells₂ room₂ : List ℕ} {a : Applied} → CancelledAs number t (b .session) (s .live .buys) buys₁ (s .live .sells) sells₁ room₁ (b .at) buys₂ sells₂ room₂ a →
+      ActedAs (act (dayIn s buys sells) (eventAt t (Withdraw number))) buys sells room buys₂ sells₂ room₂ a
+  unfolding act dropped clockStep
+  cancel-acted {buys₂} {sells₂} {room₂} c =
+      let w : Withdrawn = c .cancel in
+      let v = rw (after-buys k .reads, after-sells k .reads) at (c .withdrawn) in
+      rw (c .answer)
+      (cases (rests number (decode (s .live .buys) buys))
+      (λ z. done-as (act (dayIn s buys sells) (eventAt t (Withdraw number))) (b .session) (removed number (decode (s .live .buys) buys)) (decode (s .live .sells) sells) (w .buys) (w .sells) (w .at) buys sells room buys₂ sells₂ room₂
+      (rw (z, k .session)) (rw z at (v .nbuys)) (rw z at (v .nsells)) ((rw z at (v .bought)) ∙ after-buys k .past _) ((rw z at (v .sold)) ∙ after-sells k .past _)
+      (rw (z, ← k .session) (written-then room 0 (clockReports s (b .session)) room₁ (b .at) _ room₂ (w .at) (k .stepped .told) (rw z at (v .told)) (clock-space k))))
+      (λ z. done-as (act (dayIn s buys sells) (eventAt t (Withdraw number))) (b .session) (decode (s .live .buys) buys) (removed number (decode (s .live .sells) sells)) (w .buys) (w .sells) (w .at) buys sells room buys₂ sells₂ room₂
+      (rw (z, k .session)) (rw z at (v .nbuys)) (rw z at (v .nsells)) ((rw z at (v .bought)) ∙ after-buys k .past _) ((rw z at (v .sold)) ∙ after-sells k .past _)
+      (rw (z, ← k .session) (written-then room 0 (clockReports s (b .session)) room₁ (b .at) _ room₂ (w .at) (k .stepped .told) (rw z at (v .told)) (clock-space k)))))
 
 -- ---- the close
 
-module _ (s : Session) (t settle : ℕ) (buys sells room : List ℕ) (r : Ready s t (Finish settle) buys sells room)
-    (lp : length (s .tape .prices) ≡ 10) (ls : length (s .tape .sizes) ≡ 10) where
-  pub finish-asks : Steady s × (tableLength ≤ length buys) × (tableLength ≤ length sells) × (recordLength * (slots + slots + 1) ≤ length room)
-  finish-asks = (
-    steady s lp ls (sound-session (dayIn s buys sells) (accepts s t (Finish settle) buys sells room r .whole)),
-    r .buys-long,
-    r .sells-long,
-    omega (arith, r .room-long),
-  )
+module _ {s : Session} {t settle : ℕ} {buys sells room : List ℕ} where
+  pub finishes : Ready s t (Finish settle) buys sells room → Ten s → Finishing s buys sells room
+  finishes r ten =
+      record {
+        steady = steady s (ten .prices) (ten .sizes) (sound-session (dayIn s buys sells) (accepts r .whole));
+        buys-long = r .buys-long;
+        sells-long = r .sells-long;
+        room-long = omega (arith, r .room-long);
+      }
 
-pub finish-done : (s : Session) (t settle : ℕ) (buys sells room buys′ sells′ room′ : List ℕ) (at : ℕ) →
-    Finished s t settle (decode (s .live .buys) buys) (decode (s .live .sells) sells) buys sells room buys′ sells′ room′ at →
-    ActedAs (act (dayIn s buys sells) (eventAt t (Finish settle))) buys sells room buys′ sells′ room′ (doneAt (setClosed (setTime s t) true) 0 0 at)
-unfolding act finished
-finish-done s t settle buys sells room buys′ sells′ room′ at f =
-    done-as (act (dayIn s buys sells) (eventAt t (Finish settle))) (setClosed (setTime s t) true) [] [] 0 0 at buys sells room buys′ sells′ room′
-    refl refl refl (f .bought) (f .sold) (f .told)
+  pub closed-done : {buys′ sells′ room′ : List ℕ} {at : ℕ} {s′ : Session} {a : Applied} →
+      Finished s t settle (decode (s .live .buys) buys) (decode (s .live .sells) sells) buys sells room buys′ sells′ room′ at →
+      s′ ≡ setClosed (setTime s t) true → a ≡ doneAt s′ 0 0 at →
+      ActedAs (act (dayIn s buys sells) (eventAt t (Finish settle))) buys sells room buys′ sells′ room′ a
+  unfolding act finished
+  closed-done {buys′} {sells′} {room′} {at} f e d =
+      rw (d, e)
+      (done-as (act (dayIn s buys sells) (eventAt t (Finish settle))) (setClosed (setTime s t) true) [] [] 0 0 at buys sells room buys′ sells′ room′
+      refl refl refl (f .bought) (f .sold) (f .told))
+
+-- ---- an event by its act
+
+module _ (s : Session) (e : Event) {a : Act} (h : e .act ≡ a) {buys sells room : List ℕ} where
+  pub ready-by : Ready s (e .time) (e .act) buys sells room → Ready s (e .time) a buys sells room
+  ready-by r = rw h at r
+
+  pub acted-by : {buys′ sells′ room′ : List ℕ} {r : Applied} → ActedAs (act (dayIn s buys sells) (eventAt (e .time) a)) buys sells room buys′ sells′ room′ r →
+      ActedAs (act (dayIn s buys sells) e) buys sells room buys′ sells′ room′ r
+  acted-by k = rw h k

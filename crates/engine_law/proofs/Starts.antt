@@ -3,7 +3,7 @@
 use Prim.Native.Nat.{ℕ, _+_, _*_, _≤_}
 use native.Mathlib.Omega.{arith}
 use mathlib.Core.Path.{_≡_}
-use mathlib.Core.Bool.{true}
+use mathlib.Core.Bool.{true, false}
 use mathlib.Core.List.{List}
 use borrow.Author.Tests.{leb-true}
 use lib.Dec.{ltb}
@@ -28,48 +28,51 @@ use Rattle.soundness_law.proofs.Border.{sound-session}
 use Rattle.soundness_law.proofs.Parts.{parts-made}
 use Rattle.soundness_law.proofs.Kept.{Tradable}
 use Rattle.soundness_law.proofs.Days.{each-tradable}
-use Rattle.refusal_law.proofs.Accepted.{Accepted, accepted, time-right}
+use Rattle.refusal_law.specs.Carried.{carries}
+use Rattle.refusal_law.proofs.Accepted.{Accepted, accepted, time-right, in-day}
 use Rattle.acts_law.specs.Acts.{clockReports, stepped}
 use Rattle.acts_law.specs.code.Written.{Deals}
 use Rattle.acts_law.proofs.Stays as stays
 use Rattle.acts_law.proofs.Few.{clock-few}
 use Rattle.acts_law.proofs.Reports.{written-length}
 use Rattle.engine_law.specs.Calls.{eventAt, Ready}
-use Rattle.engine_law.specs.code.Steps.{Stepping, SteppedAs}
+use Rattle.engine_law.specs.declared.Begun.{Begun}
+use Rattle.engine_law.specs.code.Steps.{Stepping, Begins, BegunAs}
 
 deals-of : (tick : ℕ) (os : List _) → Each (Tradable tick) os → Each Deals os
 deals-of tick os e = each-map (Tradable tick) Deals (λ o d. record { price-small = d .price-small; lots-some = d .lots-some; lots-small = d .lots-small }) os e
 
-module _ (s : Session) (t : ℕ) (a : Act) (buys sells room : List ℕ) (r : Ready s t a buys sells room) where
+module _ {s : Session} {t : ℕ} {a : Act} {buys sells room : List ℕ} (r : Ready s t a buys sells room) where
   abbrev day : Day
   day = dayIn s buys sells
 
   pub accepts : Accepted day (eventAt t a)
   accepts = accepted day (eventAt t a) (r .fine)
 
-  pub clocked-now : Clocked s
+  clocked-now : Clocked s
   clocked-now = session-clocked s (sound-session day (accepts .whole))
 
   forward : s .clock .time ≤ t
   forward = leb-true (s .clock .time) t (accepts .forward)
 
-  pub step-asks : Clocked s × (s .clock .time ≤ t)
-  step-asks = (clocked-now, forward)
+  module _ (o : carries a .closes ≡ false) where
+    in-hours : ltb t (s .settings .length) ≡ true
+    in-hours = in-day day (eventAt t a) accepts o
 
-  module _ (u : ltb t (s .settings .length) ≡ true) where
-    pub start : stays.Ready (stepped day t .day)
-    start = stays.ready day t (accepts .whole) forward (time-right day (eventAt t a) accepts) (or-last (s .clock .closed) (ltb t (s .settings .length)) (λ e. u))
+    start : stays.Ready (stepped day t .day)
+    start = stays.ready day t (accepts .whole) forward (time-right day (eventAt t a) accepts) (or-last (s .clock .closed) (ltb t (s .settings .length)) (λ e. in-hours))
 
     pub clocked-after : Clocked (clockStep s t)
     unfolding clockStep
     clocked-after = session-clocked (clockStep s t) (parts-made (clockStep s t) (start .parts) (clocked-now .buys-few) (clocked-now .sells-few))
 
-    pub step-in-asks : (s′ : Session) → s′ ≡ clockStep s t → Stepping s s′ buys sells room
-    step-in-asks s′ e =
+    -- ANY EVENT BUT THE CLOSE begins with the clock steps
+    pub begins : Begins s t buys sells room
+    begins =
         record {
-          clocked = rw e clocked-after;
-          buys-few = clocked-now .buys-few;
-          sells-few = clocked-now .sells-few;
+          clocked = clocked-now;
+          forward = forward;
+          after = clocked-after;
           buys-long = r .buys-long;
           sells-long = r .sells-long;
           room-long = omega (arith, r .room-long);
@@ -105,19 +108,33 @@ module _ (s : Session) (t : ℕ) (a : Act) (buys sells room : List ℕ) (r : Rea
         let b = book-fits (s′ .live .given) (s′ .settings .tick) (bandNow s′) (day .buys) (day .sells) (start .book) in
         deals-of (s .settings .tick) (day .sells) (each-tradable s′ (day .sells) (clocked-after .valid) (each-fits (s′ .live .given) (s′ .settings .tick) (bandNow s′) (day .sells) (b .each-sell)))
 
-    -- the tables and the room behind the clock steps
-    module _ (s′ : Session) (buys₁ sells₁ room₁ : List ℕ) (at : ℕ) (k : SteppedAs s s′ buys sells room buys₁ sells₁ room₁ at) where
-      pub after-buys : After (s .live .buys) (decode (s .live .buys) buys) buys buys₁
-      after-buys = cleared (s .live .buys) buys buys₁ (k .bought) (clocked-now .buys-few) (r .buys-long)
+-- ---- the clock steps, as code makes them
 
-      pub after-sells : After (s .live .sells) (decode (s .live .sells) sells) sells sells₁
-      after-sells = cleared (s .live .sells) sells sells₁ (k .sold) (clocked-now .sells-few) (r .sells-long)
+module _ {s : Session} {t : ℕ} {buys sells room : List ℕ} (g : Begins s t buys sells room) where
+  pub steps-in : {s′ : Session} → s′ ≡ clockStep s t → Stepping s s′ buys sells room
+  steps-in e =
+      record {
+        clocked = rw e (g .after);
+        buys-few = g .clocked .buys-few;
+        sells-few = g .clocked .sells-few;
+        buys-long = g .buys-long;
+        sells-long = g .sells-long;
+        room-long = g .room-long;
+      }
 
-      pub same-room : length room₁ ≡ length room
-      same-room = written-length room 0 (clockReports s s′) room₁ at (k .told) (omega (arith, clock-few s s′, r .room-long))
+-- the tables and the room behind them
+module _ {s : Session} {t : ℕ} {buys sells room buys₁ sells₁ room₁ : List ℕ} {b : Begun} (k : BegunAs s t buys sells room buys₁ sells₁ room₁ b) where
+  pub after-buys : After (s .live .buys) (decode (s .live .buys) buys) buys buys₁
+  after-buys = cleared (s .live .buys) buys buys₁ (k .stepped .bought) (k .could .clocked .buys-few) (k .could .buys-long)
 
-      pub behind-clock : at ≤ recordLength * 2
-      behind-clock = omega (arith, k .told .behind, clock-few s s′)
+  pub after-sells : After (s .live .sells) (decode (s .live .sells) sells) sells sells₁
+  after-sells = cleared (s .live .sells) sells sells₁ (k .stepped .sold) (k .could .clocked .sells-few) (k .could .sells-long)
 
-      pub clock-space : 0 + recordLength * length (clockReports s s′) ≤ length room
-      clock-space = omega (arith, clock-few s s′, r .room-long)
+  pub clock-space : 0 + recordLength * length (clockReports s (b .session)) ≤ length room
+  clock-space = omega (arith, clock-few s (b .session), k .could .room-long)
+
+  pub same-room : length room₁ ≡ length room
+  same-room = written-length room 0 (clockReports s (b .session)) room₁ (b .at) (k .stepped .told) clock-space
+
+  pub behind-clock : b .at ≤ recordLength * 2
+  behind-clock = omega (arith, k .stepped .told .behind, clock-few s (b .session))

@@ -19,6 +19,12 @@ pub struct Applied {
     pub session: Session,
 }
 
+// An event that has begun: the session after the clock steps, and the place behind their reports.
+pub struct Begun {
+    pub session: Session,
+    pub at: usize,
+}
+
 // Where a session stands: the percent in force with its band, the execution range with the reference that it lies around, whether a
 // cooling-off runs and when it ends (0 where none runs), the last trade's price and lots (0 before any trade), live orders a side,
 // order numbers given so far, trades made.

@@ -2,9 +2,10 @@
 use Prim.Native.Nat.{ℕ, _+_, _*_, _≤_, _<_}
 use mathlib.Core.Path.{_≡_}
 use mathlib.Core.List.{List, _∷_}
-use lib.ListN.{length}
+use lib.ListN.{length, drop}
 use Rattle.terms.specs.declared.Entry.{Entry}
 use Rattle.terms.specs.declared.Order.{Order}
+use Rattle.terms.specs.declared.Report.{Report}
 use Rattle.terms.specs.declared.Band.{Band}
 use Rattle.terms.specs.declared.Life.the-variants.{AllDay}
 use Rattle.terms.specs.declared.Said.the-variants.{Accept}
@@ -19,10 +20,11 @@ use Rattle.state_law.specs.declared.Session.{Session}
 use Rattle.state_law.specs.Set.{setGiven}
 use Rattle.state_law.specs.Now.{Clocked, bandNow, rangeNow}
 use Rattle.state_law.specs.Trades.{withTrades, TradesFit}
+use Rattle.acts_law.specs.declared.Crossed.{Crossed}
 use Rattle.acts_law.specs.declared.Met.{Met}
 use Rattle.acts_law.specs.declared.Entered.{Entered}
 use Rattle.acts_law.specs.Acts.{lastIn, sweepIn, fateIn, entered}
-use Rattle.acts_law.specs.code.Written.{Written, Deals}
+use Rattle.acts_law.specs.code.Written.{Written, Deals, fillsAt, Remembering}
 
 -- the order as it meets the counter side
 abbrev pub incomingIn : Session → Entry → ℕ → Incoming
@@ -39,11 +41,30 @@ pub record Meeting (s : Session) (band : Band) (count : ℕ) (t room : List ℕ)
   pub fits : TradesFit s count
   pub deals : Each Deals (decode count t)
 
+-- the accept report and the trades
+abbrev pub acceptedReports : Session → Entry → List Order → List Report
+acceptedReports s n os =
+    reportAt (s .clock .time) (Accept (s .live .given + 1)) ∷ tradeReports (s .clock .time) (n .side) (s .live .given + 1) (sweepIn s n os .fills)
+
+-- the table across and the room once its trades are reported; the records of these can be remembered, and are then the trades
+pub record CrossedAs (s : Session) (n : Entry) (os : List Order) (t room : List ℕ) (at : ℕ) (t′ room′ : List ℕ) (r : Crossed) : Type 0 where
+  pub book : t′ ≡ tableOf (sweepIn s n os .rest) t
+  pub count : r .matched .count ≡ length (sweepIn s n os .rest)
+  pub told : Written room at (acceptedReports s n os) room′ (r .matched .at)
+  pub fits : at + recordLength * length (acceptedReports s n os) ≤ length room
+  pub left : r .matched .left ≡ sweepIn s n os .left
+  pub last : r .matched .last ≡ ownLastOr (lastIn s) (sweepIn s n os .fills)
+  pub out : r .matched .out ≡ sweepIn s n os .out
+  pub few : r .matched .at ≤ at + recordLength * (length os + 1)
+  pub remembers : Remembering (setGiven s (s .live .given + 1)) (bandNow s) room′ (r .first) (r .matched .trades)
+  pub recalled : withTrades (setGiven s (s .live .given + 1)) (fillsAt (r .matched .trades) (drop (r .first) room′)) ≡ withTrades (setGiven s (s .live .given + 1)) (sweepIn s n os .fills)
+
 -- the table across, the room and the answer once it has met the counter side
 pub record MetAs (s : Session) (n : Entry) (os : List Order) (t room : List ℕ) (at : ℕ) (t′ room′ : List ℕ) (r : Met) : Type 0 where
   pub book : t′ ≡ tableOf (sweepIn s n os .rest) t
   pub count : r .count ≡ length (sweepIn s n os .rest)
-  pub told : Written room at (reportAt (s .clock .time) (Accept (s .live .given + 1)) ∷ tradeReports (s .clock .time) (n .side) (s .live .given + 1) (sweepIn s n os .fills)) room′ (r .at)
+  pub told : Written room at (acceptedReports s n os) room′ (r .at)
+  pub fits : at + recordLength * length (acceptedReports s n os) ≤ length room
   pub session : r .session ≡ withTrades (setGiven s (s .live .given + 1)) (sweepIn s n os .fills)
   pub left : r .left ≡ sweepIn s n os .left
   pub last : r .last ≡ ownLastOr (lastIn s) (sweepIn s n os .fills)

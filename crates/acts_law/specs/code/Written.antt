@@ -13,16 +13,18 @@ use Rattle.terms.specs.declared.Kind.{Kind}
 use Rattle.terms.specs.declared.Band.{Band}
 use Rattle.terms.specs.declared.Why.the-variants.{Asked, OutOfRange}
 use Rattle.terms.specs.Sizes.{slots, priceMost, lotsMost}
-use Rattle.tables.specs.Lengths.{recordLength}
+use Rattle.tables.specs.Lengths.{recordLength, tableLength}
 use Rattle.tables.specs.Records.{recordsOf}
 use Rattle.tables.specs.Put.{put}
-use Rattle.tables.specs.Tables.{tableOf, Holds}
-use Rattle.book_law.specs.Priority.{rests, removed, leftOf}
+use Rattle.tables.specs.Tables.{decode, tableOf, Holds}
+use Rattle.book_law.specs.Priority.{insert, rests, removed, leftOf}
 use Rattle.book_law.specs.Matching.{Fate, Done, Rests, Turns, Ends, fateOfLeft, settled, fateReports}
 use Rattle.acts_law.specs.declared.Remainder.{Remainder}
 use Rattle.acts_law.specs.declared.Placed.{Placed}
 use Rattle.acts_law.specs.declared.Withdrawn.{Withdrawn}
 use Rattle.state_law.specs.declared.Session.{Session}
+use Rattle.state_law.specs.Now.{Steady, bandNow}
+use Rattle.state_law.specs.Trades.{TradesFit}
 use Rattle.acts_law.specs.Acts.{ended, finished}
 
 -- reports stand in the room from a place on, and next is the place behind them
@@ -51,6 +53,14 @@ pub record Deals (f : Order) : Type 0 where
 pub record EachDeals (n : ℕ) (l : List ℕ) : Type 0 where
   pub at : (k : ℕ) → k < n → Deals (fillAt (drop (recordLength * k) l))
 
+-- n trades, whose records stand in the room from a place on, can be remembered in a session
+pub record Remembering (s : Session) (band : Band) (room : List ℕ) (at n : ℕ) : Type 0 where
+  pub fits : TradesFit s n
+  pub banded : band ≡ bandNow s
+  pub few : n ≤ slots
+  pub space : at + recordLength * n ≤ length room
+  pub deals : EachDeals n (drop at room)
+
 -- ---- the remainder, as code carries it
 
 abbrev pub fateFrom : Life → Kind → Band → ℕ → ℕ → Bool → Fate
@@ -74,6 +84,11 @@ takesPlace Remainder.Nothing = false
 takesPlace (Remainder.Resting price) = true
 takesPlace (Remainder.Turned price) = true
 takesPlace (Remainder.Ended why) = false
+
+-- an order takes its place on a side
+pub record RestedAs (side : Side) (o : Order) (n : ℕ) (t t′ : List ℕ) (count : ℕ) : Type 0 where
+  pub book : t′ ≡ tableOf (insert side o (decode n t)) t
+  pub counted : count ≡ length (insert side o (decode n t))
 
 -- a remainder can be settled
 pub record Settling (n : ℕ) (t room : List ℕ) (at : ℕ) (fate : Remainder) : Type 0 where
@@ -112,6 +127,14 @@ pub record WithdrawnAs (number time : ℕ) (buys sells : List Order) (tb ts room
 
 -- ---- the close
 
+-- it can be carried out
+pub record Finishing (s : Session) (buys sells room : List ℕ) : Type 0 where
+  pub steady : Steady s
+  pub buys-long : tableLength ≤ length buys
+  pub sells-long : tableLength ≤ length sells
+  pub room-long : recordLength * (slots + slots + 1) ≤ length room
+
+-- and is
 pub record Finished (s : Session) (time settle : ℕ) (buys sells : List Order) (tb ts room tb′ ts′ room′ : List ℕ) (next : ℕ) : Type 0 where
   pub bought : tb′ ≡ tableOf [] tb
   pub sold : ts′ ≡ tableOf [] ts

@@ -1,20 +1,26 @@
 -- What an accepted event begins and ends with, in the lent numbers.
-use Prim.Native.Nat.{ℕ, _/_, _*_, _≤_}
+use Prim.Native.Nat.{ℕ, _+_, _/_, _*_, _≤_}
 use mathlib.Core.Path.{_≡_}
 use mathlib.Core.List.{List}
 use lib.ListN.{length}
-use Rattle.terms.specs.declared.Act.{Act}
-use Rattle.terms.specs.declared.Act.the-variants.{Under, Clock}
+use Rattle.terms.specs.declared.Entry.{Entry}
+use Rattle.terms.specs.declared.Side.{Side}
+use Rattle.terms.specs.declared.Side.the-variants.{Buy, Sell}
 use Rattle.terms.specs.Sizes.{slots}
 use Rattle.tables.specs.Lengths.{recordLength, tableLength}
-use Rattle.tables.specs.Tables.{decode, tableOf}
+use Rattle.tables.specs.Tables.{decode, tableOf, Holds}
 use Rattle.state_law.specs.declared.Session.{Session}
-use Rattle.state_law.specs.Set.{setBuys, setSells}
+use Rattle.state_law.specs.Set.{setBuys, setSells, setUnder}
 use Rattle.state_law.specs.Now.{Clocked}
+use Rattle.state_law.specs.Clock.{clockStep}
 use Rattle.acts_law.specs.Acts.{clockReports}
-use Rattle.acts_law.specs.code.Written.{Written}
+use Rattle.acts_law.specs.declared.Entered.{Entered}
+use Rattle.acts_law.specs.declared.Withdrawn.{Withdrawn}
+use Rattle.acts_law.specs.code.Written.{Written, RestsIn, WithdrawnAs}
+use Rattle.acts_law.specs.code.Entering.{EnteredAs}
 use Rattle.engine_law.specs.declared.Answer.{Answer}
 use Rattle.engine_law.specs.declared.Applied.{Applied}
+use Rattle.engine_law.specs.declared.Begun.{Begun}
 
 -- the answer: live counts in the session, and the count of reports by the place behind them
 abbrev pub doneAt : Session → ℕ → ℕ → ℕ → Applied
@@ -34,7 +40,50 @@ pub record SteppedAs (old s : Session) (buys sells room buys′ sells′ room′
   pub sold : sells′ ≡ tableOf (decode (old .live .sells) sells) sells
   pub told : Written room 0 (clockReports old s) room′ next
 
--- an act that only sets the underlying, to this
-pub data Quiet (s : Session) : ℕ → Act → Type 0 where
-  under : (price : ℕ) → Quiet s price (Under price)
-  clock : Quiet s (s .clock .under) Clock
+-- any event but the close can begin, at time t
+pub record Begins (s : Session) (t : ℕ) (buys sells room : List ℕ) : Type 0 where
+  pub clocked : Clocked s
+  pub forward : s .clock .time ≤ t
+  pub after : Clocked (clockStep s t)
+  pub buys-long : tableLength ≤ length buys
+  pub sells-long : tableLength ≤ length sells
+  pub room-long : recordLength * 2 ≤ length room
+
+-- and has begun
+pub record BegunAs (s : Session) (t : ℕ) (buys sells room buys′ sells′ room′ : List ℕ) (b : Begun) : Type 0 where
+  pub could : Begins s t buys sells room
+  pub session : b .session ≡ clockStep s t
+  pub stepped : SteppedAs s (b .session) buys sells room buys′ sells′ room′ (b .at)
+
+-- ---- behind the clock steps
+
+-- an order's answer: the table of its own side is the buys' or the sells'
+abbrev pub doneOn : Side → Entered → Applied
+doneOn Buy f = doneAt (f .session) (f .mine) (f .theirs) (f .at)
+doneOn Sell f = doneAt (f .session) (f .theirs) (f .mine) (f .at)
+
+-- an order on its own side's table and the one across
+pub record OrderedAs (side : Side) (s : Session) (n : Entry) (nmine : ℕ) (mine : List ℕ) (ntheirs : ℕ) (theirs room : List ℕ) (at : ℕ)
+    (mine′ theirs′ room′ : List ℕ) (r : Applied) : Type 0 where
+  pub order : Entered
+  pub entered : EnteredAs s n (decode nmine mine) (decode ntheirs theirs) mine theirs room at mine′ theirs′ room′ order
+  pub answer : r ≡ doneOn side order
+
+-- the clock steps alone, and perhaps another underlying
+pub record QuietAs (s : Session) (t under : ℕ) (buys sells room buys′ sells′ room′ : List ℕ) (r : Applied) : Type 0 where
+  pub begun : Begun
+  pub began : BegunAs s t buys sells room buys′ sells′ room′ begun
+  pub answer : r ≡ doneAt (setUnder (begun .session) under) (s .live .buys) (s .live .sells) (begun .at)
+
+-- a cancel, of an order that rests on one of the sides
+pub record Withdrawing (number nbuys : ℕ) (buys : List ℕ) (nsells : ℕ) (sells room : List ℕ) (at : ℕ) : Type 0 where
+  pub holds-buys : Holds nbuys buys
+  pub holds-sells : Holds nsells sells
+  pub space : at + recordLength ≤ length room
+  pub rests : RestsIn number (decode nbuys buys) (decode nsells sells)
+
+pub record CancelledAs (number time : ℕ) (s : Session) (nbuys : ℕ) (buys : List ℕ) (nsells : ℕ) (sells room : List ℕ) (at : ℕ)
+    (buys′ sells′ room′ : List ℕ) (r : Applied) : Type 0 where
+  pub cancel : Withdrawn
+  pub withdrawn : WithdrawnAs number time (decode nbuys buys) (decode nsells sells) buys sells room at buys′ sells′ room′ cancel
+  pub answer : r ≡ doneAt s (cancel .buys) (cancel .sells) (cancel .at)

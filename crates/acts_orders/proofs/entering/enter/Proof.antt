@@ -1,35 +1,37 @@
--- The order meets the counter side, and what is left of it is settled behind its trades.
+-- The order meets the counter side, and what is left of it is settled.
 use borrow.Author.Needs.{needs}
 use Rattle.acts_law.proofs.Entries.{meet-asks, settle-asks, entered-as}
 use Rattle.acts_orders.proofs.entering.enter.Statement.{statement}
 use Rattle.acts_orders.proofs.entering.enter.Tie as tie
 
+ruleset answers = (needs, meet-asks, settle-asks, entered-as)
+
 add-number : tie.Need-add-number
-add-number c = search needs
+add-number c = search answers
 
 band-now-requires : tie.Need-band-now-requires
-band-now-requires c κs = search needs
+band-now-requires c κs = search answers
 
 meet-requires : tie.Need-meet-requires
-meet-requires c κs = let a = c .before .before .before .before .before .before .before .args in meet-asks (a .s) (a .n) (a .nmine) (a .mine .now) (a .ntheirs) (a .theirs .now) (a .room .now) (a .at) (c .before .before .before .before .before .before .before .pre) _ (c .before .before .band-now .ensures .0)
+meet-requires c κs = search answers
 
 fate-requires : tie.Need-fate-requires
-fate-requires c κs = search needs
+fate-requires c κs = search answers
 
 settle-requires : tie.Need-settle-requires
-settle-requires c κs = let a = c .before .before .before .before .before .before .before .before .before .before .before .before .before .before .before .before .args in settle-asks (a .s) (a .n) (a .nmine) (a .mine .now) (a .ntheirs) (a .theirs .now) (a .room .now) (a .at) (c .before .before .before .before .before .before .before .before .before .before .before .before .before .before .before .before .pre) _ (c .before .before .before .before .before .before .before .before .before .before .before .band-now .ensures .0) _ _ _ (c .before .before .before .before .before .before .before .before .meet .ensures) _ (c .before .before .fate .ensures)
+settle-requires c κs = search answers
 
 same-length : tie.Need-same-length
-same-length c = search needs
+same-length c = search answers
 
 same-length-2 : tie.Need-same-length-2
-same-length-2 c = search needs
+same-length-2 c = search answers
 
 same-length-3 : tie.Need-same-length-3
-same-length-3 c = search needs
+same-length-3 c = search answers
 
 returns : tie.Need-returns
-returns c = let a = c .before .before .before .before .before .before .before .before .before .before .before .before .before .before .before .before .before .before .before .before .before .args in entered-as (a .s) (a .n) (a .nmine) (a .mine .now) (a .ntheirs) (a .theirs .now) (a .room .now) (a .at) (c .before .before .before .before .before .before .before .before .before .before .before .before .before .before .before .before .before .before .before .before .before .pre) _ (c .before .before .before .before .before .before .before .before .before .before .before .before .before .before .before .before .band-now .ensures .0) _ _ _ (c .before .before .before .before .before .before .before .before .before .before .before .before .before .meet .ensures) _ (c .before .before .before .before .before .before .before .fate .ensures) _ _ _ (c .before .before .before .before .settle .ensures)
+returns c = search answers
 
 pub enter-spec : {M : Type 1} → statement M
 enter-spec =

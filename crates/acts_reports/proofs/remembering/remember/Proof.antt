@@ -1,7 +1,7 @@
 -- The trades that are left, from the session so far, make the session that all of them make.
 use Prim.Native.Nat.{_-_}
 use borrow.Author.Needs.{needs}
-use Rattle.acts_law.proofs.Recalled.{Recalling, recall-none, deals-at, one-fits, recall-turn, recall-all}
+use Rattle.acts_law.proofs.Recalled.{Recalling, recall-from, trade-asks, recall-next, recall-all}
 use Rattle.acts_reports.proofs.remembering.remember.Statement.{statement}
 use Rattle.acts_reports.proofs.remembering.remember.Tie as tie
 
@@ -12,7 +12,7 @@ abbrev μ-loop : tie.MeasureT-loop
 μ-loop band room at n s₀ i₀ s i = n - i
 
 loop-holds : tie.Need-loop-holds Inv-loop μ-loop
-loop-holds c = let a = c .before .args in recall-none (a .band) (a .room .now) (a .at) (a .n) (a .s0) (c .before .pre .0) (c .before .pre .1)
+loop-holds c = search recall-from
 
 mul-place : tie.Need-mul-place Inv-loop μ-loop
 mul-place c = search needs
@@ -39,9 +39,7 @@ shared-slice-read-price : tie.Need-shared-slice-read-price Inv-loop μ-loop
 shared-slice-read-price c = search needs
 
 with-trade-requires : tie.Need-with-trade-requires Inv-loop μ-loop
-with-trade-requires c κs = let a = c .before .before .before .before .before .args in let l = c .before .before .before .loop in
-    let d = deals-at (a .room .now) (a .at) (a .n) (l .i) (c .before .before .before .before .before .pre .4) (c .before .before .loop-test .taken) in
-    (one-fits (a .room .now) (a .at) (a .n) (l .i) (c .before .before .before .before .before .pre .4) (c .before .before .loop-test .taken) (a .band) (a .s0) (l .s) (l .inv), l .inv .banded, d .price-small, d .lots-small)
+with-trade-requires c κs = trade-asks (c .before .before .loop-test .taken) (c .before .before .before .loop .inv)
 
 add-i : tie.Need-add-i Inv-loop μ-loop
 add-i c = search needs
@@ -50,11 +48,10 @@ loop-less : tie.Need-loop-less Inv-loop μ-loop
 loop-less c = search needs
 
 loop-again : tie.Need-loop-again Inv-loop μ-loop
-loop-again c = let a = c .before .before .before .before .before .before .args in let l = c .before .before .before .before .loop in
-    recall-turn (a .room .now) (a .at) (a .n) (l .i) (c .before .before .before .before .before .before .pre .4) (c .before .before .before .loop-test .taken) (a .band) (a .s0) (l .s) (l .inv) (c .with-trade .result) (c .with-trade .ensures)
+loop-again c = search recall-next
 
 returns : tie.Need-returns Inv-loop μ-loop
-returns c = let a = c .before .before .before .args in let l = c .before .loop in recall-all (a .band) (a .room .now) (a .at) (a .n) (l .i) (a .s0) (l .s) (l .inv) (c .loop-test .left)
+returns c = search recall-all
 
 pub remember-spec : {M : Type 1} → statement M
 remember-spec =
