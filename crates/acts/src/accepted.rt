@@ -21,7 +21,7 @@ ghost use Rattle.acts_law.specs.Acts.{act};
 ghost use Rattle.soundness_law.specs.Sound.{dayIn};
 ghost use Rattle.engine_law.specs.Calls.{eventAt, Ready, ActedAs};
 ghost use Rattle.acts_law.specs.code.Entering.{Entering};
-ghost use Rattle.engine_law.specs.code.Steps.{Stepping, SteppedAs, Begins, BegunAs, QuietAs, OrderedAs, Withdrawing, CancelledAs};
+ghost use Rattle.engine_law.specs.code.Steps.{Stepping, SteppedAs, Begins, BegunAs, QuietAs, OrderedAs, EntersOn, OrderedOn, Withdrawing, CancelledAs};
 
 // What every event but the close begins with: the tables' tails are cleared, and the clock steps are reported.
 fn step_in(old: Session, s: Session, buys: &mut [u64], sells: &mut [u64], room: &mut [u64]) -> usize
@@ -144,7 +144,28 @@ fn sell(
     counting::done(session, r.theirs, r.mine, r.at)
 }
 
-// An order, by its side.
+// An order behind the clock steps, by its side.
+fn enter(
+    s: Session,
+    n: Entry,
+    buys: &mut [u64],
+    nbuys: usize,
+    sells: &mut [u64],
+    nsells: usize,
+    room: &mut [u64],
+    at: usize,
+) -> Applied
+    requires { ⌜ EntersOn s n nbuys (now buys) nsells (now sells) (now room) at ⌝ }
+    ensures { λ r. ⌜ OrderedOn s n nbuys (now (buys .entry)) nsells (now (sells .entry)) (now (room .entry)) at (now (buys .exit)) (now (sells .exit)) (now (room .exit)) r ⌝ }
+{
+    let side = n.side;
+    match side {
+        Side::Buy => buy(s, n, buys, nbuys, sells, nsells, room, at),
+        Side::Sell => sell(s, n, buys, nbuys, sells, nsells, room, at),
+    }
+}
+
+// An order.
 fn order(
     s: Session,
     t: u64,
@@ -156,16 +177,11 @@ fn order(
     requires { ⌜ Ready s t (Act.Enter n) (now buys) (now sells) (now room) ⌝ }
     ensures { λ r. ⌜ ActedAs (act (dayIn s (now (buys .entry)) (now (sells .entry))) (eventAt t (Act.Enter n))) (now (buys .entry)) (now (sells .entry)) (now (room .entry)) (now (buys .exit)) (now (sells .exit)) (now (room .exit)) r ⌝ }
 {
-    let side = n.side;
     let nbuys = s.live.buys as usize;
     let nsells = s.live.sells as usize;
     let b = begin(s, t, buys, sells, room);
-    let at = b.at;
     let stepped = b.session;
-    match side {
-        Side::Buy => buy(stepped, n, buys, nbuys, sells, nsells, room, at),
-        Side::Sell => sell(stepped, n, buys, nbuys, sells, nsells, room, at),
-    }
+    enter(stepped, n, buys, nbuys, sells, nsells, room, b.at)
 }
 
 // The session of a day that is closed. The trades that it remembers have ten places.

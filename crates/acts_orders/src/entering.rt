@@ -127,7 +127,17 @@ pub fn enter(
     let behind = m.at;
     let session = m.session;
     let fate = leftover::fate(life, kind, band, m.last, left, m.out);
-    let p = leftover::settle(mine, nmine, side, number, left, fate, s.clock.time, room, behind);
+    let p = leftover::settle(
+        mine,
+        nmine,
+        side,
+        number,
+        left,
+        fate,
+        s.clock.time,
+        room,
+        behind,
+    );
     Entered {
         session: session,
         mine: p.count,

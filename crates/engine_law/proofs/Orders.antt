@@ -1,7 +1,7 @@
 -- An order on both tables: proved once, over its own side's table and the one across.
 use Prim.Native.Nat.{ℕ, _+_, _≤_, _<_}
 use native.Mathlib.Omega.{arith}
-use mathlib.Core.Path.{_≡_, refl, _∙_}
+use mathlib.Core.Path.{_≡_, ap, sym, refl, _∙_}
 use mathlib.Core.Bool.{true}
 use mathlib.Core.List.{List, _++_}
 use borrow.Author.Tests.{ltb-true}
@@ -12,6 +12,7 @@ use Rattle.terms.specs.declared.Entry.{Entry}
 use Rattle.terms.specs.declared.Life.{Life}
 use Rattle.terms.specs.declared.Life.the-variants.{AllDay}
 use Rattle.terms.specs.declared.Order.{Order}
+use Rattle.terms.specs.declared.Side.{Side}
 use Rattle.terms.specs.declared.Side.the-variants.{Buy, Sell}
 use Rattle.terms.specs.Sizes.{slots, numbersMost, tradesBefore, sizes}
 use Rattle.tables.specs.Tables.{decode, tableOf}
@@ -35,7 +36,7 @@ use Rattle.acts_law.proofs.Reports.{written-then}
 use Rattle.engine_law.specs.declared.Applied.{Applied}
 use Rattle.engine_law.specs.Calls.{eventAt, Ready, ActedAs}
 use Rattle.engine_law.specs.declared.Begun.{Begun}
-use Rattle.engine_law.specs.code.Steps.{BegunAs, OrderedAs}
+use Rattle.engine_law.specs.code.Steps.{BegunAs, OrderedAs, EntersOn, OrderedOn}
 use Rattle.engine_law.proofs.Starts.{accepts, clocked-after, trades-fit, buys-deal, sells-deal, after-buys, after-sells, same-room, behind-clock, clock-space}
 use Rattle.engine_law.proofs.Dones.{done-as}
 
@@ -67,11 +68,14 @@ module _ {s : Session} {t : ℕ} {n : Entry} {buys sells room : List ℕ} (r : R
           deals = rw (q .reads) deal;
         }
 
-    pub buy-enters : n .side ≡ Buy → Entering (b .session) n (s .live .buys) buys₁ (s .live .sells) sells₁ room₁ (b .at)
+    buy-enters : n .side ≡ Buy → Entering (b .session) n (s .live .buys) buys₁ (s .live .sells) sells₁ room₁ (b .at)
     buy-enters side = enter-asks (s .live .buys) (s .live .sells) buys sells buys₁ sells₁ (after-buys k) (after-sells k) (rw side) (sells-deal r refl)
 
-    pub sell-enters : n .side ≡ Sell → Entering (b .session) n (s .live .sells) sells₁ (s .live .buys) buys₁ room₁ (b .at)
+    sell-enters : n .side ≡ Sell → Entering (b .session) n (s .live .sells) sells₁ (s .live .buys) buys₁ room₁ (b .at)
     sell-enters side = enter-asks (s .live .sells) (s .live .buys) sells buys sells₁ buys₁ (after-sells k) (after-buys k) (rw side) (buys-deal r refl)
+
+    pub enters-on : EntersOn (b .session) n (s .live .buys) buys₁ (s .live .sells) sells₁ room₁ (b .at)
+    enters-on = record { a-buy = buy-enters; a-sell = sell-enters }
 
 module _ {s : Session} {t : ℕ} (n : Entry) {buys sells room buys₁ sells₁ room₁ : List ℕ} {b : Begun} (k : BegunAs s t buys sells room buys₁ sells₁ room₁ b) where
   -- over the order's own side and the one across
@@ -106,7 +110,7 @@ module _ {s : Session} {t : ℕ} (n : Entry) {buys sells room buys₁ sells₁ r
 
   module _ {buys₂ sells₂ room₂ : List ℕ} {r : Applied} where
     -- a buy: its own side is that of the buys
-    pub buy-ordered : n .side ≡ Buy → OrderedAs Buy (b .session) n (s .live .buys) buys₁ (s .live .sells) sells₁ room₁ (b .at) buys₂ sells₂ room₂ r →
+    buy-ordered : n .side ≡ Buy → OrderedAs Buy (b .session) n (s .live .buys) buys₁ (s .live .sells) sells₁ room₁ (b .at) buys₂ sells₂ room₂ r →
         ActedAs (act (dayIn s buys sells) (eventAt t (Enter n))) buys sells room buys₂ sells₂ room₂ r
     unfolding act entered
     buy-ordered side o =
@@ -118,7 +122,7 @@ module _ {s : Session} {t : ℕ} (n : Entry) {buys sells room buys₁ sells₁ r
         (rw (l .session, side, ← k .session)) (l .nown) (l .nacross) (l .booked) (l .countered) (rw (side, ← k .session) (rw side at (l .told))))
 
     -- a sell: its own side is that of the sells
-    pub sell-ordered : n .side ≡ Sell → OrderedAs Sell (b .session) n (s .live .sells) sells₁ (s .live .buys) buys₁ room₁ (b .at) sells₂ buys₂ room₂ r →
+    sell-ordered : n .side ≡ Sell → OrderedAs Sell (b .session) n (s .live .sells) sells₁ (s .live .buys) buys₁ room₁ (b .at) sells₂ buys₂ room₂ r →
         ActedAs (act (dayIn s buys sells) (eventAt t (Enter n))) buys sells room buys₂ sells₂ room₂ r
     unfolding act entered
     sell-ordered side o =
@@ -128,3 +132,36 @@ module _ {s : Session} {t : ℕ} (n : Entry) {buys sells room buys₁ sells₁ r
         rw (o .answer)
         (done-as (act (dayIn s buys sells) (eventAt t (Enter n))) (f .session) (w .rest) (settled (n .side) (b .session .live .given + 1) (w .left) (fateIn (b .session) n w) (decode (s .live .sells) sells)) (f .theirs) (f .mine) (f .at) buys sells room buys₂ sells₂ room₂
         (rw (l .session, side, ← k .session)) (l .nacross) (l .nown) (l .countered) (l .booked) (rw (side, ← k .session) (rw side at (l .told))))
+
+    pub ordered-done : OrderedOn (b .session) n (s .live .buys) buys₁ (s .live .sells) sells₁ room₁ (b .at) buys₂ sells₂ room₂ r →
+        ActedAs (act (dayIn s buys sells) (eventAt t (Enter n))) buys sells room buys₂ sells₂ room₂ r
+    ordered-done o = by-side (n .side) refl
+      where
+        by-side : (side : Side) → n .side ≡ side → ActedAs (act (dayIn s buys sells) (eventAt t (Enter n))) buys sells room buys₂ sells₂ room₂ r
+        by-side Buy e = buy-ordered e (o .a-buy e)
+        by-side Sell e = sell-ordered e (o .a-sell e)
+
+-- ---- an order by its side
+
+abbrev number : Side → ℕ
+number Buy = 1
+number Sell = 2
+
+no-both : (side : Side) → side ≡ Buy → side ≡ Sell → ⊥
+no-both side b s = let z : _≡_ {A = ℕ} 1 2 = ap number (sym b ∙ s) in omega arith
+
+module _ {s : Session} {n : Entry} {nbuys nsells at : ℕ} {buys sells room : List ℕ} where
+  pub buys-enter : EntersOn s n nbuys buys nsells sells room at → n .side ≡ Buy → Entering s n nbuys buys nsells sells room at
+  buys-enter o e = o .a-buy e
+
+  pub sells-enter : EntersOn s n nbuys buys nsells sells room at → n .side ≡ Sell → Entering s n nsells sells nbuys buys room at
+  sells-enter o e = o .a-sell e
+
+  module _ {buys′ sells′ room′ : List ℕ} {r : Applied} where
+    pub buys-ordered : n .side ≡ Buy → OrderedAs Buy s n nbuys buys nsells sells room at buys′ sells′ room′ r →
+        OrderedOn s n nbuys buys nsells sells room at buys′ sells′ room′ r
+    buys-ordered e o = record { a-buy = λ _. o; a-sell = λ f. absurd (no-both (n .side) e f) }
+
+    pub sells-ordered : n .side ≡ Sell → OrderedAs Sell s n nsells sells nbuys buys room at sells′ buys′ room′ r →
+        OrderedOn s n nbuys buys nsells sells room at buys′ sells′ room′ r
+    sells-ordered e o = record { a-buy = λ f. absurd (no-both (n .side) f e); a-sell = λ _. o }

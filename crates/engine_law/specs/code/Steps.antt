@@ -17,7 +17,7 @@ use Rattle.acts_law.specs.Acts.{clockReports}
 use Rattle.acts_law.specs.declared.Entered.{Entered}
 use Rattle.acts_law.specs.declared.Withdrawn.{Withdrawn}
 use Rattle.acts_law.specs.code.Written.{Written, RestsIn, WithdrawnAs}
-use Rattle.acts_law.specs.code.Entering.{EnteredAs}
+use Rattle.acts_law.specs.code.Entering.{Entering, EnteredAs}
 use Rattle.engine_law.specs.declared.Answer.{Answer}
 use Rattle.engine_law.specs.declared.Applied.{Applied}
 use Rattle.engine_law.specs.declared.Begun.{Begun}
@@ -68,6 +68,17 @@ pub record OrderedAs (side : Side) (s : Session) (n : Entry) (nmine : ℕ) (mine
   pub order : Entered
   pub entered : EnteredAs s n (decode nmine mine) (decode ntheirs theirs) mine theirs room at mine′ theirs′ room′ order
   pub answer : r ≡ doneOn side order
+
+-- an order asks of both tables what it asks of its own side's and of the one across
+pub record EntersOn (s : Session) (n : Entry) (nbuys : ℕ) (buys : List ℕ) (nsells : ℕ) (sells room : List ℕ) (at : ℕ) : Type 0 where
+  pub a-buy : n .side ≡ Buy → Entering s n nbuys buys nsells sells room at
+  pub a-sell : n .side ≡ Sell → Entering s n nsells sells nbuys buys room at
+
+-- and leaves both as it leaves these
+pub record OrderedOn (s : Session) (n : Entry) (nbuys : ℕ) (buys : List ℕ) (nsells : ℕ) (sells room : List ℕ) (at : ℕ)
+    (buys′ sells′ room′ : List ℕ) (r : Applied) : Type 0 where
+  pub a-buy : n .side ≡ Buy → OrderedAs Buy s n nbuys buys nsells sells room at buys′ sells′ room′ r
+  pub a-sell : n .side ≡ Sell → OrderedAs Sell s n nsells sells nbuys buys room at sells′ buys′ room′ r
 
 -- the clock steps alone, and perhaps another underlying
 pub record QuietAs (s : Session) (t under : ℕ) (buys sells room buys′ sells′ room′ : List ℕ) (r : Applied) : Type 0 where

@@ -1,26 +1,17 @@
--- The clock steps, then the order on its own side.
+-- The clock steps, then the order on both tables.
 use borrow.Author.Needs.{needs}
 use Rattle.engine_law.proofs.Starts.{begins}
-use Rattle.engine_law.proofs.Orders.{buy-enters, sell-enters, buy-ordered, sell-ordered}
+use Rattle.engine_law.proofs.Orders.{enters-on, ordered-done}
 use Rattle.acts.proofs.accepted.order.Statement.{statement}
 use Rattle.acts.proofs.accepted.order.Tie as tie
 
-ruleset answers = (needs, begins, buy-enters, sell-enters, buy-ordered, sell-ordered)
+ruleset answers = (needs, begins, enters-on, ordered-done)
 
 begin-requires : tie.Need-begin-requires
 begin-requires c κs = search answers
 
-enum-told : tie.Need-enum-told
-enum-told c = search answers
-
-buy-requires : tie.Need-buy-requires
-buy-requires c κs = search answers
-
-enum-told-2 : tie.Need-enum-told-2
-enum-told-2 c = search answers
-
-sell-requires : tie.Need-sell-requires
-sell-requires c κs = search answers
+enter-requires : tie.Need-enter-requires
+enter-requires c κs = search answers
 
 same-length : tie.Need-same-length
 same-length c = search answers
@@ -34,32 +25,7 @@ same-length-3 c = search answers
 returns : tie.Need-returns
 returns c = search answers
 
-same-length-4 : tie.Need-same-length-4
-same-length-4 c = search answers
-
-same-length-5 : tie.Need-same-length-5
-same-length-5 c = search answers
-
-same-length-6 : tie.Need-same-length-6
-same-length-6 c = search answers
-
-returns-2 : tie.Need-returns-2
-returns-2 c = search answers
-
 pub order-spec : {M : Type 1} → statement M
 order-spec =
     tie.close
-    (tie.spec
-    begin-requires
-    enum-told
-    buy-requires
-    enum-told-2
-    sell-requires
-    same-length
-    same-length-2
-    same-length-3
-    returns
-    same-length-4
-    same-length-5
-    same-length-6
-    returns-2)
+    (tie.spec begin-requires enter-requires same-length same-length-2 same-length-3 returns)
