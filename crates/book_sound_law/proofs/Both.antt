@@ -1,17 +1,18 @@
 -- Two passes with one map: the second goes on from the marks of the first.
-use Prim.Native.Nat.{ℕ, _≤_}
+use Prim.Native.Nat.{ℕ, _≤_, _<_}
 use native.Mathlib.Omega.{arith}
-use mathlib.Core.Bool.{Bool, true, false, _&&_, not, cond, false≢true}
+use mathlib.Core.Bool.{Bool, true, false, _&&_, _||_, not, cond, false≢true}
 use mathlib.Core.Path.{_≡_, refl, sym, _∙_}
 use mathlib.Core.List.{List, [], _∷_, _++_}
 use lib.Bits.{and-le-r}
+use lib.Dec.{leb}
 use lib.ListN.{length, replicate}
-use borrow.Author.Tests.{not-true, not-false}
+use borrow.Author.Tests.{le-leb, lt-leb, not-true, not-false}
 use Rattle.terms.specs.declared.Side.the-variants.{Buy, Sell}
 use Rattle.terms.specs.declared.Order.{Order}
 use Rattle.book_sound_law.specs.declared.Limits.{Limits}
 use Rattle.book_sound_law.specs.code.Marks.{wordsTo, fresh, marked, apart}
-use Rattle.book_sound_law.specs.code.Pass.{LimitsFit, lowBits, passOf, sideSound, sidesBy}
+use Rattle.book_sound_law.specs.code.Pass.{LimitsFit, lowBits, passOf, sideSound, sidesBy, leastMask}
 use Rattle.book_sound_law.proofs.Fresh.{Inside, both-fresh}
 use Rattle.book_sound_law.proofs.Keys.{pass-is}
 
@@ -51,3 +52,11 @@ module _ (l : Limits) (k : LimitsFit l) (mask : ℕ) (m₀ : List ℕ) (h : word
       let t : p ≡ true = not-false p f in
       g ∙ pass-is Sell l mask (k .given-small) m′ ys ∙ rw (all-fresh, rw t at d)
       (end-by (sideSound Buy l xs) (fresh m₀ (lowBits mask xs)) (sideSound Sell l ys) _ (sym first-is ∙ t))
+
+-- by the mask that the tests choose: where the lesser two are refused, the medium one for so few numbers given, else the largest
+module _ (l : Limits) (live : ℕ) (xs ys : List Order) (r : Bool) (tiny : (leb (l .given) 1023 || leb live 16) ≡ false) (small : (leb (l .given) 4095 || leb live 48) ≡ false) where
+  pub by-medium : l .given ≤ 16383 → r ≡ sidesBy 16383 l xs ys → r ≡ sidesBy (leastMask (l .given) live) l xs ys
+  by-medium h e = rw (tiny, small, le-leb (l .given) 16383 h) e
+
+  pub by-largest : 16383 < l .given → r ≡ sidesBy 65535 l xs ys → r ≡ sidesBy (leastMask (l .given) live) l xs ys
+  by-largest h e = rw (tiny, small, lt-leb (l .given) 16383 h) e

@@ -2,14 +2,17 @@
 use Prim.Native.Nat.{ℕ, _*_, _≤_, _<_}
 use native.Mathlib.Omega.{arith}
 use native.Mathlib.Nat.{min-eq-left}
-use mathlib.Core.Path.{_≡_}
-use mathlib.Core.Bool.{Bool, true}
+use mathlib.Core.Path.{_≡_, sym, _∙_}
+use mathlib.Core.Bool.{Bool, true, false, not}
 use mathlib.Core.List.{List}
-use borrow.Author.Tests.{leb-true}
+use borrow.Author.Tests.{leb-true, not-false}
 use lib.ListN.{length, getD, take, length-take}
 use lib.Seq.{getD-take}
 use Rattle.terms.specs.Sizes.{priceMost, lotsMost, tradesMost, timeMost, sizes}
 use Rattle.terms.specs.Numbers.{isPrice, isLots}
+use Rattle.terms.specs.Truth.{_⊓_}
+use Rattle.terms.specs.Settings.{settingsValid}
+use Rattle.terms.specs.code.Ticks.{factorOf, Dividing}
 use Rattle.terms.proofs.Logic.{both, between-facts}
 use Rattle.terms.proofs.Valid.{valid-facts}
 use Rattle.rules_law.specs.declared.Minute.{Minute}
@@ -114,3 +117,23 @@ steady s lp ls e =
 pub session-clocked : (s : Session) → sessionSound sizes s ≡ true → Clocked s
 unfolding sessionSound
 session-clocked s e = clocked s (both e .0)
+
+-- ---- as code comes to it: `found` and the like are what it tested
+
+pub time-found : (s : Session) (found : Bool) → found ≡ timeSound s → not found ≡ false → s .clock .time ≤ timeMost
+time-found s found e h = time-small s (sym e ∙ not-false found h)
+
+pub clocked-found : (s : Session) (found : Bool) → found ≡ sessionSound sizes s → not found ≡ false → Clocked s
+clocked-found s found e h = session-clocked s (sym e ∙ not-false found h)
+
+pub dividing-found : (s : Session) (found : Bool) (factor : ℕ) → found ≡ sessionSound sizes s → not found ≡ false → factor ≡ factorOf (s .settings .tick) →
+    Dividing (s .settings .tick) factor
+dividing-found s found factor e h f =
+    let v = clocked-found s found e h .valid .in-range in
+    record { tick-some = v .tick-some; tick-small = v .tick-small; factor-is = f }
+
+pub clock-decides : (s : Session) (valid time counts slab r : Bool) → valid ≡ settingsValid (s .settings) → not valid ≡ false → time ≡ timeSound s → not time ≡ false →
+    counts ≡ countsSound sizes s → not counts ≡ false → slab ≡ slabSound s → not slab ≡ false → r ≡ numbersSound sizes s → r ≡ clockSound sizes s
+unfolding clockSound _⊓_
+clock-decides s valid time counts slab r v v′ t t′ c c′ l l′ n =
+    rw (← v, not-false valid v′, ← t, not-false time t′, ← c, not-false counts c′, ← l, not-false slab l′) n

@@ -9,7 +9,7 @@ use borrow.Author.Tests.{not-true, not-false}
 use lib.ListN.{length, getD, take, drop, length-take, drop-of-length-le}
 use lib.Seq.{take-all, drop-cons, getD-take}
 use Rattle.terms.specs.Truth.{_⊓_}
-use Rattle.terms.specs.Numbers.{isLots}
+use Rattle.terms.specs.Numbers.{isPrice, isLots, onTick}
 use Rattle.terms.proofs.Logic.{both, regroup}
 use Rattle.rules_law.specs.declared.Tape.{Tape}
 use Rattle.rules_law.specs.Close.{kept}
@@ -75,6 +75,10 @@ both-tests f g (x ∷ xs) = rw (both-tests f g xs) (swap (f x) (g x) (every f xs
     swap true false true d = refl
     swap true false false d = refl
     swap false b c d = refl
+
+-- prices are sound where they are in range and on the tick
+pub prices-decide : (tick : ℕ) (prices : List ℕ) (rest r : Bool) → r ≡ (every isPrice prices ⊓ every (onTick tick) prices ⊓ rest) → r ≡ (every (priceSound tick) prices ⊓ rest)
+prices-decide tick prices rest r e = rw (both-tests isPrice (onTick tick) prices) e
 
 -- ---- a tape that is full
 

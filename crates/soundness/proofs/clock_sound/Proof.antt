@@ -1,10 +1,8 @@
 -- The slab is tested only where the time is found to be small.
 use borrow.Author.Needs.{needs}
-use borrow.Author.Tests.{not-false}
-use mathlib.Core.Path.{sym, _∙_}
-use Rattle.terms.proofs.Logic.{conditions, regroup, passes}
+use Rattle.terms.proofs.Logic.{conditions}
 use Rattle.soundness_law.specs.Sound.{clockSound}
-use Rattle.soundness_law.proofs.Clocked.{time-small}
+use Rattle.soundness_law.proofs.Clocked.{time-found, clock-decides}
 use Rattle.soundness.proofs.clock_sound.Statement.{statement}
 use Rattle.soundness.proofs.clock_sound.Tie as tie
 
@@ -30,7 +28,7 @@ unfolding clockSound
 returns-3 c = search conditions depth 14
 
 slab-sound-requires : tie.Need-slab-sound-requires
-slab-sound-requires c κs = time-small (c .before .before .before .before .before .before .before .args .s) (sym (c .before .before .before .time-sound .ensures) ∙ not-false _ (c .before .before .if2 .left))
+slab-sound-requires c κs = search time-found
 
 returns-4 : tie.Need-returns-4
 unfolding clockSound
@@ -40,12 +38,7 @@ numbers-sound-requires : tie.Need-numbers-sound-requires
 numbers-sound-requires c κs = search needs
 
 returns-5 : tie.Need-returns-5
-unfolding clockSound
-returns-5 c = regroup _ _ _ _ (regroup _ _ _ _ (regroup _ _ _ _
-    (passes _ _ _ _ (c .before .before .before .before .before .before .before .before .is-valid .ensures) (c .before .before .before .before .before .before .before .if1 .left)
-    (passes _ _ _ _ (c .before .before .before .before .before .before .time-sound .ensures) (c .before .before .before .before .before .if2 .left)
-    (passes _ _ _ _ (c .before .before .before .before .counts-sound .ensures) (c .before .before .before .if3 .left)
-    (passes _ _ _ _ (c .before .before .slab-sound .ensures) (c .before .if4 .left) (c .numbers-sound .ensures)))))))
+returns-5 c = search clock-decides
 
 pub clock-sound-spec : {M : Type 1} → statement M
 clock-sound-spec =

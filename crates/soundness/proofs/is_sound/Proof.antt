@@ -1,10 +1,7 @@
 -- The book is looked at only where the session's numbers are sound.
 use borrow.Author.Needs.{needs}
-use mathlib.Core.Path.{sym, _∙_}
 use native.Mathlib.Omega.{arith}
-use borrow.Author.Tests.{not-false}
-use Rattle.terms.specs.code.Ticks.{Dividing}
-use Rattle.soundness_law.proofs.Clocked.{session-clocked}
+use Rattle.soundness_law.proofs.Clocked.{clocked-found, dividing-found}
 use Rattle.soundness_law.proofs.Border.{numbers-unsound, book-decides}
 use Rattle.soundness.proofs.is_sound.Statement.{statement}
 use Rattle.soundness.proofs.is_sound.Tie as tie
@@ -19,16 +16,13 @@ returns : tie.Need-returns
 returns c = numbers-unsound _ _ _ _ (c .before .session-sound .ensures) (c .if1 .taken)
 
 band-now-requires : tie.Need-band-now-requires
-band-now-requires c κs =
-    session-clocked (c .before .before .before .before .before .args .s) (sym (c .before .session-sound .ensures) ∙ not-false _ (c .if1 .left))
+band-now-requires c κs = clocked-found _ _ (c .before .session-sound .ensures) (c .if1 .left)
 
 book-sound-requires : tie.Need-book-sound-requires
 book-sound-requires c κs =
-    let a = c .before .before .before .before .before .before in
-    let k = session-clocked (a .args .s) (sym (c .before .before .session-sound .ensures) ∙ not-false _ (c .before .if1 .left)) in
-    let v = k .valid in
-    let d : Dividing (a .args .s .settings .tick) (c .before .before .before .factor .result) =
-    record { tick-some = v .in-range .tick-some; tick-small = v .in-range .tick-small; factor-is = c .before .before .before .factor .ensures } in
+    let found = c .before .before .session-sound .ensures in
+    let k = clocked-found _ _ found (c .before .if1 .left) in
+    let d = dividing-found _ _ _ found (c .before .if1 .left) (c .before .before .before .factor .ensures) in
     (search (needs, k), search (needs, k), search (needs, k), d, omega (arith, c .band-now .ensures .1))
 
 returns-2 : tie.Need-returns-2

@@ -1,6 +1,6 @@
 -- Each return is by the mask that its tests choose.
 use borrow.Author.Needs.{needs}
-use borrow.Author.Tests.{le-leb, lt-leb}
+use Rattle.book_sound_law.proofs.Both.{by-medium, by-largest}
 use Rattle.book_sound.proofs.pass.sides_least.Statement.{statement}
 use Rattle.book_sound.proofs.pass.sides_least.Tie as tie
 
@@ -23,17 +23,13 @@ sides-medium-requires : tie.Need-sides-medium-requires
 sides-medium-requires c κs = search needs
 
 returns-3 : tie.Need-returns-3
-returns-3 c =
-    simp
-    (c .sides-medium .ensures, le-leb _ _ (c .before .if3 .taken), c .before .before .before .if2 .left, c .before .before .before .before .before .if1 .left)
+returns-3 c = search by-medium
 
 sides-large-requires : tie.Need-sides-large-requires
 sides-large-requires c κs = search needs
 
 returns-4 : tie.Need-returns-4
-returns-4 c =
-    simp
-    (c .sides-large .ensures, lt-leb _ _ (c .before .if3 .left), c .before .before .before .if2 .left, c .before .before .before .before .before .if1 .left)
+returns-4 c = search by-largest
 
 pub sides-least-spec : {M : Type 1} → statement M
 sides-least-spec =

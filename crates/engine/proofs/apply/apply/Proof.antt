@@ -35,7 +35,7 @@ enum-told : tie.Need-enum-told
 enum-told c = search needs
 
 carry-out-requires : tie.Need-carry-out-requires
-carry-out-requires c κs = ready _ _ _ _ _ _ _ (c .before .before .before .before .before .before .before .before .before .is-roomy .ensures) (c .before .before .before .before .before .before .before .before .if1 .left) (c .before .before .before .before .before .verdict .ensures) (c .before .before .before .enum-told .given .1)
+carry-out-requires c κs = search ready
 
 same-length-4 : tie.Need-same-length-4
 same-length-4 c = search needs

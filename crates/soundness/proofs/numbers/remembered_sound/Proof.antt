@@ -13,10 +13,7 @@ full-sound-requires : tie.Need-full-sound-requires
 full-sound-requires c κs = search needs
 
 returns : tie.Need-returns
-returns c =
-    let a = c .before .before .before .before .before .args in
-    let n = c .before .before .remembered in
-    full-tape (a .tick) (a .t) (n .result) (c .full-sound .result) (search needs) (search needs) (n .ensures .0) (c .before .if1 .taken) (c .full-sound .ensures)
+returns c = full-tape _ _ _ _ (search needs) (search needs) (c .before .before .remembered .ensures .0) (c .before .if1 .taken) (c .full-sound .ensures)
 
 prices-sound-requires : tie.Need-prices-sound-requires
 prices-sound-requires c κs = search needs
