@@ -1,42 +1,32 @@
 -- The whole of an order: what its calls ask, and what they leave.
-use Prim.Native.Nat.{ℕ, _+_, _*_, _≤_}
+use Prim.Native.Nat.{ℕ, _+_}
 use native.Mathlib.Omega.{arith}
-use mathlib.Core.Path.{_≡_, refl, ap, _∙_}
+use mathlib.Core.Path.{_≡_, refl, _∙_}
 use mathlib.Core.Bool.{Bool, true, false, false≢true}
-use mathlib.Core.List.{List, _∷_}
+use mathlib.Core.List.{List}
 use lib.Dec.{eqb}
-use lib.ListN.{length}
 use Rattle.terms.specs.declared.Band.{Band}
 use Rattle.terms.specs.declared.Entry.{Entry}
-use Rattle.terms.specs.declared.Report.{Report}
 use Rattle.terms.specs.declared.Life.{Life}
 use Rattle.terms.specs.declared.Life.the-variants.{AllDay, Ioc}
 use Rattle.terms.specs.declared.Kind.{Kind}
-use Rattle.terms.specs.declared.Said.the-variants.{Accept}
-use Rattle.tables.specs.Lengths.{recordLength}
 use Rattle.terms.proofs.Logic.{cases}
 use Rattle.tables.specs.Tables.{decode}
 use Rattle.tables.proofs.Slots.{length-decode}
-use Rattle.book_law.specs.Matching.{Fate, Done, Rests, Turns, Ends, reportAt, tradeReports, fateOf}
+use Rattle.book_law.specs.declared.Fate.{Fate}
+use Rattle.book_law.specs.Matching.{fateOf}
 use Rattle.state_law.specs.declared.Session.{Session}
 use Rattle.state_law.specs.Now.{bandNow}
 use Rattle.state_law.proofs.Fits.{range-fits}
-use Rattle.acts_law.specs.declared.Remainder.{Remainder}
 use Rattle.acts_law.specs.declared.Met.{Met}
 use Rattle.acts_law.specs.declared.Placed.{Placed}
 use Rattle.acts_law.specs.Acts.{sweepIn, fateIn, entered}
-use Rattle.acts_law.specs.code.Written.{fateFrom, remainderOf, fateBack, takesPlace, Settling, Settled}
+use Rattle.acts_law.specs.code.Written.{fateFrom, takesPlace, Settling, Settled}
 use Rattle.acts_law.specs.code.Entering.{acceptedReports, Meeting, MetAs, Entering, EnteredAs}
 use Rattle.acts_law.proofs.Reports.{written-length, written-then}
 
-back : (f : Fate) → fateBack (remainderOf f) ≡ f
-back Done = refl
-back (Rests price) = refl
-back (Turns price) = refl
-back (Ends why) = refl
-
 -- only an order that lives all day takes a place
-places : (life : Life) (kind : Kind) (band : Band) (last left : ℕ) (out : Bool) → takesPlace (remainderOf (fateFrom life kind band last left out)) ≡ true → life ≡ AllDay
+places : (life : Life) (kind : Kind) (band : Band) (last left : ℕ) (out : Bool) → takesPlace (fateFrom life kind band last left out) ≡ true → life ≡ AllDay
 places AllDay kind band last left out e = refl
 places Ioc kind band last left out e =
     absurd (cases (eqb left 0)
@@ -57,7 +47,7 @@ meet-asks {s} g b =
     }
 
 module _ {s : Session} {n : Entry} (ntheirs : ℕ) {at : ℕ} {theirs room theirs′ room′ : List ℕ} {m : Met} (k : MetAs s n (decode ntheirs theirs) theirs room at theirs′ room′ m)
-    (band : Band) {f : Remainder} (e : f ≡ remainderOf (fateFrom (n .life) (n .kind) band (m .last) (m .left) (m .out))) (nmine : ℕ) (mine : List ℕ) where
+    (band : Band) {f : Fate} (e : f ≡ fateFrom (n .life) (n .kind) band (m .last) (m .left) (m .out)) (nmine : ℕ) (mine : List ℕ) where
   pub settle-asks : Entering s n nmine mine ntheirs theirs room at → Settling nmine mine room′ (m .at) f
   settle-asks g =
       record {
@@ -67,14 +57,11 @@ module _ {s : Session} {n : Entry} (ntheirs : ℕ) {at : ℕ} {theirs room their
       }
 
   module _ (b : band ≡ bandNow s) where
-    fate-is : fateBack f ≡ fateIn s n (sweepIn s n (decode ntheirs theirs))
+    fate-is : f ≡ fateIn s n (sweepIn s n (decode ntheirs theirs))
     unfolding fateIn fateOf
-    fate-is =
-        ap fateBack e
-        ∙ (back (fateFrom (n .life) (n .kind) band (m .last) (m .left) (m .out))
-        ∙ rw (k .last, k .left, k .out, b))
+    fate-is = e ∙ rw (k .last, k .left, k .out, b)
 
-    pub entered-as : {mine′ room″ : List ℕ} {p : Placed} → Settled (n .side) (s .clock .time) (s .live .given + 1) (m .left) (fateBack f) (decode nmine mine) mine room′ (m .at) mine′ room″ p →
+    pub entered-as : {mine′ room″ : List ℕ} {p : Placed} → Settled (n .side) (s .clock .time) (s .live .given + 1) (m .left) f (decode nmine mine) mine room′ (m .at) mine′ room″ p →
         EnteredAs s n (decode nmine mine) (decode ntheirs theirs) mine theirs room at mine′ theirs′ room″ (record { session = m .session; mine = p .count; theirs = m .count; at = p .at })
     unfolding entered
     entered-as {mine′} {room″} {p} q =

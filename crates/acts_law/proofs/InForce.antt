@@ -14,7 +14,8 @@ use Rattle.terms.specs.declared.Order.{Order}
 use Rattle.terms.specs.declared.Side.{Side}
 use Rattle.rules_law.specs.Slabs.{inBand}
 use Rattle.rules_law.specs.Close.{lastOr}
-use Rattle.book_law.specs.Matching.{Swept, Turns, ownLastOr}
+use Rattle.book_law.specs.declared.Fate.the-variants.{Turns}
+use Rattle.book_law.specs.Matching.{Swept, ownLastOr}
 use Rattle.book_law.specs.Over.{EachPrice}
 use Rattle.book_law.proofs.Fates.{whyNumber, market-turns, why-four}
 use Rattle.book_law.proofs.Fills.{WithinLimit, limit-kept, Positive, WithinFirst, market-within}

@@ -13,7 +13,8 @@ use Rattle.terms.specs.declared.Side.{Side}
 use Rattle.terms.specs.declared.Side.the-variants.{Buy, Sell}
 use Rattle.terms.specs.declared.Report.{Report}
 use Rattle.terms.specs.Options.{maybe}
-use Rattle.book_law.specs.Matching.{Swept, tradeReports, Fate, settled, fateReports}
+use Rattle.book_law.specs.declared.Fate.{Fate}
+use Rattle.book_law.specs.Matching.{Swept, tradeReports, settled, fateReports}
 use Rattle.state_law.specs.declared.Session.{Session}
 use Rattle.state_law.specs.Set.{setGiven}
 use Rattle.state_law.specs.Clock.{clockStep}

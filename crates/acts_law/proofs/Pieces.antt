@@ -16,7 +16,9 @@ use Rattle.terms.specs.declared.Said.{Said}
 use Rattle.terms.specs.declared.Said.the-variants.{Accept, Trade, Convert, Cancel, Close}
 use Rattle.terms.specs.declared.Why.{Why}
 use Rattle.terms.specs.declared.Why.the-variants.{DayEnd}
-use Rattle.book_law.specs.Matching.{Swept, reportAt, dealOf, tradeReports, Fate, Done, Rests, Turns, Ends, fateReports}
+use Rattle.book_law.specs.declared.Fate.{Fate}
+use Rattle.book_law.specs.declared.Fate.the-variants.{Done, Rests, Turns, Ends}
+use Rattle.book_law.specs.Matching.{Swept, reportAt, dealOf, tradeReports, fateReports}
 use Rattle.book_law.specs.Told.{total}
 use Rattle.state_law.specs.declared.Session.{Session}
 use Rattle.acts_law.specs.Acts.{only, slabMoved, slabReport, refMoved, refReport, clockReports, fateIn, entered, cancelReports, closeReport, finished}

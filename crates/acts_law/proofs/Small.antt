@@ -32,7 +32,8 @@ use Rattle.terms.specs.Numbers.{Writable}
 use Rattle.rules_law.specs.Slabs.{inBand}
 use Rattle.rules_law.proofs.Bands.{low-small, high-small}
 use Rattle.book_law.specs.Priority.{leftOf}
-use Rattle.book_law.specs.Matching.{Swept, reportAt, dealOf, tradeReports, Fate, ownLastOr, fateOfLeft, fateOf, fateReports}
+use Rattle.book_law.specs.declared.Fate.{Fate}
+use Rattle.book_law.specs.Matching.{Swept, reportAt, dealOf, tradeReports, ownLastOr, fateOfLeft, fateOf, fateReports}
 use Rattle.book_law.specs.Over.{Each}
 use Rattle.book_law.proofs.Over.{each-map}
 use Rattle.book_law.proofs.Conserve.{Conserved, sweep-conserves}

@@ -16,7 +16,8 @@ use Rattle.terms.specs.declared.Why.{Why}
 use Rattle.terms.specs.declared.Why.the-variants.{Asked, DayEnd}
 use Rattle.rules_law.specs.Close.{lastOr, closingOf}
 use Rattle.book_law.specs.Priority.{rests, removed, leftOf}
-use Rattle.book_law.specs.Matching.{taker, Swept, sweep, reportAt, tradeReports, Fate, fateOf, settled, fateReports}
+use Rattle.book_law.specs.declared.Fate.{Fate}
+use Rattle.book_law.specs.Matching.{taker, Swept, sweep, reportAt, tradeReports, fateOf, settled, fateReports}
 use Rattle.state_law.specs.declared.Session.{Session}
 use Rattle.state_law.specs.Set.{setTime, setClosed, setUnder, setGiven}
 use Rattle.state_law.specs.Now.{percentNow, bandNow, rangeNow}

@@ -5,15 +5,6 @@
 
 use matching_law::Matched;
 use state_law::Session;
-use terms::Why;
-
-// What becomes of the lots that an order has left: nothing is left, it rests at its limit, it turns into a limit, it is cancelled.
-pub enum Remainder {
-    Nothing,
-    Resting(u64),
-    Turned(u64),
-    Ended(Why),
-}
 
 // The live orders of a side, and the place in the room behind the last report.
 pub struct Placed {

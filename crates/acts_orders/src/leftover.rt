@@ -1,7 +1,7 @@
 // What becomes of the lots that an order has left.
 use acts_law::Placed;
-use acts_law::Remainder;
 use acts_reports::telling;
+use book_law::Fate;
 use rules::slabs;
 use terms::Band;
 use terms::Kind;
@@ -15,40 +15,40 @@ ghost use Prim.Native.Nat.{_<_};
 ghost use Rattle.terms.specs.Sizes.{slots};
 ghost use Rattle.tables.specs.Tables.{decode, Holds};
 ghost use Rattle.book_law.specs.Matching.{fateOfLeft};
-ghost use Rattle.acts_law.specs.code.Written.{remainderOf, fateFrom, fateBack, RestedAs, Settling, Settled};
+ghost use Rattle.acts_law.specs.code.Written.{fateFrom, RestedAs, Settling, Settled};
 
 // A market order that lives all day turns into a limit at its last price, if that is in the band.
-fn turned(band: Band, last: u64) -> Remainder
-    ensures { λ r. ⌜ r ≡ remainderOf (fateOfLeft Life.AllDay Kind.Market band last) ⌝ }
+fn turned(band: Band, last: u64) -> Fate
+    ensures { λ r. ⌜ r ≡ fateOfLeft Life.AllDay Kind.Market band last ⌝ }
 {
     if slabs::in_band(band, last) {
-        return Remainder::Turned(last);
+        return Fate::Turns(last);
     }
-    Remainder::Ended(Why::OutsideBand)
+    Fate::Ends(Why::OutsideBand)
 }
 
 // By life and kind.
-fn by_life(life: Life, kind: Kind, band: Band, last: u64) -> Remainder
-    ensures { λ r. ⌜ r ≡ remainderOf (fateOfLeft life kind band last) ⌝ }
+fn by_life(life: Life, kind: Kind, band: Band, last: u64) -> Fate
+    ensures { λ r. ⌜ r ≡ fateOfLeft life kind band last ⌝ }
 {
     match life {
-        Life::Ioc => Remainder::Ended(Why::Immediate),
+        Life::Ioc => Fate::Ends(Why::Immediate),
         Life::AllDay => match kind {
-            Kind::Limit(price) => Remainder::Resting(price),
+            Kind::Limit(price) => Fate::Rests(price),
             Kind::Market => turned(band, last),
         },
     }
 }
 
 // The fate of an order with so many lots left, which did or did not stop out of range.
-pub fn fate(life: Life, kind: Kind, band: Band, last: u64, left: u64, out: bool) -> Remainder
-    ensures { λ r. ⌜ r ≡ remainderOf (fateFrom life kind band last left out) ⌝ }
+pub fn fate(life: Life, kind: Kind, band: Band, last: u64, left: u64, out: bool) -> Fate
+    ensures { λ r. ⌜ r ≡ fateFrom life kind band last left out ⌝ }
 {
     if left == 0 {
-        return Remainder::Nothing;
+        return Fate::Done;
     }
     if out {
-        return Remainder::Ended(Why::OutOfRange);
+        return Fate::Ends(Why::OutOfRange);
     }
     by_life(life, kind, band, last)
 }
@@ -80,17 +80,17 @@ pub fn settle(
     side: Side,
     number: u64,
     left: u64,
-    fate: Remainder,
+    fate: Fate,
     time: u64,
     room: &mut [u64],
     at: usize,
 ) -> Placed
     requires { ⌜ Settling n (now mine) (now room) at fate ⌝ }
-    ensures { λ r. ⌜ Settled side time number left (fateBack fate) (decode n (now (mine .entry))) (now (mine .entry)) (now (room .entry)) at (now (mine .exit)) (now (room .exit)) r ⌝ }
+    ensures { λ r. ⌜ Settled side time number left fate (decode n (now (mine .entry))) (now (mine .entry)) (now (room .entry)) at (now (mine .exit)) (now (room .exit)) r ⌝ }
 {
     match fate {
-        Remainder::Nothing => Placed { count: n, at: at },
-        Remainder::Resting(price) => {
+        Fate::Done => Placed { count: n, at: at },
+        Fate::Rests(price) => {
             let o = order_of(number, price, left);
             let count = rest(mine, n, side, o);
             Placed {
@@ -98,7 +98,7 @@ pub fn settle(
                 at: at,
             }
         }
-        Remainder::Turned(price) => {
+        Fate::Turns(price) => {
             let o = order_of(number, price, left);
             let count = rest(mine, n, side, o);
             let next = telling::tell(room, at, time, Said::Convert(o));
@@ -107,7 +107,7 @@ pub fn settle(
                 at: next,
             }
         }
-        Remainder::Ended(why) => {
+        Fate::Ends(why) => {
             let next = telling::tell_cancel(room, at, time, number, left, why);
             Placed { count: n, at: next }
         }

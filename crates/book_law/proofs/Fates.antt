@@ -16,7 +16,9 @@ use Rattle.terms.specs.declared.Side.{Side}
 use Rattle.terms.specs.Reports.{whyOf}
 use Rattle.rules_law.specs.Slabs.{inBand}
 use Rattle.book_law.specs.Priority.{insert}
-use Rattle.book_law.specs.Matching.{Swept, reportAt, Fate, Done, Rests, Turns, Ends, ownLastOr, fateOf, settled, fateReports}
+use Rattle.book_law.specs.declared.Fate.{Fate}
+use Rattle.book_law.specs.declared.Fate.the-variants.{Done, Rests, Turns, Ends}
+use Rattle.book_law.specs.Matching.{Swept, reportAt, ownLastOr, fateOf, settled, fateReports}
 
 -- the paper's number of the reason, 0 where nothing is cancelled
 abbrev pub whyNumber : Fate → ℕ

@@ -22,7 +22,9 @@ use Rattle.terms.specs.declared.Said.{Said}
 use Rattle.terms.proofs.Logic.{by}
 use Rattle.terms.specs.Options.{maybe}
 use Rattle.rules_law.specs.Slabs.{inBand}
-use Rattle.book_law.specs.Matching.{Taker, Swept, sweep, dealOf, tradeReports, Fate, Done, Rests, Turns, Ends, ownLastOr, fateOfLeft, fateOf, settled, fateReports}
+use Rattle.book_law.specs.declared.Fate.{Fate}
+use Rattle.book_law.specs.declared.Fate.the-variants.{Done, Rests, Turns, Ends}
+use Rattle.book_law.specs.Matching.{Taker, Swept, sweep, dealOf, tradeReports, ownLastOr, fateOfLeft, fateOf, settled, fateReports}
 use Rattle.book_law.specs.Over.{tally, mine, sumOf, lotsOf}
 use Rattle.book_law.specs.Priority.{otherSide}
 use Rattle.book_law.specs.View.{named}

@@ -12,7 +12,6 @@ use Rattle.terms.specs.declared.Life.the-variants.{AllDay, Ioc}
 use Rattle.terms.specs.declared.Order.{Order}
 use Rattle.terms.specs.declared.Band.{Band}
 use Rattle.terms.specs.declared.Deal.{Deal}
-use Rattle.terms.specs.declared.Why.{Why}
 use Rattle.terms.specs.declared.Why.the-variants.{Immediate, OutOfRange, OutsideBand}
 use Rattle.terms.specs.declared.Report.{Report}
 use Rattle.terms.specs.declared.Said.{Said}
@@ -21,6 +20,8 @@ use Rattle.rules_law.specs.declared.Range.{Range}
 use Rattle.rules_law.specs.Reference.{inRange}
 use Rattle.rules_law.specs.Mark.{beyondMark}
 use Rattle.rules_law.specs.Slabs.{inBand}
+use Rattle.book_law.specs.declared.Fate.{Fate}
+use Rattle.book_law.specs.declared.Fate.the-variants.{Done, Rests, Turns, Ends}
 use Rattle.book_law.specs.Priority.{insert}
 
 -- ---- matching
@@ -105,13 +106,6 @@ tradeReports time side number [] = []
 tradeReports time side number (f ∷ fs) = reportAt time (Trade (dealOf side number f)) ∷ tradeReports time side number fs
 
 -- ---- the remainder
-
--- nothing is left; it rests at its limit; it becomes a limit at a price and rests; it is cancelled
-pub data Fate : Type 0 where
-  Done : Fate
-  Rests : ℕ → Fate
-  Turns : ℕ → Fate
-  Ends : Why → Fate
 
 -- "at its own last trade price; if it had none", at the other
 unfoldable pub ownLastOr : ℕ → List Order → ℕ

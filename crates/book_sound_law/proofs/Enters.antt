@@ -22,7 +22,8 @@ use Rattle.terms.proofs.Logic.{by}
 use Rattle.rules_law.specs.declared.Range.{Range}
 use Rattle.rules_law.specs.Slabs.{inBand}
 use Rattle.book_law.specs.Priority.{otherSide, insert, removed}
-use Rattle.book_law.specs.Matching.{Taker, taker, Swept, sweep, Fate, ownLastOr, fateOfLeft, fateOf, settled}
+use Rattle.book_law.specs.declared.Fate.{Fate}
+use Rattle.book_law.specs.Matching.{Taker, taker, Swept, sweep, ownLastOr, fateOfLeft, fateOf, settled}
 use Rattle.book_law.specs.Over.{Each, EachPrice}
 use Rattle.book_law.proofs.Conserve.{sweep-conserves}
 use Rattle.book_law.proofs.Fills.{each-swept, WithinFirst, market-within}

@@ -18,8 +18,9 @@ use Rattle.tables.specs.Records.{recordsOf}
 use Rattle.tables.specs.Put.{put}
 use Rattle.tables.specs.Tables.{decode, tableOf, Holds}
 use Rattle.book_law.specs.Priority.{insert, rests, removed, leftOf}
-use Rattle.book_law.specs.Matching.{Fate, Done, Rests, Turns, Ends, fateOfLeft, settled, fateReports}
-use Rattle.acts_law.specs.declared.Remainder.{Remainder}
+use Rattle.book_law.specs.declared.Fate.{Fate}
+use Rattle.book_law.specs.declared.Fate.the-variants.{Done, Rests, Turns, Ends}
+use Rattle.book_law.specs.Matching.{fateOfLeft, settled, fateReports}
 use Rattle.acts_law.specs.declared.Placed.{Placed}
 use Rattle.acts_law.specs.declared.Withdrawn.{Withdrawn}
 use Rattle.state_law.specs.declared.Session.{Session}
@@ -61,29 +62,17 @@ pub record Remembering (s : Session) (band : Band) (room : List ℕ) (at n : ℕ
   pub space : at + recordLength * n ≤ length room
   pub deals : EachDeals n (drop at room)
 
--- ---- the remainder, as code carries it
+-- ---- the remainder, from what code has of a sweep
 
 abbrev pub fateFrom : Life → Kind → Band → ℕ → ℕ → Bool → Fate
 fateFrom life kind band last left out = cond (eqb left 0) Done (cond out (Ends OutOfRange) (fateOfLeft life kind band last))
 
-abbrev pub remainderOf : Fate → Remainder
-remainderOf Done = Remainder.Nothing
-remainderOf (Rests price) = Remainder.Resting price
-remainderOf (Turns price) = Remainder.Turned price
-remainderOf (Ends why) = Remainder.Ended why
-
-abbrev pub fateBack : Remainder → Fate
-fateBack Remainder.Nothing = Done
-fateBack (Remainder.Resting price) = Rests price
-fateBack (Remainder.Turned price) = Turns price
-fateBack (Remainder.Ended why) = Ends why
-
 -- it takes a place on its side
-abbrev pub takesPlace : Remainder → Bool
-takesPlace Remainder.Nothing = false
-takesPlace (Remainder.Resting price) = true
-takesPlace (Remainder.Turned price) = true
-takesPlace (Remainder.Ended why) = false
+abbrev pub takesPlace : Fate → Bool
+takesPlace Done = false
+takesPlace (Rests price) = true
+takesPlace (Turns price) = true
+takesPlace (Ends why) = false
 
 -- an order takes its place on a side
 pub record RestedAs (side : Side) (o : Order) (n : ℕ) (t t′ : List ℕ) (count : ℕ) : Type 0 where
@@ -91,7 +80,7 @@ pub record RestedAs (side : Side) (o : Order) (n : ℕ) (t t′ : List ℕ) (cou
   pub counted : count ≡ length (insert side o (decode n t))
 
 -- a remainder can be settled
-pub record Settling (n : ℕ) (t room : List ℕ) (at : ℕ) (fate : Remainder) : Type 0 where
+pub record Settling (n : ℕ) (t room : List ℕ) (at : ℕ) (fate : Fate) : Type 0 where
   pub holds : Holds n t
   pub space : at + recordLength ≤ length room
   pub place : takesPlace fate ≡ true → n < slots
