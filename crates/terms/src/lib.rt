@@ -7,7 +7,7 @@ pub mod numbers;
 pub mod sizes;
 pub mod ticks;
 
-// What a contract is on (document 01, "Slabs"). The words are those of session lines.
+// What the contract is on (document 01, "Slabs"), in the words of session lines.
 pub enum Category {
     Broad,
     Narrow,
@@ -70,14 +70,14 @@ pub struct Event {
     pub act: Act,
 }
 
-// An order that rests, with the lots it has left. Also a part of one: what it traded, or what became of it.
+// An order that rests, with the lots that it has left; or a part of an order, that traded or was cancelled.
 pub struct Order {
     pub number: u64,
     pub price: u64,
     pub lots: u64,
 }
 
-// The lowest and the highest price that a limit may have.
+// The lowest and the highest price of the band: a limit outside it is refused.
 pub struct Band {
     pub low: u64,
     pub high: u64,
@@ -148,7 +148,7 @@ pub enum Refusal {
     NumberLong,
 }
 
-// What a judge says: nothing against it, or the first refusal that applies.
+// A judgement: nothing applies, or the first refusal that does.
 pub enum Verdict {
     Fine,
     Refused(Refusal),
