@@ -5,7 +5,7 @@ use Rattle.terms.specs.declared.Category.{Category}
 use Rattle.terms.specs.declared.Category.the-variants.{Broad, Narrow, Sensitive, Energy, Metals, Precious, Gems, Other}
 use Rattle.rules_law.specs.Slabs.{slabOf, percentMost}
 
--- one case a category
+-- checked category by category
 pub row-small : (c : Category) → slabOf c .initial + slabOf c .enhanced ≤ percentMost
 row-small Broad = lit≤ tt
 row-small Narrow = lit≤ tt

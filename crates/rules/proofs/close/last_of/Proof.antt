@@ -1,4 +1,4 @@
--- The place of the last trade is 9 where ten are remembered, and the number of trades less one before that.
+-- The last trade stands in place 9 where ten are remembered, and in the place of their number less one where fewer are.
 use borrow.Author.Tests.{eq-eqb}
 use borrow.Author.Needs.{needs}
 use Rattle.rules_law.proofs.Tapes.{last-of-ten, last-of-few}
