@@ -1,4 +1,4 @@
--- The mark is measured from the first trade: what is within it, and what lies beyond it. Only `beyondMark` is used of the two sides.
+-- The mark is measured from the first trade: what is within it, and what lies beyond it. All follows from `beyondMark` of each side.
 use Prim.Native.Nat.{ℕ, _≤_, _*_}
 use native.Mathlib.Omega.{arith}
 use borrow.Author.Tests.{ltb-true, ltb-false, lt-ltb, le-ltb, eqb-true, ne-eqb, not-true}

@@ -131,7 +131,7 @@ last-half-hour length time =
     (λ e. le-leb length (time + minutes 30) (omega (arith, leb-true (length - 1800000) time e)))
     (λ e. le-leb (length - 1800000) time (omega (arith, leb-true length (time + minutes 30) e)))
 
--- the first such moment in a day of two hours, of eight and a half, and of twenty-four
+-- just before the half hour begins and as it begins, in a day of two hours, of eight and a half, and of twenty-four
 pub half-hours :
     inHalfHour (hours 2) (minutes 90 - 1) ∷ inHalfHour (hours 2) (minutes 90)
     ∷ inHalfHour (minutes 510) (hours 8 - 1) ∷ inHalfHour (minutes 510) (hours 8)
