@@ -27,7 +27,7 @@ keyed l o e =
     let w = between-facts (l .low) (o .price) (l .high) (f .banded) in
     record { number-some = f .number-some; number-given = f .number-given; above = w .0; below = w .1 }
 
--- ---- keys stand in the order of priority: c and d are the distances of prices p and q from the best end; u and v are p and q as the side compares them
+-- ---- keys stand in the order of priority: c and d measure prices p and q from the best end of the band, u and v are p and q as the side compares them
 
 module _ (p q u v n m c d : ℕ) (l : n < keyStep) (k : m < keyStep) (f : u < v → c < d) (g : v < u → d < c) (h : p ≡ q → c ≡ d)
     (a : u ≡ v → p ≡ q) where
@@ -62,7 +62,7 @@ never : (g : Bool) → false ≡ (g && false)
 never true = refl
 never false = refl
 
--- the tests of a turn, regrouped: `a` its key is above the last, f its mark is free; then of the orders behind it: b priority, e fine, s sorted, r marks free
+-- the tests of a turn, regrouped: a and f are those of this order, for key and mark; b, e, s and r are those of the orders behind it
 sort : (a f b e s r : Bool) → (a && (f && ((b && (e && s)) && r))) ≡ ((a && (e && (b && s))) && (f && r))
 sort true true true e s r = refl
 sort true true false true s r = refl
