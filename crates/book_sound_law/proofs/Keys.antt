@@ -27,7 +27,7 @@ keyed l o e =
     let w = between-facts (l .low) (o .price) (l .high) (f .banded) in
     record { number-some = f .number-some; number-given = f .number-given; above = w .0; below = w .1 }
 
--- ---- keys stand in the order of priority: c and d measure prices p and q from the best end of the band, u and v are p and q as the side compares them
+-- ---- keys stand in the order of priority: c and d are how far prices p and q lie from the best; u and v are p and q as the side compares them
 
 module _ (p q u v n m c d : ℕ) (l : n < keyStep) (k : m < keyStep) (f : u < v → c < d) (g : v < u → d < c) (h : p ≡ q → c ≡ d)
     (a : u ≡ v → p ≡ q) where

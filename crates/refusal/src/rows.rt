@@ -87,7 +87,7 @@ fn event_right(e: Event) -> bool
     time & right
 }
 
-// Row 6: whether the event comes within the day, or the close after it.
+// Row 6: whether the close comes at the length or after it, and any other event before.
 fn in_hours(act: Act, t: u64, length: u64) -> bool
     ensures { λ r. ⌜ r ≡ inHours act t length ⌝ }
 {

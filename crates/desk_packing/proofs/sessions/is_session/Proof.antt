@@ -1,4 +1,4 @@
--- All three tests.
+-- The code makes the definition's three tests.
 use Rattle.desk_packing_law.proofs.Packs.{session-tested}
 use mathlib.Core.Path.{refl}
 use borrow.Author.Tests.{lt-ltb, le-ltb, le-leb, lt-leb, eq-eqb, ne-eqb}

@@ -1,4 +1,4 @@
--- Section by section.
+-- Each section is what its call returns.
 use Rattle.desk_packing_law.proofs.Packs.{sections}
 use mathlib.Core.Path.{refl}
 use borrow.Author.Tests.{lt-ltb, le-ltb, le-leb, lt-leb, eq-eqb, ne-eqb}

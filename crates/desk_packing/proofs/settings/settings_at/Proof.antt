@@ -1,4 +1,4 @@
--- Number by number; the category by its row.
+-- Each field is the definition's; the category comes from a call.
 use Rattle.desk_packing_law.proofs.Packs.{settings-with}
 use mathlib.Core.Path.{refl}
 use borrow.Author.Tests.{lt-ltb, le-ltb, le-leb, lt-leb, eq-eqb, ne-eqb}
