@@ -1,4 +1,4 @@
-// cases_book: runs books of any shape from standard input, and prints what becomes of them.
+// cases_book: takes books of any shape from standard input, and prints what becomes of them.
 // A line of input has nine numbers: what to do, and up to eight arguments.
 //   0                                     both tables begin anew, with 7 in every place
 //   1 side number price lots              an order takes its place

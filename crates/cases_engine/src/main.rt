@@ -1,4 +1,4 @@
-// cases_engine: drives the engine's calls with sessions, tables, rooms and events of any shape from standard input.
+// cases_engine: calls the engine with sessions, tables, rooms and events of any shape, as standard input says.
 // A line of input has nine numbers with one byte behind each: what to do, and up to eight arguments; 9999999999999999999 stands for
 // the greatest 64-bit number.
 //   0 category base close settle tick length days under

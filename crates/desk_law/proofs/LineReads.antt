@@ -1,4 +1,4 @@
--- Each return of the calls that read a line leaves what the definition says: the reader's answer is the right one, and no count exceeds a line's length.
+-- Each return of the calls that read a line leaves what the definition says: the answer is the right one, and no count exceeds a line's length.
 use Prim.Native.Nat.{ℕ, _≤_, _<_}
 use native.Mathlib.Omega.{arith}
 use mathlib.Core.Path.{_≡_, ap, _∙_}

@@ -1,4 +1,4 @@
--- The number by which an app knows the library that it links. Stored numbers have a layout of their own (`layout` in desk_packing_law/specs/Runs.antt).
+-- The number by which an app knows the library that it links. Stored numbers have their own (`layout` in desk_packing_law/specs/Runs.antt).
 use Prim.Native.Nat.{ℕ}
 
 -- the library's number
