@@ -234,7 +234,7 @@ fn damage(bytes: &mut [u8]) {
     }
 }
 
-// Shows single lines that are wrong or unfinished, with their places.
+// Shows single lines, most of them wrong or unfinished: a wrong one is answered with its place.
 fn show_places() {
     show_event(b"");
     show_settings(b"");
@@ -278,7 +278,7 @@ fn show_reports(room: &[u64]) {
     }
 }
 
-// Shows the two refusals of writers, 16 before 17, and the program's own line.
+// Shows the two refusals of writers, 16 before 17, and the line that the program prints for a refused event.
 fn show_refusals() {
     let long = Event {
         time: sizes::DIGITS + 1,

@@ -8,7 +8,7 @@ const FIELDS: usize = 7;
 
 const VALUES: usize = 18;
 
-// Settings that stay valid while any one field goes to the ends of its range.
+// Valid settings, of which one field at a time is changed.
 fn plain() -> Settings {
     Settings {
         category: Category::Gems,
