@@ -201,7 +201,7 @@ market-within side range lots os h =
     let q : Taker = taker side Market range in
     near-first side range (sweep q 0 lots os .fills) (each-swept (λ o. 1 ≤ o .price) (λ o k l m e. e) q 0 lots os h .fills) (fills-near q 0 lots os h)
 
--- the last fill is within the mark, even where prices may be 0; `last` is an earlier trade's price
+-- the last fill is within the mark, even where prices may be 0; `last` stands for it where there is no fill
 abbrev pub LastNear : Taker → ℕ → ℕ → List Order → Type 0
 LastNear q first last fs = beyond (q .side) (q .kind) (firstOf first fs) (ownLastOr last fs) ≡ false
 

@@ -24,7 +24,7 @@ pub tie-price : (s : Side) (p q : ℕ) → better s p q ≡ false → better s q
 tie-price Buy p q e f = omega (arith, ltb-false q p e, ltb-false p q f)
 tie-price Sell p q e f = omega (arith, ltb-false p q e, ltb-false q p f)
 
--- "not better than" is transitive too
+-- being no better is transitive too
 pub no-better : (s : Side) (p q r : ℕ) → better s q p ≡ false → better s r q ≡ false → better s r p ≡ false
 no-better Buy p q r e f = le-ltb p r (omega (arith, ltb-false p q e, ltb-false q r f))
 no-better Sell p q r e f = le-ltb r p (omega (arith, ltb-false q p e, ltb-false r q f))

@@ -100,7 +100,7 @@ pub extern "C" fn kakoludar_feed(
     lay_taken(run, counts, taken)
 }
 
-// The same with the last bytes of the input: once no whole line is left, it prints whether they end inside a line, and the run is over.
+// The same with the last bytes of the input: once no whole line is left, the end of the input is judged too, and the run is over.
 #[no_mangle]
 pub extern "C" fn kakoludar_end(
     run: &mut [u64],

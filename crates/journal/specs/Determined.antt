@@ -1,4 +1,4 @@
--- DETERMINACY of the walker: two walkers that a contract allows for one input are one.
+-- DETERMINACY of the walker: two walkers that a contract allows for one input are equal.
 use Prim.Native.Nat.{ℕ}
 use mathlib.Core.Path.{_≡_}
 use mathlib.Core.List.{List}

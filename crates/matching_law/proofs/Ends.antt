@@ -1,4 +1,4 @@
--- What a sweep still has to do, from any point of it: where it stops, where it trades a part of an order, and where it trades one whole and goes on.
+-- What a sweep leaves from any point on: if it stops there, if it trades a part of the next order, or if it trades that whole and goes on.
 use Prim.Native.Nat.{ℕ, suc, _+_, _-_, _*_, _≤_}
 use native.Mathlib.Omega.{arith}
 use native.Mathlib.Nat.{add-zero, sub-zero}

@@ -103,7 +103,7 @@ unfolding after
 run-once d [] h = h
 run-once d (e ∷ es) h = run-once (outcome d e .day) es (outcome-once d e h)
 
--- ---- the number of an order over a run
+-- ---- what is asked for under an order's number, over a run
 
 asked-append : (id : ℕ) (d : Day) (es more : List Event) → asked id d (es ++ more) ≡ asked id d es + asked id (after d es) more
 unfolding asked after

@@ -38,7 +38,7 @@ pub data Question : Type 0 where
   BandOf : Category → ℕ → ℕ → Question
   -- whether a price is in range of a reference
   InRange : Category → ℕ → ℕ → Question
-  -- the close price after one-lot trades at these prices
+  -- the close price at this tick, after one-lot trades at these prices
   CloseAfter : ℕ → List ℕ → Question
   -- whether a trade at that time is in the half hour of a day of that length
   InHalfHour : ℕ → ℕ → Question

@@ -93,7 +93,7 @@ pub entries : map growth (0 ∷ 73 ∷ 365 ∷ []) ≡ 1000000000 ∷ 1020201340
 unfolding growth terms term factorial
 entries = refl
 
--- the one entry that the term for k = 7 decides; that for k = 8 decides none
+-- the one entry that would be another without the term for k = 7; that for k = 8 changes none
 pub seventh-term : growth 268 ≡ 1076187451
 unfolding growth terms term factorial
 seventh-term = refl
@@ -140,7 +140,7 @@ pub half-hours :
     ≡ false ∷ true ∷ false ∷ true ∷ false ∷ true ∷ []
 half-hours = refl
 
--- ---- 000, paragraphs 1 and 2: the four cases of the close price and the base price, where lots differ
+-- ---- 000, paragraphs 1 and 2: the four cases of the close price and the base price, on trades of different lots
 
 -- the tape after n more trades of these lots at this price; `late` says whether they are in the half hour
 abbrev more : ℕ → Bool → ℕ → ℕ → Tape → Tape

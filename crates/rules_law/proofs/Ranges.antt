@@ -95,7 +95,7 @@ are-ends r =
       greatest = λ x e. in-ends r x e .1;
     }
 
--- what the code needs: the reach is at most half the reference
+-- what the code needs: the reach is at most the reference, so that the lower end is no less than 0
 pub reach-small : (r : Range) → RangeFits r → reachOf r ≤ r .reference
 reach-small r f = omega (arith, mul-le-mul-right (r .reference) (f .percent-small))
 

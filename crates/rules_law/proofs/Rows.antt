@@ -1,4 +1,4 @@
--- The table of slabs: no percent is large.
+-- In the table of slabs, no category's initial and enhanced percent come to more than `percentMost`.
 use Prim.Native.Nat.{_+_, _≤_}
 use lib.Dec.{lit≤}
 use Rattle.terms.specs.declared.Category.{Category}

@@ -92,7 +92,7 @@ ten-fits tick t lp ls e h =
       small = λ k i. between-facts 1 (getD (t .sizes) k 0) lotsMost (lots k i) .1;
     }
 
--- A SOUND SESSION IS STEADY
+-- A SOUND SESSION IS STEADY: what the code computes from it stays within its bounds
 pub steady : (s : Session) → length (s .tape .prices) ≡ 10 → length (s .tape .sizes) ≡ 10 → sessionSound sizes s ≡ true → Steady s
 unfolding sessionSound tapeSound
 steady s lp ls e =

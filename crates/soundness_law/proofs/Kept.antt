@@ -36,7 +36,7 @@ record Reckoned (trades : ℕ) (r : Reckoning) : Type 0 where
   small : r .reference ≤ referenceMost
   minuted : Minuted trades (r .minute)
 
--- an average of prices is a price
+-- an average of prices is within the bounds of a reference
 average-range : (n sum : ℕ) → (n ≡ 0 → ⊥) → n ≤ sum → sum ≤ priceMost * n → (1 ≤ sum / n) × (sum / n ≤ referenceMost)
 average-range n sum z a b =
     let p : 0 < n = omega arith in

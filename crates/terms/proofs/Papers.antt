@@ -1,5 +1,5 @@
 -- The paper's tables of numbers: report kinds, reasons, refusals, categories and sizes. Each lists every case once, in the paper's order,
--- against the numbers that stand there.
+-- beside the number that the paper gives it.
 use Prim.Native.Nat.{ℕ, _-_, _*_}
 use mathlib.Core.Path.{_≡_, refl}
 use mathlib.Core.List.{List, [], _∷_, map}

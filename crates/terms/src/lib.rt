@@ -1,6 +1,6 @@
-// terms: the paper's words as types. Every crate above speaks in them.
-// It may use nothing. It promises: each enum has the paper's number, by a definition in specs/ and a function proved
-// equal to it; settings are judged by 12 and then 13, for any 64-bit numbers whatever.
+// terms: the paper's words as types, in which every crate above speaks.
+// It may use nothing. It promises: refusals, report kinds, reasons and categories have the paper's numbers, each by a definition in specs/
+// and a function proved equal to it; settings are judged by 12 and then 13, for any 64-bit numbers whatever.
 
 pub mod judge;
 pub mod numbers;
@@ -56,7 +56,7 @@ pub struct Entry {
     pub lots: u64,
 }
 
-// What an event does: buy or sell, cancel an order number, a new underlying, clock, close with today's settlement.
+// What an event does: buy or sell, cancel an order by its number, set the underlying, let time pass, or close with today's settlement.
 pub enum Act {
     Enter(Entry),
     Withdraw(u64),
