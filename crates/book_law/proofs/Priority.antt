@@ -91,7 +91,7 @@ unfolding ahead
 earlier-first s a b e h =
     or-last (better s (a .price) (b .price)) _ (λ z. join _ _ (eq-eqb (a .price) (b .price) e) (lt-ltb (a .number) (b .number) h))
 
--- of two orders not both go before the other
+-- of two orders at most one goes before the other
 pub ahead-once : (s : Side) (a b : Order) → ahead s a b ≡ true → ahead s b a ≡ false
 unfolding ahead
 ahead-once s a b e =

@@ -69,7 +69,7 @@ rangeOf slab reference = record { percent = slab .initial; reference = reference
 unfoldable pub inRange : Range → ℕ → Bool
 inRange r x = leb (200 * (x - r .reference + (r .reference - x))) (r .percent * r .reference)
 
--- how far from the reference a price may lie, in whole paise: the greatest number of which 200 times is at most initial percent×reference
+-- how far from the reference a price may lie, in whole paise: the greatest k for which 200×k is at most initial percent×reference
 abbrev pub reachOf : Range → ℕ
 reachOf r = r .percent * r .reference / 200
 

@@ -1,4 +1,4 @@
--- The last trade stands in place 9 where ten are remembered, and in the place of their number less one where fewer are.
+-- Where ten trades are remembered the last stands in place 9; where fewer are, one place before the next free one.
 use borrow.Author.Tests.{eq-eqb}
 use borrow.Author.Needs.{needs}
 use Rattle.rules_law.proofs.Tapes.{last-of-ten, last-of-few}
