@@ -57,7 +57,7 @@ near-short s first p q e f =
 
 -- ---- the price of the first trade, over a run of fills
 
--- the price of the first trade after these fills; `first` is what it was before them
+-- the price of the first trade, once these fills are made; `first` is what it was before them
 unfoldable pub firstOf : ℕ → List Order → ℕ
 firstOf first [] = first
 firstOf first (f ∷ fs) = firstOf (firstAfter first (f .price)) fs

@@ -49,7 +49,7 @@ abbrev pub beyond : Side → Kind → ℕ → ℕ → Bool
 beyond side (Limit limit) first price = false
 beyond side Market first price = not (eqb first 0) && beyondMark side first price
 
--- the price of the first trade after a trade at this price
+-- the price of the order's first trade, once it has traded at this price
 abbrev pub firstAfter : ℕ → ℕ → ℕ
 firstAfter first price = cond (eqb first 0) price first
 

@@ -1,4 +1,4 @@
--- Comparing keys is comparing priorities, so a pass finds out whether a side is sound and no low bits of a number come twice.
+-- Comparing keys is comparing priorities, so a pass finds out whether a side is sound and the low bits of its numbers are all new.
 use Prim.Native.Nat.{ℕ, _+_, _-_, _*_, _≤_, _<_}
 use native.Mathlib.Omega.{arith}
 use mathlib.Core.Bool.{Bool, true, false, _&&_, _||_, not}

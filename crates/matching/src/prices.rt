@@ -42,7 +42,7 @@ fn is_beyond(side: Side, kind: Kind, first: u64, price: u64) -> bool
     }
 }
 
-// The price of the first trade after a trade at this price.
+// The price of the order's first trade, once it has traded at this price.
 pub fn first_after(first: u64, price: u64) -> u64
     ensures { λ r. ⌜ r ≡ firstAfter first price ⌝ }
 {

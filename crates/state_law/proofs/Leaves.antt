@@ -1,4 +1,4 @@
--- What the clock steps leave as it was, and what trades do.
+-- What the clock steps leave as it was, and what trades leave as it was.
 use Prim.Native.Nat.{ℕ, _+_}
 use borrow.Author.Tests.{eq-eqb, not-true}
 use mathlib.Core.Path.{_≡_, refl}
@@ -43,7 +43,7 @@ percent-changes s t h =
     (λ e. let z : not (eqb p p) ≡ true = rw (widened-same (s .clock .widened) (s .clock .cooling) t e) at h in
     no-both (eqb p p) (eq-eqb p p refl) (not-true _ z))
 
--- ---- trades change the cooling-off, the minute and the tape, and nothing else
+-- ---- trades leave the settings, the time, the slab, the reference and the numbers given
 
 pub record Untouched (s s′ : Session) : Type 0 where
   pub settings : s′ .settings ≡ s .settings
