@@ -142,7 +142,7 @@ fn sides_least(buys: &[u64], nbuys: usize, sells: &[u64], nsells: usize, l: Limi
     sides_large(buys, nbuys, sells, nsells, l)
 }
 
-// Different marks belong to different numbers, but equal marks may too; where a small map finds equal marks, the largest decides.
+// Different marks belong to different numbers, but so may equal ones: where a small map finds two equal marks, the largest map decides.
 pub fn sides(buys: &[u64], nbuys: usize, sells: &[u64], nsells: usize, l: Limits) -> bool
     requires { ⌜ Room nbuys (now buys) × Room nsells (now sells) × LimitsFit l ⌝ }
     ensures { λ r. ⌜ r ≡ sidesSound l (decode nbuys (now (buys .entry))) (decode nsells (now (sells .entry))) ⌝ }
