@@ -1,4 +1,4 @@
--- What becomes of a remainder, case by case, with the paper's number of each reason; and what is told of it.
+-- What becomes of a remainder, case by case, with the paper's number of each reason; and what is reported of it.
 use Prim.Native.Nat.{ℕ, _≤_}
 use native.Mathlib.Omega.{arith}
 use mathlib.Core.Path.{_≡_, refl}
