@@ -12,7 +12,7 @@ ghost use Rattle.tables.specs.Tables.{decode, tableOf, Holds};
 ghost use Rattle.book_law.specs.Priority.{better, ahead, insert, rests, removed, leftOf};
 ghost use Rattle.book_law.specs.code.Places.{firstWhere};
 
-// Price p is better than price q.
+// Whether price p is better than price q on a side.
 pub fn is_better(side: Side, p: u64, q: u64) -> bool
     ensures { λ r. ⌜ r ≡ better side p q ⌝ }
 {
@@ -22,7 +22,7 @@ pub fn is_better(side: Side, p: u64, q: u64) -> bool
     }
 }
 
-// Order a goes before order b.
+// Whether order a goes before order b.
 pub fn is_ahead(side: Side, a: Order, b: Order) -> bool
     ensures { λ r. ⌜ r ≡ ahead side a b ⌝ }
 {
@@ -70,7 +70,7 @@ pub fn is_resting(t: &[u64], n: usize, number: u64) -> bool
     find(t, n, number) < n
 }
 
-// A new order takes its place.
+// Puts a new order into its place.
 pub fn add(t: &mut [u64], n: usize, side: Side, o: Order)
     requires { ⌜ Holds n (now t) × (n < slots) ⌝ }
     ensures { λ _. ⌜ now (t .exit) ≡ tableOf (insert side o (decode n (now (t .entry)))) (now (t .entry)) ⌝ }
@@ -79,7 +79,7 @@ pub fn add(t: &mut [u64], n: usize, side: Side, o: Order)
     orders::put_in(t, n, i, o);
 }
 
-// The order of that number goes, if it rests; the lots that it had left are the answer.
+// Removes the order of that number, if it rests, and returns the lots that it had left.
 pub fn remove(t: &mut [u64], n: usize, number: u64) -> u64
     requires { ⌜ Holds n (now t) ⌝ }
     ensures { λ r. ⌜ (r ≡ leftOf number (decode n (now (t .entry)))) × (now (t .exit) ≡ tableOf (removed number (decode n (now (t .entry)))) (now (t .entry))) ⌝ }

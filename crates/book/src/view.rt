@@ -1,4 +1,4 @@
-// The view of a side: the live part of the named table, where it lies.
+// The view of a side: the live part of the named table, as a part of that slice.
 use tables::lengths;
 use terms::Side;
 use terms::sizes;
@@ -8,7 +8,7 @@ ghost use lib.ListN.{length};
 ghost use Rattle.tables.specs.Lengths.{tableLength};
 ghost use Rattle.book_law.specs.View.{livePart, viewOf};
 
-// The numbers of n orders.
+// The numbers of the first n orders, or none where a table cannot hold so many.
 fn live<'a>(t: &'a [u64], n: usize) -> &'a [u64]
     requires { ⌜ tableLength ≤ length (now t) ⌝ }
     ensures { λ r. ⌜ now r ≡ livePart n (now (t .entry)) ⌝ }
@@ -20,7 +20,7 @@ fn live<'a>(t: &'a [u64], n: usize) -> &'a [u64]
     &t[0..end]
 }
 
-// The live part of the named table, for any tables and counts; the empty part where a table is short or the count too large.
+// The live part of the named table, for any tables and counts; it is empty where a table is short or the count too large.
 pub fn view<'a>(
     side: Side,
     buys: &'a [u64],

@@ -1,5 +1,5 @@
--- A sweep makes and loses no lot: what traded and what is left is what came in, and for each resting order what traded and what rests is
--- what rested.
+-- A sweep makes and loses no lot: the lots that traded and those that are left are those that came in, and for each resting order the lots
+-- that traded and those that rest are those that rested.
 use Prim.Native.Nat.{ℕ, suc, _+_, _-_, _≤_, _<_}
 use native.Mathlib.Omega.{arith}
 use mathlib.Core.Path.{_≡_, ap}
@@ -39,7 +39,7 @@ sweep-conserves q =
       takes = λ first lots o os w m some l c. take-conserves lots o os w l c;
     })
 
--- a count that a part of an order has no more of than the order, grows nowhere
+-- a sum over resting orders does not grow, if a part of an order never counts for more than the whole
 pub tally-rest : (f : Order → ℕ) → ((o : Order) (k : ℕ) → f (part o k) ≤ f o) → (q : Taker) (first lots : ℕ) (os : List Order) →
     tally f (sweep q first lots os .rest) ≤ tally f os
 unfolding tally

@@ -1,4 +1,4 @@
--- What becomes of a remainder, case by case, with the paper's number of each reason; and what is told of it.
+-- What becomes of a remainder, case by case, with the paper's number of each reason; and what is reported of it.
 use Prim.Native.Nat.{ℕ, _≤_}
 use native.Mathlib.Omega.{arith}
 use mathlib.Core.Path.{_≡_, refl}
@@ -32,7 +32,7 @@ module _ (band : Band) (last : ℕ) (w : Swept) where
   unfolding fateOf
   none-left life kind e = rw (eq-eqb (w .left) 0 e)
 
-  -- "out of range: cancel the remainder, why 3", of every order
+  -- "out of range: cancel the remainder, why 3", for every kind of order
   pub why-three : (life : Life) (kind : Kind) → 1 ≤ w .left → w .out ≡ true → whyNumber (fateOf life kind band last w) ≡ 3
   unfolding fateOf
   why-three life kind h e = rw (ne-eqb (w .left) 0 (λ z. omega arith), e)
@@ -48,7 +48,7 @@ module _ (band : Band) (last : ℕ) (w : Swept) where
     unfolding fateOf
     limit-rests limit = rw (ne-eqb (w .left) 0 (λ z. omega arith), e)
 
-    -- "A day market order becomes a limit at its own last trade price; if it had none", at the other
+    -- "A day market order becomes a limit at its own last trade price; if it had none", at the price given as the last
     pub market-turns : inBand band (ownLastOr last (w .fills)) ≡ true → fateOf AllDay Market band last w ≡ Turns (ownLastOr last (w .fills))
     unfolding fateOf
     market-turns inside = rw (ne-eqb (w .left) 0 (λ z. omega arith), e, inside)
@@ -58,7 +58,7 @@ module _ (band : Band) (last : ℕ) (w : Swept) where
     unfolding fateOf
     why-four outside = rw (ne-eqb (w .left) 0 (λ z. omega arith), e, outside)
 
--- ---- "its own last trade price; if it had none", at the other
+-- ---- "its own last trade price; if it had none", at the price given instead
 
 pub own-last : (other : ℕ) (fs : List Order) (f : Order) → ownLastOr other (fs ++ (f ∷ [])) ≡ f .price
 unfolding ownLastOr
@@ -69,7 +69,7 @@ pub none-traded : (other : ℕ) → ownLastOr other [] ≡ other
 unfolding ownLastOr
 none-traded other = refl
 
--- ---- a remainder that rests does so with its number, its price and all its lots; a conversion tells the order that then rests
+-- ---- a remainder that rests keeps its number, its price and all its lots; a conversion tells the order that then rests
 
 module _ (side : Side) (time number left price : ℕ) (os : List Order) where
   abbrev remainder : Order

@@ -1,5 +1,5 @@
--- The fills of a sweep: best first, at resting prices, each within the limit and in range; a market order's within the mark of the
--- first. What fills and rest keep of the orders that they are parts of.
+-- The fills of a sweep: they come best first, at resting prices, within the limit and in range; those of a market order are within the mark
+-- of the first. And what parts of an order keep, fills and rest keep.
 use Prim.Native.Nat.{ℕ, _-_, _≤_, _<_}
 use native.Mathlib.Omega.{arith}
 use borrow.Author.Tests.{eqb-false, leb-true}
@@ -24,7 +24,7 @@ use Rattle.book_law.proofs.Mark.{near-next, near-mark, firstOf, first-s
 
 -- ---- what the fills are: no order trades before those ahead of it have traded whole
 
--- how fills and rest come of the counter orders: none trades; the first is cut and no other trades; the first trades whole, then others
+-- what becomes of the counter orders: none trades; or the first trades in part, and no other; or the first trades whole, and others follow
 pub data Taken : List Order → List Order → List Order → Type 0 where
   none : (os : List Order) → Taken [] os os
   cut : (o : Order) (os : List Order) (lots : ℕ) → 1 ≤ lots → lots < o .lots → Taken (part o lots ∷ []) (part o (o .lots - lots) ∷ os) (o ∷ os)
@@ -39,7 +39,7 @@ sweep-takes q =
       takes = λ first lots o os w m some l k. whole o (w .fills) (w .rest) os k;
     })
 
--- f is a part of the resting order o, at its price
+-- f has the number and the price of the resting order o, and at most its lots
 pub record PartOf (f o : Order) : Type 0 where
   pub number : f .number ≡ o .number
   pub price : f .price ≡ o .price
@@ -62,7 +62,7 @@ taken-parts fills rest os (whole o fs rest′ os′ t) = (part-of o (o .lots) (o
 pub fills-are-parts : (q : Taker) (first lots : ℕ) (os : List Order) → PartsOf (sweep q first lots os .fills) os
 fills-are-parts q first lots os = taken-parts _ _ os (sweep-takes q first lots os)
 
--- what parts keep, the fills and the rest have
+-- every fill, and every order that rests afterwards, has the property
 pub record EachSwept (P : Order → Type 0) (w : Swept) : Type 0 where
   pub fills : Each P (w .fills)
   pub rest : Each P (w .rest)
@@ -80,13 +80,13 @@ each-swept P parts q =
       takes = λ first lots o os w m some l k h. let v = k (h .1) in record { fills = (h .0, v .fills); rest = v .rest };
     })
 
--- ---- best first: fills, and what is left of the counter side
+-- ---- fills stand best first, and so does what is left of the counter side
 
 pub record Sorted (s : Side) (w : Swept) : Type 0 where
   pub fills : sorted s (w .fills) ≡ true
   pub rest : sorted s (w .rest) ≡ true
 
--- how an order stands does not depend on its lots, nor on those of what comes behind it
+-- an order's priority does not depend on its lots, nor on the lots of those behind it
 head-same : (s : Side) (f o : Order) (os : List Order) → PartOf f o → headBehind s o os ≡ true → headBehind s f os ≡ true
 unfolding headBehind ahead
 head-same s f o [] p e = refl
@@ -126,7 +126,7 @@ sweep-sorted s q first lots os h =
 
 -- ---- the prices of the fills
 
--- each fits the limit and is in range
+-- a price at which an order may trade: it fits the limit and is in range
 abbrev pub Dealable : Taker → ℕ → Type 0
 Dealable q p = (fits (q .side) (q .kind) p ≡ true) × (inRange (q .range) p ≡ true)
 
@@ -157,11 +157,11 @@ limit-kept side limit range lots os =
 
 -- ---- a market order's mark
 
--- each fill is within the mark that goes from the first
+-- each fill is within the mark of the first trade
 abbrev pub Near : Taker → ℕ → List Order → Type 0
 Near q first fs = EachPrice (λ p. beyond (q .side) (q .kind) (firstOf first fs) p ≡ false) fs
 
--- where all prices are positive, so that a first trade is told from none
+-- all prices are positive, so that a first trade's price is never taken for 0, which means no trade yet
 abbrev pub Positive : List Order → Type 0
 Positive os = EachPrice (λ p. 1 ≤ p) os
 
@@ -183,7 +183,7 @@ fills-near q =
       );
     })
 
--- the same, said of the fills themselves
+-- the same in terms of the fills alone: each is within the mark of the first
 abbrev pub WithinFirst : Side → List Order → Type 0
 WithinFirst side [] = Unit {0}
 WithinFirst side (f ∷ fs) = EachPrice (λ p. beyondMark side (f .price) p ≡ false) (f ∷ fs)
@@ -201,7 +201,7 @@ market-within side range lots os h =
     let q : Taker = taker side Market range in
     near-first side range (sweep q 0 lots os .fills) (each-swept (λ o. 1 ≤ o .price) (λ o k l m e. e) q 0 lots os h .fills) (fills-near q 0 lots os h)
 
--- the last fill is within the mark, whatever the prices; `last` stands for a last trade before
+-- the last fill is within the mark, even where prices may be 0; `last` stands for it where there is no fill
 abbrev pub LastNear : Taker → ℕ → ℕ → List Order → Type 0
 LastNear q first last fs = beyond (q .side) (q .kind) (firstOf first fs) (ownLastOr last fs) ≡ false
 

@@ -1,4 +1,4 @@
--- Insertion and removal: what each order keeps, what a sum over the orders becomes, how many there are.
+-- Insertion and removal: which properties of the orders they keep, what becomes of sums over the orders, and how many orders there are.
 use Prim.Native.Nat.{ℕ, suc, _+_, _≤_}
 use native.Mathlib.Omega.{arith}
 use borrow.Author.Tests.{eqb-true, eq-eqb, ne-eqb}
@@ -41,7 +41,7 @@ unfolding removed
 each-removed P n [] e = tt
 each-removed P n (x ∷ xs) e = by (Each P) (eqb (x .number) n) _ _ (λ a. e .1) (λ a. (e .0, each-removed P n xs (e .1)))
 
--- ---- sums
+-- ---- sums over the orders
 
 pub tally-append : (f : Order → ℕ) (xs ys : List Order) → tally f (xs ++ ys) ≡ tally f xs + tally f ys
 unfolding tally
@@ -66,19 +66,19 @@ mine-add id n a b = cases (eqb n id) (λ e. rw e refl) (λ e. rw e (omega arith)
 pub mine-zero : (id n : ℕ) → mine id n 0 ≡ 0
 mine-zero id n = cases (eqb n id) (λ e. rw e) (λ e. rw e)
 
--- an order's own count, and not another's
+-- lots are counted for the order that they belong to, and for no other
 pub mine-own : (id n : ℕ) → mine id id n ≡ n
 mine-own id n = rw (eq-eqb id id refl)
 
 pub mine-other : (id number n : ℕ) → (number ≡ id → ⊥) → mine id number n ≡ 0
 mine-other id number n h = rw (ne-eqb number id h)
 
--- no lot is made or lost by an insertion,
+-- an insertion makes and loses no lot,
 pub lots-insert : (id : ℕ) (s : Side) (o : Order) (os : List Order) →
     lotsOf id (insert s o os) ≡ mine id (o .number) (o .lots) + lotsOf id os
 lots-insert id s o os = tally-insert (λ x. mine id (x .number) (x .lots)) s o os
 
--- nor by a removal (also where no order of that number rests: then nothing is removed, and 0 is left of it)
+-- nor does a removal; where no order has that number, nothing is removed and its lots are 0
 pub lots-removed : (id n : ℕ) (os : List Order) → mine id n (leftOf n os) + lotsOf id (removed n os) ≡ lotsOf id os
 unfolding tally removed leftOf
 lots-removed id n [] = omega (arith, mine-zero id n)
@@ -87,7 +87,7 @@ lots-removed id n (o ∷ os) =
     (λ e. rw e (rw (eqb-true (o .number) n e) refl))
     (λ e. rw e (omega (arith, lots-removed id n os)))
 
--- ---- how many
+-- ---- how many orders there are
 
 pub length-insert : (s : Side) (o : Order) (os : List Order) → length (insert s o os) ≡ suc (length os)
 unfolding insert
@@ -116,7 +116,7 @@ removed-none n (o ∷ os) e =
     let p = or-none (eqb (o .number) n) (rests n os) e in
     rw (p .0) (ap (λ l. o ∷ l) (removed-none n os (p .1)))
 
--- "It cancels all": no order is left
+-- "It cancels all": once each order is removed, none is left
 pub removed-each : (os : List Order) → removedEach os os ≡ []
 unfolding removedEach removed
 removed-each [] = refl

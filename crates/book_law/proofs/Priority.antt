@@ -1,4 +1,4 @@
--- Priority is a strict order of the orders of a side; insertion and removal keep a side best first. Each law is for both sides.
+-- Priority is a strict order on the orders of a side; insertion and removal keep a side best first. Each law holds for both sides.
 use Prim.Native.Nat.{ℕ, _<_}
 use native.Mathlib.Omega.{arith}
 use borrow.Author.Tests.{ltb-true, ltb-false, lt-ltb, le-ltb, eq-eqb, ne-eqb, eqb-true}
@@ -19,12 +19,12 @@ pub better-trans : (s : Side) (p q r : ℕ) → better s p q ≡ true → better
 better-trans Buy p q r e f = lt-ltb r p (omega (arith, ltb-true q p e, ltb-true r q f))
 better-trans Sell p q r e f = lt-ltb p r (omega (arith, ltb-true p q e, ltb-true q r f))
 
--- of two prices neither of which is better, one is the other
+-- two prices are equal if neither is better
 pub tie-price : (s : Side) (p q : ℕ) → better s p q ≡ false → better s q p ≡ false → q ≡ p
 tie-price Buy p q e f = omega (arith, ltb-false q p e, ltb-false p q f)
 tie-price Sell p q e f = omega (arith, ltb-false p q e, ltb-false q p f)
 
--- no better is transitive too
+-- being no better is transitive too
 pub no-better : (s : Side) (p q r : ℕ) → better s q p ≡ false → better s r q ≡ false → better s r p ≡ false
 no-better Buy p q r e f = le-ltb p r (omega (arith, ltb-false p q e, ltb-false q r f))
 no-better Sell p q r e f = le-ltb r p (omega (arith, ltb-false q p e, ltb-false r q f))
@@ -43,7 +43,7 @@ or-cases : {R : Type 0} (p q : Bool) → p || q ≡ true → (p ≡ true → R) 
 or-cases true q e f g = f refl
 or-cases false q e f g = g e
 
--- what goes behind has no better price
+-- an order behind another does not have a better price
 pub behind-price : (s : Side) (a b : Order) → ahead s a b ≡ true → better s (b .price) (a .price) ≡ false
 unfolding ahead
 behind-price s a b e =
@@ -69,14 +69,14 @@ ahead-trans s a b c e f =
     or-last near tie (λ n. join (eqb (a .price) (c .price)) (ltb (a .number) (c .number))
     (eq-eqb (a .price) (c .price) (ab ∙ eqb-true (b .price) (c .price) (q .0))) (lt-ltb (a .number) (c .number) l))))
 
--- an order that does not go before one with a lower number goes behind it
+-- if a does not go before b and b has the lower number, b goes before a
 pub ahead-flip : (s : Side) (a b : Order) → b .number < a .number → ahead s a b ≡ false → ahead s b a ≡ true
 unfolding ahead
 ahead-flip s a b h e =
     or-last (better s (b .price) (a .price)) _
     (λ f. join _ _ (eq-eqb _ _ (tie-price s (a .price) (b .price) (or-none _ _ e .0) f)) (lt-ltb _ _ h))
 
--- "Best price first": the dearest buy, the cheapest sell;
+-- "Best price first": of buys the one with the higher price, of sells the one with the lower;
 pub dearest-first : (a b : Order) → b .price < a .price → ahead Buy a b ≡ true
 unfolding ahead
 dearest-first a b h = or-left _ _ (lt-ltb (b .price) (a .price) h)
@@ -91,7 +91,7 @@ unfolding ahead
 earlier-first s a b e h =
     or-last (better s (a .price) (b .price)) _ (λ z. join _ _ (eq-eqb (a .price) (b .price) e) (lt-ltb (a .number) (b .number) h))
 
--- and of two orders only one goes before the other
+-- of two orders at most one goes before the other
 pub ahead-once : (s : Side) (a b : Order) → ahead s a b ≡ true → ahead s b a ≡ false
 unfolding ahead
 ahead-once s a b e =
@@ -103,9 +103,9 @@ ahead-once s a b e =
     let late : ltb (b .number) (a .number) ≡ false = le-ltb (b .number) (a .number) (omega (arith, ltb-true (a .number) (b .number) (p .1))) in
     rw (same-not s (a .price) (b .price) tie, eq-eqb (b .price) (a .price) (sym tie), late))
 
--- ---- a side best first
+-- ---- a side that stands best first
 
--- all numbers are below k
+-- all order numbers are below k
 abbrev pub Older : ℕ → List Order → Type 0
 Older k os = Each (λ o. o .number < k) os
 
@@ -115,7 +115,7 @@ unfolding headBehind insert
 head-insert s x o [] e f = f
 head-insert s x o (y ∷ ys) e f = by (λ (l : List Order). headBehind s x l ≡ true) (ahead s o y) _ _ (λ p. f) (λ p. e)
 
--- a new order's number is above all others
+-- inserting an order whose number is above all others keeps the side best first
 pub sorted-insert : (s : Side) (o : Order) (os : List Order) → Older (o .number) os → sorted s os ≡ true → sorted s (insert s o os) ≡ true
 unfolding sorted insert headBehind
 sorted-insert s o [] h e = make refl refl

@@ -1,5 +1,5 @@
--- What an incoming order's reports say and where its remainder goes: every lot of it, and of each order that it meets, is told as
--- traded or cancelled, or rests. Assumes nothing, not even a sound book.
+-- What the reports of an incoming order say, and where its remainder goes: every lot of it, and of each order that it meets, is reported as
+-- traded or cancelled, or rests. Nothing is assumed, not even a sound book.
 use Prim.Native.Nat.{ℕ, _+_, _≤_}
 use native.Mathlib.Omega.{arith}
 use borrow.Author.Tests.{eqb-true}
@@ -38,9 +38,9 @@ unfolding total
 total-append f [] ys = omega arith
 total-append f (x ∷ xs) ys = omega (arith, total-append f xs ys)
 
--- ---- trades
+-- ---- its trades
 
--- the incoming order trades on its own side, the counter order on the other, at the resting price
+-- the incoming order trades on its own side and the counter order on the other, at the resting price
 pub record DealTold (side : Side) (number : ℕ) (f : Order) (d : Deal) : Type 0 where
   pub mine : named side (d .buy) (d .sell) ≡ number
   pub theirs : named (otherSide side) (d .buy) (d .sell) ≡ f .number
@@ -51,7 +51,7 @@ pub deal-told : (side : Side) (number : ℕ) (f : Order) → DealTold side numbe
 deal-told Buy number f = record { mine = refl; theirs = refl; lots = refl; price = refl }
 deal-told Sell number f = record { mine = refl; theirs = refl; lots = refl; price = refl }
 
--- the incoming order traded the lots of all fills, each counter order those of its own
+-- the reports say that the incoming order traded the lots of all fills, and each counter order those of its own fills
 pub trades-traded : (id time : ℕ) (side : Side) (number : ℕ) (fs : List Order) →
     traded id (tradeReports time side number fs) ≡ mine id number (sumOf fs) + lotsOf id fs
 unfolding total tradeReports tally
@@ -64,7 +64,7 @@ unfolding total tradeReports
 trades-cancelled id time side number [] = refl
 trades-cancelled id time side number (f ∷ fs) = omega (arith, trades-cancelled id time side number fs)
 
--- the reports stand in the order of the fills, best first
+-- the deals are reported in the order of the fills, best first
 abbrev dealIn : Said → List Deal
 dealIn x = maybe [] (λ deal. deal ∷ []) (tells x .deal)
 
@@ -83,9 +83,9 @@ unfolding tradeReports
 length-trades time side number [] = refl
 length-trades time side number (f ∷ fs) = omega (arith, length-trades time side number fs)
 
--- ---- the remainder
+-- ---- its remainder
 
--- what is left is told as cancelled, or rests, and nothing else is said of it
+-- the lots left are reported as cancelled, or rest; no trade is reported, and there is at most one report
 pub record FateKept (side : Side) (number left time : ℕ) (os : List Order) (fate : Fate) : Type 0 where
   pub kept : (id : ℕ) →
       cancelled id (fateReports time number left fate) + lotsOf id (settled side number left fate os) ≡ mine id number left + lotsOf id os
@@ -126,13 +126,13 @@ fate-placed side number time os life kind b last w =
     (λ e. by P (w .out) _ _ (λ e. ends-placed side number (w .left) time os _)
     (λ e. left-placed side number (w .left) time os life kind b (ownLastOr last (w .fills))))
 
--- ---- both together: of each order, what is told of it and what rests afterwards is what rested before, and what came in
+-- ---- trades and remainder together: for each order, what is reported and what rests afterwards is what rested before or came in
 
 -- "trades, then convert or cancel"
 abbrev pub entryReports : ℕ → Side → ℕ → Swept → Fate → List Report
 entryReports time side number w fate = tradeReports time side number (w .fills) ++ fateReports time number (w .left) fate
 
--- own and across are the sides before the order came in, w and fate what came of it
+-- `own` and `across` are the two sides before the order came in; w and fate are what its sweep and its remainder came to
 abbrev pub Balanced : ℕ → ℕ → Side → ℕ → ℕ → List Order → List Order → Swept → Fate → Type 0
 Balanced id time side number lots own across w fate =
     traded id (entryReports time side number w fate)

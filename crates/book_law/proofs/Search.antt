@@ -1,4 +1,4 @@
--- The first order that passes a test: how a loop over a table finds it, and what insertion and removal are from there.
+-- A loop over a table finds the first order that passes a test; insertion and removal are done at the place that it finds.
 use Prim.Native.Nat.{ℕ, suc, _+_, _≤_, _<_}
 use native.Mathlib.Omega.{arith}
 use native.Mathlib.Numerals.{add-one}
@@ -17,11 +17,11 @@ use Rattle.tables.proofs.Slots.{decode-read, decode-end, length-decode}
 use Rattle.book_law.specs.Priority.{ahead, insert, rests, removed, leftOf}
 use Rattle.book_law.specs.code.Places.{firstWhere}
 
--- what a call answered, and what the branch shows of it
+-- if a call answered b, and the branch shows that b is d, then what the call computes is d
 pub told : (b c d : Bool) → b ≡ c → b ≡ d → c ≡ d
 told b c d e f = sym e ∙ f
 
--- ---- a turn of a search, and its two ends
+-- ---- a turn of the search, and its two ends: an order found, and none
 
 first-end : (p : Order → Bool) (os : List Order) → os ≡ [] → firstWhere p os ≡ 0
 unfolding firstWhere

@@ -1,4 +1,4 @@
--- Where a sweep ends: with lots left, the next counter order does not fit, or is out of range, or is in range and beyond the mark.
+-- Where a sweep ends with lots left, the next counter order does not fit, or is out of range, or is in range and beyond the mark.
 use Prim.Native.Nat.{ℕ, _≤_, _<_}
 use native.Mathlib.Omega.{arith}
 use borrow.Author.Tests.{not-true, leb-false}
@@ -20,7 +20,7 @@ use Rattle.book_law.proofs.Sweep.{barred, Forbidden, SomePrice, Stop, s
 use Rattle.book_law.proofs.Mark.{firstOf, first-stays}
 use Rattle.book_law.proofs.Fills.{Positive, each-swept}
 
--- a sweep has ended as it may
+-- the sweep stopped for one of the reasons in `Stop`
 abbrev pub Ended : Taker → ℕ → Swept → Type 0
 Ended q first w = Stop q (firstOf first (w .fills)) (w .left) (w .rest) (w .out)
 
@@ -38,7 +38,7 @@ sweep-stops q =
       takes = λ first lots o os w m some l k. k;
     })
 
--- with lots left, and not for want of range, the next counter price has the property
+-- if lots are left and the range did not stop the sweep, the next counter price has the property
 abbrev pub Next : (ℕ → Type 0) → Swept → Type 0
 Next P w = w .out ≡ false → 1 ≤ w .left → FirstPrice P (w .rest)
 
@@ -46,16 +46,16 @@ or-never : (a : Bool) → a || false ≡ true → a ≡ true
 or-never true h = refl
 or-never false h = h
 
--- and one that would trade but for the range stops it for want of range, whatever the mark
+-- a next counter price that fits but is out of range ends the sweep as out of range, whatever the mark
 pub range-before-mark : (q : Taker) (lots : ℕ) (os : List Order) → 1 ≤ sweep q 0 lots os .left →
     FirstPrice (λ p. Forbidden q p → sweep q 0 lots os .out ≡ true) (sweep q 0 lots os .rest)
 range-before-mark q lots os l = sweep-stops q 0 lots os .range-first l
 
--- nothing else does
+-- nothing else ends it so
 pub out-of-range : (q : Taker) (lots : ℕ) (os : List Order) → sweep q 0 lots os .out ≡ true → SomePrice (Forbidden q) (sweep q 0 lots os .rest)
 out-of-range q lots os e = sweep-stops q 0 lots os .outside e .1
 
--- a limit order: it does not fit
+-- a limit order stops at a price that does not fit,
 pub limit-stops : (side : Side) (limit : ℕ) (range : Range) (first lots : ℕ) (os : List Order) →
     Next (λ p. fitsLimit side limit p ≡ false) (sweep (taker side (Limit limit) range) first lots os)
 limit-stops side limit range first lots os e l =
@@ -64,7 +64,7 @@ limit-stops side limit range first lots os e l =
     first-map (λ p. barred q (firstOf first (w .fills)) p ≡ true) (λ p. fitsLimit side limit p ≡ false)
     (λ p h. not-true _ (or-never (not (fitsLimit side limit p)) h)) (w .rest) (sweep-stops q first lots os .inside e l)
 
--- that is, it is dearer than a buy pays, cheaper than a sell takes
+-- that is, one higher than a buy pays or lower than a sell takes
 abbrev pub PastLimit : Side → ℕ → ℕ → Type 0
 PastLimit Buy limit p = limit < p
 PastLimit Sell limit p = p < limit
@@ -80,7 +80,7 @@ limit-passed side limit range first lots os e l =
     first-map (λ p. fitsLimit side limit p ≡ false) (PastLimit side limit) (unfit-past side limit) (w .rest)
     (limit-stops side limit range first lots os e l)
 
--- a market order: it is beyond the mark from the first trade,
+-- a market order stops at a price beyond the mark of its first trade,
 abbrev pub Beyond : Side → ℕ → Swept → ℕ → Type 0
 Beyond side first w p = beyond side Market (firstOf first (w .fills)) p ≡ true
 
@@ -88,7 +88,7 @@ pub market-stops : (side : Side) (range : Range) (first lots : ℕ) (os : List O
     Next (Beyond side first (sweep (taker side Market range) first lots os)) (sweep (taker side Market range) first lots os)
 market-stops side range first lots os e l = sweep-stops (taker side Market range) first lots os .inside e l
 
--- which it has made: the price of its first fill
+-- and that trade is its first fill
 abbrev pub BeyondFirst : Side → List Order → ℕ → Type 0
 BeyondFirst side [] p = ⊥
 BeyondFirst side (f ∷ fs) p = beyondMark side (f .price) p ≡ true

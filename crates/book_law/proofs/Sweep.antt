@@ -1,5 +1,5 @@
--- One induction for every law of the sweep: it stops, or takes a part of the first order and ends, or takes the first order whole and
--- goes on. Only here are the tests of the sweep gone through.
+-- One induction serves every law of the sweep: it stops, or takes a part of the first order and ends, or takes the first order whole and
+-- goes on. Only here does a proof go through the tests of `sweep`.
 use Prim.Native.Nat.{ℕ, _-_, _≤_, _<_}
 use native.Mathlib.Omega.{arith}
 use borrow.Author.Tests.{ltb-true, ltb-false, eqb-true, eqb-false, not-true, not-false}
@@ -13,33 +13,33 @@ use Rattle.rules_law.specs.Reference.{inRange}
 use Rattle.book_law.specs.Matching.{Taker, Swept, stopped, cutShort, takenWhole, fits, beyond, firstAfter, sweep}
 use Rattle.book_law.specs.Over.{FirstPrice}
 
--- a counter price at which the incoming order does not trade, and whose range does not matter: it does not fit, or is beyond the mark
+-- a counter price at which the incoming order does not trade, in range or not: it does not fit, or is beyond the mark
 abbrev pub barred : Taker → ℕ → ℕ → Bool
 barred q first price = not (fits (q .side) (q .kind) price) || beyond (q .side) (q .kind) first price
 
--- a counter price at which it would trade, if the range did not forbid it
+-- a counter price that fits, but is out of range
 abbrev pub Forbidden : Taker → ℕ → Type 0
 Forbidden q p = (fits (q .side) (q .kind) p ≡ true) × (inRange (q .range) p ≡ false)
 
--- there is a first price, and it has the property
+-- there is a first order, and its price has the property
 abbrev pub SomePrice : (ℕ → Type 0) → List Order → Type 0
 SomePrice P [] = ⊥
 SomePrice P (o ∷ os) = P (o .price)
 
--- why a sweep ends with these lots left before these counter orders: no lots, no order, a price that is barred, or one that fits and is out
--- of range, which is looked at before the mark
+-- why a sweep ends with these lots left and these counter orders ahead: no lots, no order, a barred price, or one that fits and is out of
+-- range; the range is looked at before the mark
 pub record Stop (q : Taker) (first lots : ℕ) (os : List Order) (out : Bool) : Type 0 where
   pub inside : out ≡ false → 1 ≤ lots → FirstPrice (λ p. barred q first p ≡ true) os
   pub outside : out ≡ true → (1 ≤ lots) × SomePrice (Forbidden q) os
   pub range-first : 1 ≤ lots → FirstPrice (λ p. Forbidden q p → out ≡ true) os
 
--- what holds of a price at which it trades
+-- what is known of a price at which the order trades
 pub record Meets (q : Taker) (first price : ℕ) : Type 0 where
   pub fitting : fits (q .side) (q .kind) price ≡ true
   pub ranged : inRange (q .range) price ≡ true
   pub near : beyond (q .side) (q .kind) first price ≡ false
 
--- what a law of the sweep is proved from: P first lots os w speaks of a sweep of lots over os that gives w
+-- what has to be shown to prove P of every sweep; P first lots os w speaks of a sweep of `lots` over os that comes to w
 pub record Laws (q : Taker) (P : ℕ → ℕ → List Order → Swept → Type 0) : Type 0 where
   pub stops : (first lots : ℕ) (os : List Order) (out : Bool) → Stop q first lots os out → P first lots os (stopped out lots os)
   pub cuts : (first lots : ℕ) (o : Order) (os : List Order) → Meets q first (o .price) → 1 ≤ lots → lots < o .lots →

@@ -1,4 +1,4 @@
--- A report carries the event's time and what it says; and what each kind of report tells, one kind after the other.
+-- A report carries the event's time and what is said; and what each kind of report tells, kind by kind.
 use Prim.Native.Nat.{ℕ}
 use mathlib.Core.Path.{_≡_, refl}
 use mathlib.Core.List.{List, [], _∷_, _++_, map}
@@ -16,7 +16,7 @@ use Rattle.book_law.specs.Tells.{tells}
 pub report-is : (time : ℕ) (said : Said) → (reportAt time said .time ≡ time) × (reportAt time said .said ≡ said)
 report-is time said = (refl, refl)
 
--- what a report tells, each part by the number of the kind that it belongs to
+-- the parts that a report tells, each as the number of the kind that it belongs to
 abbrev partsTold : Said → List ℕ
 partsTold x =
     maybe [] (λ number. 1 ∷ []) (tells x .accepted)
@@ -25,7 +25,7 @@ partsTold x =
     ++ (maybe [] (λ band. 5 ∷ []) (tells x .band)
     ++ maybe [] (λ price. 6 ∷ []) (tells x .reference))))
 
--- a conversion and the closing prices tell nothing of lots, bands and references
+-- a conversion and the closing prices tell nothing of accepted orders, trades, cancels, bands and references
 pub parts : (number : ℕ) (deal : Deal) (order : Order) (ended : Ended) (band : Band) (price : ℕ) (closing : Closing) →
     map partsTold (Accept number ∷ Trade deal ∷ Convert order ∷ Cancel ended ∷ Slab band ∷ Ref price ∷ Close closing ∷ [])
     ≡ (1 ∷ []) ∷ (2 ∷ []) ∷ [] ∷ (4 ∷ []) ∷ (5 ∷ []) ∷ (6 ∷ []) ∷ [] ∷ []

@@ -1,4 +1,4 @@
--- Where the counts are sound and no table is short, the view of a side is the numbers of its orders; where a table is short it is empty.
+-- The view of a side is the numbers of its live orders where both tables are long enough and the count fits; where a table is short it is empty.
 use Prim.Native.Nat.{ℕ, _≤_, _<_}
 use native.Mathlib.Omega.{arith}
 use borrow.Author.Tests.{le-ltb, lt-ltb}

@@ -1,4 +1,4 @@
--- Document 01, "Events": matching, its trade reports, and the remainder.
+-- Document 01, "Events": matching, the reports of trades, and the remainder.
 use Prim.Native.Nat.{ℕ, _-_}
 use mathlib.Core.Bool.{Bool, true, false, cond, _&&_, not}
 use mathlib.Core.List.{List, [], _∷_}
@@ -26,7 +26,7 @@ use Rattle.book_law.specs.Priority.{insert}
 
 -- ---- matching
 
--- the order that comes in, and the range that its trades must be in
+-- the order that comes in, with the range in which it may trade
 pub record Taker : Type 0 where
   pub side : Side
   pub kind : Kind
@@ -35,7 +35,7 @@ pub record Taker : Type 0 where
 abbrev pub taker : Side → Kind → Range → Taker
 taker side kind range = record { side = side; kind = kind; range = range }
 
--- "the best counter order fits the limit": a counter price is at most what a buy gives, at least what a sell asks
+-- "the best counter order fits the limit": a buy's limit is at least the counter price, a sell's at most
 abbrev pub fitsLimit : Side → ℕ → ℕ → Bool
 fitsLimit Buy limit price = leb price limit
 fitsLimit Sell limit price = leb limit price
@@ -45,12 +45,12 @@ abbrev pub fits : Side → Kind → ℕ → Bool
 fits side (Limit limit) price = fitsLimit side limit price
 fits side Market price = true
 
--- "market, already traded, and beyond its mark": first is the price of its first trade, 0 before it
+-- "market, already traded, and beyond its mark": `first` is the price of its first trade, 0 before it
 abbrev pub beyond : Side → Kind → ℕ → ℕ → Bool
 beyond side (Limit limit) first price = false
 beyond side Market first price = not (eqb first 0) && beyondMark side first price
 
--- the price of the first trade, once there is one at this price
+-- the price of the order's first trade, once it has traded at this price
 abbrev pub firstAfter : ℕ → ℕ → ℕ
 firstAfter first price = cond (eqb first 0) price first
 
@@ -58,19 +58,19 @@ firstAfter first price = cond (eqb first 0) price first
 abbrev pub part : Order → ℕ → Order
 part o lots = record { number = o .number; price = o .price; lots = lots }
 
--- what a sweep comes to: the parts of counter orders that traded, best first, the counter orders afterwards, the lots left of the
--- incoming order, and whether it stopped for want of range
+-- what a sweep comes to: the parts of counter orders that traded, best first; the counter orders afterwards; the lots left of the
+-- incoming order; and whether the sweep ended because the next price was out of range
 pub record Swept : Type 0 where
   pub fills : List Order
   pub rest : List Order
   pub left : ℕ
   pub out : Bool
 
--- it ends without a trade
+-- the sweep ends here without a further trade
 abbrev pub stopped : Bool → ℕ → List Order → Swept
 stopped out lots os = record { fills = []; rest = os; left = lots; out = out }
 
--- the first counter order has more lots than are left: it trades these and keeps the others
+-- the first counter order has more lots than the incoming order has left: it trades these and keeps the others
 abbrev pub cutShort : ℕ → Order → List Order → Swept
 cutShort lots o os = record { fills = part o lots ∷ []; rest = part o (o .lots - lots) ∷ os; left = 0; out = false }
 
@@ -79,7 +79,7 @@ abbrev pub takenWhole : Order → Swept → Swept
 takenWhole o w = record { fills = o ∷ w .fills; rest = w .rest; left = w .left; out = w .out }
 
 -- "While lots remain and the best counter order fits the limit: out of range: cancel the remainder, why 3; market, already traded,
--- and beyond its mark: stop ...; else trade", at the resting price. The range is the first test, for every order.
+-- and beyond its mark: stop ...; else trade", at the resting price. Every order is tested for the range before the mark.
 unfoldable pub sweep : Taker → ℕ → ℕ → List Order → Swept
 sweep q first lots [] = stopped false lots []
 sweep q first lots (o ∷ os) =
@@ -90,24 +90,24 @@ sweep q first lots (o ∷ os) =
     (cond (ltb lots (o .lots)) (cutShort lots o os)
     (takenWhole o (sweep q (firstAfter first (o .price)) (lots - o .lots) os))))))
 
--- ---- the reports of its trades
+-- ---- the reports of the trades
 
 abbrev pub reportAt : ℕ → Said → Report
 reportAt time said = record { time = time; said = said }
 
--- the trade of the incoming order `number` of that side with a counter order, of which f is the part that traded
+-- the trade of the incoming order `number` on that side with a counter order, of which f is the part that traded
 abbrev pub dealOf : Side → ℕ → Order → Deal
 dealOf Buy number f = record { buy = number; sell = f .number; lots = f .lots; price = f .price }
 dealOf Sell number f = record { buy = f .number; sell = number; lots = f .lots; price = f .price }
 
--- a report for each fill, all with the event's time
+-- a trade report for each fill, all with the event's time
 unfoldable pub tradeReports : ℕ → Side → ℕ → List Order → List Report
 tradeReports time side number [] = []
 tradeReports time side number (f ∷ fs) = reportAt time (Trade (dealOf side number f)) ∷ tradeReports time side number fs
 
 -- ---- the remainder
 
--- "at its own last trade price; if it had none", at the other
+-- "at its own last trade price; if it had none", at the price given instead
 unfoldable pub ownLastOr : ℕ → List Order → ℕ
 ownLastOr other [] = other
 ownLastOr other (f ∷ fs) = ownLastOr (f .price) fs
@@ -119,7 +119,7 @@ fateOfLeft Ioc kind band price = Ends Immediate
 fateOfLeft AllDay (Limit limit) band price = Rests limit
 fateOfLeft AllDay Market band price = cond (inBand band price) (Turns price) (Ends OutsideBand)
 
--- "out of range: cancel the remainder, why 3". The last price is the session's last trade price, "else ... previous settlement".
+-- "out of range: cancel the remainder, why 3". `last` is the session's last trade price, "else ... previous settlement".
 unfoldable pub fateOf : Life → Kind → Band → ℕ → Swept → Fate
 fateOf life kind band last w =
     cond (eqb (w .left) 0) Done

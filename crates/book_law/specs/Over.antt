@@ -1,4 +1,4 @@
--- What is said of a list of orders, be they fills or resting orders: a property of each, a sum over all.
+-- Properties of lists of orders and sums over them, whether the orders are fills or resting orders.
 use Prim.Native.Nat.{ℕ, _+_}
 use mathlib.Core.Bool.{cond}
 use mathlib.Core.List.{List, [], _∷_}
@@ -14,17 +14,17 @@ Each P (o ∷ os) = P o × Each P os
 abbrev pub EachPrice : (ℕ → Type 0) → List Order → Type 0
 EachPrice P os = Each (λ o. P (o .price)) os
 
--- the first price has the property, if there is one
+-- the price of the first order has the property, if there is one
 abbrev pub FirstPrice : (ℕ → Type 0) → List Order → Type 0
 FirstPrice P [] = Unit {0}
 FirstPrice P (o ∷ os) = P (o .price)
 
--- the sum of what each order counts
+-- the sum over all orders of a number that f gives for each
 unfoldable pub tally : (Order → ℕ) → List Order → ℕ
 tally f [] = 0
 tally f (o ∷ os) = f o + tally f os
 
--- n, if it is of the order with number id
+-- n if the order `number` is the order id, else 0
 abbrev pub mine : ℕ → ℕ → ℕ → ℕ
 mine id number n = cond (eqb number id) n 0
 

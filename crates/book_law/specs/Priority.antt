@@ -1,4 +1,4 @@
--- Document 01, "Events": "Best price first, then lower number first". The orders of one side, best first, as a list.
+-- Document 01, "Events": "Best price first, then lower number first". A side's orders are a list, best first.
 use Prim.Native.Nat.{ℕ}
 use mathlib.Core.Bool.{Bool, true, false, cond, _&&_, _||_}
 use mathlib.Core.List.{List, [], _∷_}
@@ -30,7 +30,7 @@ unfoldable pub sorted : Side → List Order → Bool
 sorted s [] = true
 sorted s (o ∷ os) = headBehind s o os ⊓ sorted s os
 
--- the side with a new order in its place: before the first order that it goes ahead of
+-- a side with a new order in its place, ahead of the first order that it goes before
 unfoldable pub insert : Side → Order → List Order → List Order
 insert s o [] = o ∷ []
 insert s o (x ∷ xs) = cond (ahead s o x) (o ∷ x ∷ xs) (x ∷ insert s o xs)

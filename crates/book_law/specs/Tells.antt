@@ -1,4 +1,4 @@
--- What a report tells, listed once: what is made of reports is a function of these.
+-- What a report tells, listed once: whatever is computed from reports is computed from these parts.
 use Prim.Native.Nat.{ℕ}
 use mathlib.Core.Option.{Option, some, none}
 use Rattle.terms.specs.declared.Band.{Band}
@@ -12,9 +12,9 @@ pub record Telling : Type 0 where
   pub accepted : Option ℕ
   pub deal : Option Deal
   pub ended : Option Ended
-  -- the band from here on
+  -- the band that is in force from here on
   pub band : Option Band
-  -- the reference from here on
+  -- the reference that is in force from here on
   pub reference : Option ℕ
 
 abbrev pub tells : Said → Telling

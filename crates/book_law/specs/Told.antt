@@ -1,4 +1,4 @@
--- What reports say of the order with number id: the lots that it traded, and those that were cancelled.
+-- What reports say of the order with number id: how many lots it traded, and how many were cancelled.
 use Prim.Native.Nat.{ℕ, _+_}
 use mathlib.Core.List.{List, [], _∷_}
 use Rattle.terms.specs.declared.Report.{Report}
@@ -7,7 +7,7 @@ use Rattle.terms.specs.Options.{maybe}
 use Rattle.book_law.specs.Over.{mine}
 use Rattle.book_law.specs.Tells.{tells}
 
--- the sum over reports of what each says
+-- the sum over some reports of a number that f gives for each
 unfoldable pub total : (Said → ℕ) → List Report → ℕ
 total f [] = 0
 total f (r ∷ rs) = f (r .said) + total f rs

@@ -1,5 +1,5 @@
 -- Document 01, "Book and report room": "The view of a side gives back the live part of the buy table or of the sell table, whichever
--- side was named; for a session that is not sound, or a short table, its result is the empty part." A short table is either of them.
+-- side was named; for a session that is not sound, or a short table, its result is the empty part." It is empty if either table is short.
 use Prim.Native.Nat.{ℕ, _*_}
 use mathlib.Core.Bool.{cond}
 use mathlib.Core.List.{List, []}
@@ -10,7 +10,7 @@ use Rattle.terms.specs.declared.Side.the-variants.{Buy, Sell}
 use Rattle.terms.specs.Sizes.{slots}
 use Rattle.tables.specs.Lengths.{width, tableLength}
 
--- the numbers of n orders, if a table can hold so many
+-- the numbers of n orders, or nothing where a table cannot hold so many
 abbrev pub livePart : ℕ → List ℕ → List ℕ
 livePart n t = cond (ltb slots n) [] (take (width * n) t)
 

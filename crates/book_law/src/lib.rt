@@ -1,6 +1,6 @@
-// book_law: the law of the book: priority, the place of an order, matching, and what becomes of a remainder.
-// It has no code and may use terms, rules_law and tables. It promises: no lot is made or lost, every fill is at a resting price in range,
-// a market order's fills are within the mark of its first, and a sweep stops only where it may.
+// book_law: the definitions and laws of the book: priority, the place of an order, matching, and what becomes of a remainder.
+// It has no code and may use terms, tables and rules_law. It promises: no lot is made or lost, every fill is at a resting price in range,
+// a market order's fills are within the mark of its first, and a sweep stops only where document 01 says.
 
 use terms::Why;
 

@@ -1,6 +1,6 @@
-// book_sound: whether the book that a caller hands in is sound, judged on every call.
+// book_sound: whether the book that a caller hands in is sound. It is judged on every call.
 // It may use terms, tables and book_sound_law. It promises: the answer IS document 01's condition on the orders that the tables hold, whatever
-// their numbers are and whatever lies behind them, by one pass over each table.
+// their numbers are and whatever lies behind them, found by one pass over each table.
 
 pub mod marks;
 pub mod pass;
@@ -29,7 +29,7 @@ fn held_to(given: u64, tick: u64, factor: u64, band: Band) -> Limits
     }
 }
 
-// Best buy below best sell, where there are both.
+// Whether the best buy is below the best sell, where there are both.
 fn best_apart(buys: &[u64], nbuys: usize, sells: &[u64], nsells: usize) -> bool
     requires { ⌜ Room nbuys (now buys) × Room nsells (now sells) ⌝ }
     ensures { λ r. ⌜ r ≡ uncrossed (decode nbuys (now (buys .entry))) (decode nsells (now (sells .entry))) ⌝ }
@@ -45,7 +45,7 @@ fn best_apart(buys: &[u64], nbuys: usize, sells: &[u64], nsells: usize) -> bool
     b.price < s.price
 }
 
-// The book is sound: its tables are long enough and their counts are no more than they have slots for.
+// Whether the book is sound. The tables must be long enough, and the counts no more than they have slots.
 pub fn book_sound(
     buys: &[u64],
     nbuys: usize,

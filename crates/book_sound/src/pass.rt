@@ -1,4 +1,4 @@
-// One pass over each table: every order sound, each ahead of the next, no number twice.
+// One pass over each table: every order is sound, each goes ahead of the next, and no number comes twice.
 use crate::marks;
 use book_sound_law::Limits;
 use tables::orders;
@@ -14,10 +14,10 @@ ghost use Rattle.tables.specs.Tables.{decode};
 ghost use Rattle.book_sound_law.specs.code.Marks.{wordsTo, marked};
 ghost use Rattle.book_sound_law.specs.code.Pass.{Room, LimitsFit, Keyed, fine, keyOf, lowBits, passOf, sidesBy, leastMask, sidesSound};
 
-// Order numbers are below it.
+// Every order number is below it.
 const KEY_STEP: u64 = 65_536;
 
-// Bounds first and in one test, so that the tick is tried of a small price only.
+// Whether an order is sound. The bounds come first, in one test, so that the tick is tested only for a small price.
 fn order_fine(l: Limits, o: Order) -> bool
     requires { ⌜ LimitsFit l ⌝ }
     ensures { λ r. ⌜ r ≡ fine l o ⌝ }
@@ -31,7 +31,7 @@ fn order_fine(l: Limits, o: Order) -> bool
     ticks::on_tick(o.price, l.tick, l.factor)
 }
 
-// The priority of an order as one number: the less, the sooner.
+// The priority of an order as one number: the lower it is, the better.
 fn key(side: Side, l: Limits, o: Order) -> u64
     requires { ⌜ LimitsFit l × Keyed l o ⌝ }
     ensures { λ r. ⌜ r ≡ keyOf side l o ⌝ }
@@ -42,7 +42,7 @@ fn key(side: Side, l: Limits, o: Order) -> u64
     }
 }
 
-// The orders of a side: each is fine, its key is above the one before, and its number's mark was not in the map yet; then it is put there.
+// The pass over a side: each order is fine, its key is above the last one, and its number's mark, which is then set, was free.
 fn side_by(t: &[u64], n: usize, side: Side, l: Limits, mask: u64, map: &mut [u64]) -> bool
     requires { ⌜ Room n (now t) × LimitsFit l × (wordsTo mask ≤ length (now map)) ⌝ }
     ensures { λ r. ⌜ (r ≡ passOf side l mask 0 (now (map .entry)) (decode n (now (t .entry))))
@@ -69,7 +69,7 @@ fn side_by(t: &[u64], n: usize, side: Side, l: Limits, mask: u64, map: &mut [u64
     true
 }
 
-// Both sides with one map, which begins empty.
+// The passes over both sides, with one map that begins empty.
 fn sides_by(
     buys: &[u64],
     nbuys: usize,
@@ -88,7 +88,7 @@ fn sides_by(
     side_by(sells, nsells, Side::Sell, l, mask, map)
 }
 
-// By 10 bits of a number.
+// The passes with marks of 10 bits of a number.
 fn sides_tiny(buys: &[u64], nbuys: usize, sells: &[u64], nsells: usize, l: Limits) -> bool
     requires { ⌜ Room nbuys (now buys) × Room nsells (now sells) × LimitsFit l ⌝ }
     ensures { λ r. ⌜ r ≡ sidesBy 1023 l (decode nbuys (now (buys .entry))) (decode nsells (now (sells .entry))) ⌝ }
@@ -97,7 +97,7 @@ fn sides_tiny(buys: &[u64], nbuys: usize, sells: &[u64], nsells: usize, l: Limit
     sides_by(buys, nbuys, sells, nsells, l, 1023, &mut map)
 }
 
-// By 12 bits.
+// With 12 bits.
 fn sides_small(buys: &[u64], nbuys: usize, sells: &[u64], nsells: usize, l: Limits) -> bool
     requires { ⌜ Room nbuys (now buys) × Room nsells (now sells) × LimitsFit l ⌝ }
     ensures { λ r. ⌜ r ≡ sidesBy 4095 l (decode nbuys (now (buys .entry))) (decode nsells (now (sells .entry))) ⌝ }
@@ -106,7 +106,7 @@ fn sides_small(buys: &[u64], nbuys: usize, sells: &[u64], nsells: usize, l: Limi
     sides_by(buys, nbuys, sells, nsells, l, 4095, &mut map)
 }
 
-// By 14 bits.
+// With 14 bits.
 fn sides_medium(buys: &[u64], nbuys: usize, sells: &[u64], nsells: usize, l: Limits) -> bool
     requires { ⌜ Room nbuys (now buys) × Room nsells (now sells) × LimitsFit l ⌝ }
     ensures { λ r. ⌜ r ≡ sidesBy 16383 l (decode nbuys (now (buys .entry))) (decode nsells (now (sells .entry))) ⌝ }
@@ -115,7 +115,7 @@ fn sides_medium(buys: &[u64], nbuys: usize, sells: &[u64], nsells: usize, l: Lim
     sides_by(buys, nbuys, sells, nsells, l, 16383, &mut map)
 }
 
-// By 16 bits: a bit for every order number.
+// With 16 bits, which tell any two order numbers apart.
 fn sides_large(buys: &[u64], nbuys: usize, sells: &[u64], nsells: usize, l: Limits) -> bool
     requires { ⌜ Room nbuys (now buys) × Room nsells (now sells) × LimitsFit l ⌝ }
     ensures { λ r. ⌜ r ≡ sidesBy 65535 l (decode nbuys (now (buys .entry))) (decode nsells (now (sells .entry))) ⌝ }
@@ -124,7 +124,7 @@ fn sides_large(buys: &[u64], nbuys: usize, sells: &[u64], nsells: usize, l: Limi
     sides_by(buys, nbuys, sells, nsells, l, 65535, &mut map)
 }
 
-// By the least map that serves, which is cleared soonest: for low numbers, or so few orders that a clash is rare.
+// The passes with the smallest map that serves, since it is cleared soonest: the numbers are low, or so few that equal marks are rare.
 fn sides_least(buys: &[u64], nbuys: usize, sells: &[u64], nsells: usize, l: Limits) -> bool
     requires { ⌜ Room nbuys (now buys) × Room nsells (now sells) × LimitsFit l ⌝ }
     ensures { λ r. ⌜ r ≡ sidesBy (leastMask (l .given) (nbuys + nsells)) l (decode nbuys (now (buys .entry))) (decode nsells (now (sells .entry))) ⌝ }
@@ -142,7 +142,7 @@ fn sides_least(buys: &[u64], nbuys: usize, sells: &[u64], nsells: usize, l: Limi
     sides_large(buys, nbuys, sells, nsells, l)
 }
 
-// Different marks are of different numbers. Equal marks may be of different numbers too; only the largest map tells those apart.
+// Different marks belong to different numbers, but so may equal ones: where a small map finds two equal marks, the largest map decides.
 pub fn sides(buys: &[u64], nbuys: usize, sells: &[u64], nsells: usize, l: Limits) -> bool
     requires { ⌜ Room nbuys (now buys) × Room nsells (now sells) × LimitsFit l ⌝ }
     ensures { λ r. ⌜ r ≡ sidesSound l (decode nbuys (now (buys .entry))) (decode nsells (now (sells .entry))) ⌝ }

@@ -1,5 +1,5 @@
--- The best buy stays below the best sell: every price of one side is short of every counter price, and what a sweep leaves lies
--- beyond the price at which its remainder rests. Each law is for both sides.
+-- The best buy stays below the best sell: every price of one side stays short of every counter price, and what a sweep leaves lies
+-- beyond the price at which its remainder rests. Each law holds for both sides.
 use Prim.Native.Nat.{ℕ, _≤_}
 use native.Mathlib.Omega.{arith}
 use borrow.Author.Tests.{leb-false, ltb-true, ltb-false, lt-ltb}
@@ -22,7 +22,7 @@ use Rattle.book_law.proofs.Fills.{sweep-sorted, LastNear, last-near}
 use Rattle.book_law.proofs.Stops.{Next, Beyond, limit-stops, market-stops}
 use Rattle.book_sound_law.specs.Sound.{uncrossed, onSide}
 
--- a price p of side s does not reach the counter price q
+-- p, a price of side s, does not reach the counter price q
 abbrev pub ShortOf : Side → ℕ → ℕ → Type 0
 ShortOf s p q = better (otherSide s) p q ≡ true
 
@@ -34,7 +34,7 @@ short-stays : (s : Side) (p q p′ q′ : ℕ) → ShortOf s p q → better s p�
 short-stays Buy p q p′ q′ e f g = lt-ltb p′ q′ (omega (arith, ltb-true p q e, ltb-false p p′ f, ltb-false q′ q g))
 short-stays Sell p q p′ q′ e f g = lt-ltb q′ p′ (omega (arith, ltb-true q p e, ltb-false p′ p f, ltb-false q q′ g))
 
--- a price short of the first of a side is short of all
+-- a price short of the best counter price is short of all of them
 pub short-all : (s : Side) (p : ℕ) (os : List Order) → FirstPrice (ShortOf s p) os → sorted (otherSide s) os ≡ true →
     EachPrice (ShortOf s p) os
 short-all s p [] h e = tt
@@ -43,9 +43,9 @@ short-all s p (o ∷ os) h e =
     (λ x f. short-stays s p (o .price) p (x .price) h (same-not s p p refl) f)
     (o ∷ os) (worse-all (otherSide s) (o .price) o os (same-not (otherSide s) (o .price) (o .price) refl) e)
 
--- ---- to and from the test of the two best prices
+-- ---- `Clear` follows from the test of the two best prices, and gives it back
 
--- the book of a side's own orders and those across has its best buy below its best sell
+-- the test itself, seen from side s: the best buy is below the best sell
 abbrev pub Apart : Side → List Order → List Order → Type 0
 Apart s own across = uncrossed (onSide s own across) (onSide (otherSide s) own across) ≡ true
 
@@ -76,7 +76,7 @@ clear-out Sell (x ∷ xs) (y ∷ ys) c = c .0 .0
 
 -- ---- a remainder does not cross
 
--- the price at which a remainder rests: its limit, or its own last trade's price, or the last before it
+-- the price at which a remainder rests: its limit, or its own last trade's price, or the price given for one that made no trade
 abbrev pub restPrice : Kind → ℕ → List Order → ℕ
 restPrice (Limit p) last fills = p
 restPrice Market last fills = ownLastOr last fills
@@ -85,7 +85,7 @@ unfit-short : (s : Side) (limit p : ℕ) → fitsLimit s limit p ≡ false → S
 unfit-short Buy limit p e = lt-ltb limit p (leb-false p limit e)
 unfit-short Sell limit p e = lt-ltb p limit (leb-false limit p e)
 
--- the next counter price lies beyond it
+-- the next counter price lies beyond that price
 next-short : (side : Side) (kind : Kind) (range : Range) (last lots : ℕ) (os : List Order) →
     Next (ShortOf side (restPrice kind last (sweep (taker side kind range) 0 lots os .fills))) (sweep (taker side kind range) 0 lots os)
 next-short side (Limit limit) range last lots os e l =
@@ -98,7 +98,7 @@ next-short side Market range last lots os e l =
     first-map (Beyond side 0 w) (ShortOf side (ownLastOr last (w .fills)))
     (λ p f. near-short side (firstOf 0 (w .fills)) (ownLastOr last (w .fills)) p near f) (w .rest) (market-stops side range 0 lots os e l)
 
--- a remainder, kept at its limit or converted, is short of every counter order that is left
+-- the price of a remainder, kept at its limit or converted, is short of every counter order that is left
 abbrev pub ShortOfRest : Side → Kind → ℕ → Swept → Type 0
 ShortOfRest side kind last w = EachPrice (ShortOf side (restPrice kind last (w .fills))) (w .rest)
 

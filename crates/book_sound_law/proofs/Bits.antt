@@ -1,4 +1,4 @@
--- A number marked: it is marked, and no other.
+-- Marking a number in the map marks that number and no other.
 use Prim.Native.Nat.{ℕ, zero, suc, _+_, _*_, _/_, _%_, _^_, _<_}
 use native.Mathlib.Omega.{arith}
 use native.Mathlib.Nat.{mul-div-mul-left, pow-succ', div-self, div-eq-of-lt, mod-lt, div-one, mul-mod-right, one-mul, zero-div}
@@ -24,7 +24,7 @@ pow-other zero (suc i) ne = rw (div-eq-of-lt (pow-lt {i = 0} {j = suc i} (omega 
 pow-other (suc j) zero ne = rw (div-one (2 ^ suc j), pow-succ' 2 j) (mul-mod-right 2 (2 ^ j))
 pow-other (suc j) (suc i) ne = rw (pow-succ' 2 j, pow-succ' 2 i, mul-div-mul-left {m = 2} (2 ^ j) (2 ^ i) (omega arith)) (pow-other j i (λ e. ne (ap suc e)))
 
--- ---- a bit set in a word: it is set, and no other changes
+-- ---- setting a bit in a word sets that bit and changes no other
 
 shifted : (b : ℕ) → b < 64 → (1 * 2 ^ b) % 2 ^ 64 ≡ 2 ^ b
 shifted b h = shl-exact {a = 1} 1 b 64 (lit< tt) (omega arith) ∙ one-mul (2 ^ b)
@@ -46,7 +46,7 @@ module _ (w b i : ℕ) (h : b < 64) where
 
 -- ---- a number marked in a map
 
--- a number is told by its word and its bit
+-- word and bit together determine the number
 made : (x : ℕ) → x ≡ x / 1024 * 1024 + (bitFor x * 16 + x % 16)
 made x = omega arith
 

@@ -1,4 +1,4 @@
--- The two best prices apart, and both passes gone through: that is a sound book.
+-- A book is sound exactly where the two best prices are apart and both passes succeed.
 use Prim.Native.Nat.{ℕ, zero, suc, _≤_, _<_}
 use native.Mathlib.Omega.{arith}
 use mathlib.Core.Bool.{Bool, true, false, _&&_, not}

@@ -1,4 +1,4 @@
--- Two passes with one map: the second goes on from the marks of the first.
+-- The two passes share a map: the second goes on from the marks of the first.
 use Prim.Native.Nat.{ℕ, _≤_, _<_}
 use native.Mathlib.Omega.{arith}
 use mathlib.Core.Bool.{Bool, true, false, _&&_, _||_, not, cond, false≢true}

@@ -1,5 +1,5 @@
--- What each act does to a sound book: it stays sound. An order that comes in sweeps the counter side, and its remainder rests where it
--- crosses nothing, at its limit or at the price to which it converts. Each law is for both sides.
+-- Each act leaves a sound book sound. An order that comes in sweeps the counter side, and its remainder rests where it crosses nothing, at
+-- its limit or at the price to which it converts. Each law holds for both sides.
 use Prim.Native.Nat.{ℕ, _+_, _≤_, _<_}
 use native.Mathlib.Omega.{arith}
 use native.Mathlib.Nat.{le-refl}
@@ -34,8 +34,8 @@ use Rattle.book_sound_law.proofs.Kept.{Sided, sided-of, book-of, sided-
 
 -- ---- an order that comes in
 
--- what the refusals leave of an order: at most the greatest lots; a day order finds a place on its side, which holds `count`; a limit is a
--- tick price in the band; the price of the session's last trade, or the previous settlement, is a tick price
+-- what is known of an order that was not refused: its lots are at most the greatest; if it is a day order, its side, which holds `count`, has
+-- a free place; a limit is a tick price in the band; and `last`, the session's last trade price or the previous settlement, is a tick price
 pub record Admitted (life : Life) (kind : Kind) (tick : ℕ) (b : Band) (lots last count : ℕ) : Type 0 where
   pub few : lots ≤ lotsMost
   pub place : life ≡ AllDay → count < slots
@@ -54,7 +54,7 @@ module _ (side : Side) (given tick : ℕ) (b : Band) (own across : List Order) (
   abbrev Lands : Fate → Type 0
   Lands fate = Sided side (given + 1) tick b (settled side (given + 1) left fate own) across
 
-  -- nothing of it rests, and its number is given
+  -- where nothing of the order rests, its side stays as it was, and its number is given
   stays : Sided side (given + 1) tick b own across
   stays = sided-wider side given tick b own across k (given + 1) b (omega arith) (λ x f. f)
 
@@ -74,7 +74,7 @@ module _ (side : Side) (given tick : ℕ) (b : Band) (own across : List Order) (
       (λ e. lands-at (ownLastOr last fs) some (a .place refl) on e c)
       (λ e. stays)
 
--- its own side after an order has come in under that number
+-- the incoming order's own side, once it has come in under that number
 abbrev pub ownAfter : Side → Life → Kind → Band → ℕ → ℕ → List Order → Swept → List Order
 ownAfter side life kind b last number own w = settled side number (w .left) (fateOf life kind b last w) own
 
@@ -99,7 +99,7 @@ sided-entered side life kind range given tick b lots last own across k a =
     (own-last-ticked given tick b last (w .fills) (a .last-ticked) sound-fills)
     (remainder-short side kind range last lots across (k .sorted-across) o some)))
 
--- ---- the laws, of the test itself
+-- ---- the same laws, stated with the test `bookSound`
 
 module _ (given tick : ℕ) (b : Band) (buys sells : List Order) (h : bookSound given tick b buys sells ≡ true) (side : Side) where
   abbrev pub own : List Order
@@ -108,7 +108,7 @@ module _ (given tick : ℕ) (b : Band) (buys sells : List Order) (h : bookSound 
   abbrev pub across : List Order
   across = onSide (otherSide side) buys sells
 
-  -- a book of that side's own orders and those across
+  -- the book that consists of these orders of that side and these across is sound
   abbrev pub Sound : ℕ → Band → List Order → List Order → Type 0
   Sound given′ b′ own′ across′ = bookSound given′ tick b′ (onSide side own′ across′) (onSide (otherSide side) own′ across′) ≡ true
 
@@ -133,15 +133,15 @@ module _ (given tick : ℕ) (b : Band) (buys sells : List Order) (h : bookSound 
   pub swept-sound : (q : Taker) (first lots : ℕ) → Sound given b own (sweep q first lots across .rest)
   swept-sound q first lots = told given b own (sweep q first lots across .rest) (sided-swept side given tick b own across seen q first lots)
 
-  -- its fills are sound orders too,
+  -- the fills of a sweep are sound orders too,
   pub fills-sound : (q : Taker) (first lots : ℕ) → Each (OrderFits given tick b) (sweep q first lots across .fills)
   fills-sound q first lots = each-swept (OrderFits given tick b) (part-fits given tick b) q first lots across (seen .each-across) .fills
 
-  -- and a market order's are within the mark of the first
+  -- and those of a market order are within the mark of the first
   pub fills-within : (range : Range) (lots : ℕ) → 1 ≤ b .low → WithinFirst side (sweep (taker side Market range) 0 lots across .fills)
   fills-within range lots l = market-within side range lots across (each-positive given tick b across l (seen .each-across))
 
-  -- the book after an order that comes in: its fills are gone from the counter side, its remainder may rest on its own
+  -- the book is sound after the order: its fills are gone from the counter side, and its remainder may rest on its own
   abbrev pub SoundAfter : Life → Kind → ℕ → Swept → Type 0
   SoundAfter life kind last w = Sound (given + 1) b (ownAfter side life kind b last (given + 1) own w) (w .rest)
 

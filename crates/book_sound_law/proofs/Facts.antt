@@ -1,4 +1,4 @@
--- A sound book as facts, taken from the tests and made into them again.
+-- A sound book as facts: the tests give the facts, and the facts give the tests.
 use Prim.Native.Nat.{ℕ, _≤_, _<_}
 use native.Mathlib.Omega.{arith}
 use borrow.Author.Tests.{leb-true, le-leb}
@@ -51,7 +51,7 @@ module _ (given tick : ℕ) (b : Band) where
   each-made [] h = refl
   each-made (o ∷ os) h = make (order-made o (h .0)) (each-made os (h .1))
 
-  -- a part of a sound order, of 1 lot or more, is sound
+  -- a part of a sound order, of at least 1 lot, is sound
   pub part-fits : (o : Order) (k : ℕ) → 1 ≤ k → k ≤ o .lots → OrderFits given tick b o → OrderFits given tick b (part o k)
   part-fits o k h l f =
       record {
@@ -63,16 +63,16 @@ module _ (given tick : ℕ) (b : Band) where
         banded = f .banded;
       }
 
-  -- a number above all that are given is above all in the book
+  -- a number above all given ones is above all numbers in the book
   pub each-older : (k : ℕ) (os : List Order) → given < k → Each (OrderFits given tick b) os → Older k os
   each-older k os h e = each-map (OrderFits given tick b) (λ o. o .number < k) (λ o f. omega (arith, f .number-given)) os e
 
-  -- where the band is of prices, so are the orders'
+  -- if the band begins above 0, every price in the book is positive
   pub each-positive : (os : List Order) → 1 ≤ b .low → Each (OrderFits given tick b) os → EachPrice (λ p. 1 ≤ p) os
   each-positive os h e =
       each-map (OrderFits given tick b) (λ o. 1 ≤ o .price) (λ o f. omega (arith, between-facts (b .low) (o .price) (b .high) (f .banded) .0)) os e
 
--- more numbers given, a wider band
+-- sound orders stay sound when more numbers are given and the band is wider
 pub each-wider : (g g′ tick : ℕ) (b b′ : Band) → g ≤ g′ → ((x : ℕ) → inBand b x ≡ true → inBand b′ x ≡ true) → (os : List Order) →
     Each (OrderFits g tick b) os → Each (OrderFits g′ tick b′) os
 each-wider g g′ tick b b′ h k os e =

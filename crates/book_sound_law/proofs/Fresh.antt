@@ -1,4 +1,4 @@
--- A run of marks, begun on an empty map, goes through just where the numbers are distinct.
+-- Marking numbers one by one on an empty map finds no mark exactly where the numbers are distinct.
 use Prim.Native.Nat.{ℕ, _<_}
 use mathlib.Core.Bool.{Bool, true, false, _&&_, _||_, not}
 use mathlib.Core.Path.{_≡_, refl, sym, ap, _∙_}
@@ -10,7 +10,7 @@ use Rattle.terms.proofs.Logic.{regroup}
 use Rattle.book_sound_law.specs.code.Marks.{wordFor, hasMark, withMark, fresh, marked, isIn, apart}
 use Rattle.book_sound_law.proofs.Bits.{mark-tells, no-marks}
 
--- all numbers have their words in a map of so many
+-- a map of so many words has a bit for each of the numbers
 abbrev pub Inside : ℕ → List ℕ → Type 0
 Inside words [] = Unit {0}
 Inside words (x ∷ xs) = (wordFor x < words) × Inside words xs
@@ -19,7 +19,7 @@ inside-append : (words : ℕ) (xs ys : List ℕ) → Inside words xs → Inside 
 inside-append words [] ys p q = q
 inside-append words (x ∷ xs) ys p q = (p .0, inside-append words xs ys (p .1) q)
 
--- none of the numbers is marked
+-- none of the numbers is marked in the map
 none : List ℕ → List ℕ → Bool
 none m [] = true
 none m (y ∷ ys) = not (hasMark m y) && none m ys
@@ -59,7 +59,7 @@ fresh-apart words xs b =
     let same : length {A = ℕ} (replicate words 0) ≡ words = length-replicate words 0 in
     rw (none-empty words xs) at (fresh-is (replicate words 0) xs (rw same b))
 
--- two runs, one after the other
+-- marking one run and then another is marking both as one run
 fresh-append : (m xs ys : List ℕ) → fresh m (xs ++ ys) ≡ (fresh m xs && fresh (marked m xs) ys)
 unfolding fresh marked _⊓_
 fresh-append m [] ys = refl

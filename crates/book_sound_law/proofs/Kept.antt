@@ -1,4 +1,4 @@
--- A sound book seen from either side, and what insertion, removal and a sweep keep of it.
+-- A sound book seen from either side, and what insertion, removal and a sweep leave sound.
 use Prim.Native.Nat.{ℕ, _+_, _≤_, _<_}
 use native.Mathlib.Omega.{arith}
 use native.Mathlib.Nat.{le-refl}
@@ -27,7 +27,7 @@ use Rattle.book_sound_law.proofs.Facts.{each-fits, each-made, part-fits
 use Rattle.book_sound_law.proofs.Once.{distinct-once, once-distinct, times-older}
 use Rattle.book_sound_law.proofs.Apart.{ShortOf, Clear, Apart, clear-in, clear-out}
 
--- a side's own orders, and those across
+-- the facts of a sound book, with the orders of one side and those across instead of buys and sells
 pub record Sided (side : Side) (given tick : ℕ) (b : Band) (own across : List Order) : Type 0 where
   pub few-own : length own ≤ slots
   pub few-across : length across ≤ slots
@@ -41,15 +41,15 @@ pub record Sided (side : Side) (given tick : ℕ) (b : Band) (own across : List 
 abbrev counts : ℕ → Order → ℕ
 counts id o = mine id (o .number) 1
 
--- ---- from the book and back
+-- ---- from buys and sells to a side and the other, and back
 
--- what the buys and the sells have, each side has
+-- what holds of the buys and of the sells holds of a side and of the other
 seen : (P : Side → List Order → Type 0) (buys sells : List Order) → P Buy buys → P Sell sells → (side : Side) →
     P side (onSide side buys sells)
 seen P buys sells x y Buy = x
 seen P buys sells x y Sell = y
 
--- what a side and the one across have, the buys and the sells have
+-- what holds of a side and of the other holds of the buys and of the sells
 unseen : (P : Side → List Order → Type 0) (side : Side) (own across : List Order) → P side own → P (otherSide side) across →
     P Buy (onSide side own across) × P Sell (onSide (otherSide side) own across)
 unseen P Buy own across x y = (x, y)
@@ -60,7 +60,7 @@ times-seen : (id : ℕ) (side : Side) (xs ys : List Order) →
 times-seen id Buy xs ys = refl
 times-seen id Sell xs ys = omega arith
 
--- seen from a side and back
+-- the two best prices are apart, seen from a side and seen from the book
 apart-seen : (side : Side) (buys sells : List Order) → uncrossed buys sells ≡ true → Apart side (onSide side buys sells) (onSide (otherSide side) buys sells)
 apart-seen Buy buys sells e = e
 apart-seen Sell buys sells e = e
@@ -113,10 +113,10 @@ module _ (given tick : ℕ) (b : Band) where
         apart = clear-out side own across (k .clear);
       }
 
--- ---- what is kept
+-- ---- what stays sound
 
 module _ (side : Side) (given tick : ℕ) (b : Band) (own across : List Order) (k : Sided side given tick b own across) where
-  -- more numbers given, a wider band
+  -- with more numbers given and a wider band
   pub sided-wider : (given′ : ℕ) (b′ : Band) → given ≤ given′ → ((x : ℕ) → inBand b x ≡ true → inBand b′ x ≡ true) →
       Sided side given′ tick b′ own across
   sided-wider given′ b′ h f =
@@ -131,7 +131,7 @@ module _ (side : Side) (given tick : ℕ) (b : Band) (own across : List Order) (
         clear = k .clear;
       }
 
-  -- a sweep over the counter side
+  -- after a sweep over the counter side
   pub sided-swept : (q : Taker) (first lots : ℕ) → Sided side given tick b own (sweep q first lots across .rest)
   sided-swept q first lots =
       record {
@@ -147,7 +147,7 @@ module _ (side : Side) (given tick : ℕ) (b : Band) (own across : List Order) (
             (λ o h. each-swept (λ x. ShortOf side (o .price) (x .price)) (λ x n l m e. e) q first lots across h .rest) own (k .clear);
       }
 
-  -- a removal on its own side
+  -- after a removal on the side itself
   pub sided-removed : (n : ℕ) → Sided side given tick b (removed n own) across
   sided-removed n =
       record {
@@ -172,7 +172,7 @@ once-insert side o own across a b h id =
     omega arith)
     (λ f. let t : times id (insert side o own) ≡ 0 + times id own = tally-insert (counts id) side o own ∙ rw f refl in omega (arith, h id))
 
--- an insertion on its own side, of a number above all that were given, at a price that reaches no counter price
+-- after an insertion on the side itself, of a number above all given ones, at a price that reaches no counter price
 pub sided-insert : (side : Side) (given tick : ℕ) (b : Band) (own across : List Order) (o : Order) → Sided side given tick b own across →
     given < o .number → length own < slots → OrderFits (o .number) tick b o → EachPrice (ShortOf side (o .price)) across →
     Sided side (o .number) tick b (insert side o own) across

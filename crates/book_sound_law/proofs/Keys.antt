@@ -1,4 +1,4 @@
--- Keys stand in the order of priority, so a pass finds out whether a side is sound and its marks fresh.
+-- Comparing keys is comparing priorities, so a pass finds out whether a side is sound and the low bits of its numbers are all new.
 use Prim.Native.Nat.{ℕ, _+_, _-_, _*_, _≤_, _<_}
 use native.Mathlib.Omega.{arith}
 use mathlib.Core.Bool.{Bool, true, false, _&&_, _||_, not}
@@ -20,14 +20,14 @@ use Rattle.book_sound_law.specs.code.Marks.{hasMark, withMark, fresh}
 use Rattle.book_sound_law.specs.code.Pass.{bandOf, fine, Keyed, keyStep, keyOf, lowBits, passOf, sideSound}
 use Rattle.book_sound_law.proofs.Facts.{order-fits}
 
--- a fine order has a key
+-- the key of a fine order can be computed
 pub keyed : (l : Limits) (o : Order) → fine l o ≡ true → Keyed l o
 keyed l o e =
     let f = order-fits (l .given) (l .tick) (bandOf l) o e in
     let w = between-facts (l .low) (o .price) (l .high) (f .banded) in
     record { number-some = f .number-some; number-given = f .number-given; above = w .0; below = w .1 }
 
--- ---- keys are in the order of priority: c and d are the places of prices p and q, u and v the two prices as the side compares them
+-- ---- keys stand in the order of priority: c and d are how far prices p and q lie from the best; u and v are p and q as the side compares them
 
 module _ (p q u v n m c d : ℕ) (l : n < keyStep) (k : m < keyStep) (f : u < v → c < d) (g : v < u → d < c) (h : p ≡ q → c ≡ d)
     (a : u ≡ v → p ≡ q) where
@@ -56,13 +56,13 @@ key-some : (s : Side) (l : Limits) (x : Order) → Keyed l x → 0 < keyOf s l x
 key-some Buy l x k = omega arith
 key-some Sell l x k = omega arith
 
--- ---- a pass is a sound side and fresh marks
+-- ---- a pass succeeds exactly where the side is sound and its marks are fresh
 
 never : (g : Bool) → false ≡ (g && false)
 never true = refl
 never false = refl
 
--- a turn's tests, sorted: a above the key before, f not marked; of what is behind, b the first behind it, e each fine, s in order, r its marks fresh
+-- the tests of a turn, regrouped: a and f are those of this order, for key and mark; b, e, s and r are those of the orders behind it
 sort : (a f b e s r : Bool) → (a && (f && ((b && (e && s)) && r))) ≡ ((a && (e && (b && s))) && (f && r))
 sort true true true e s r = refl
 sort true true false true s r = refl
@@ -71,11 +71,11 @@ sort true false b e s r = never (e && (b && s))
 sort false f b e s r = refl
 
 module _ (s : Side) (l : Limits) (mask : ℕ) (h : l .given ≤ numbersMost) where
-  -- the rest of a pass, after the order p
+  -- what a pass over os, after the order p, comes to
   Rest : Order → List Order → Type 0
   Rest p os = (m : List ℕ) → passOf s l mask (keyOf s l p) m os ≡ ((headBehind s p os && sideSound s l os) && fresh m (lowBits mask os))
 
-  -- a turn at x, where the test against what is before is a
+  -- a turn at the order x, where `a` is the outcome of comparing its key with the last one
   turn : (x : Order) (xs : List Order) (m : List ℕ) (key : ℕ) (a c : Bool) → fine l x ≡ c → (Keyed l x → ltb key (keyOf s l x) ≡ a) →
       (Keyed l x → Rest x xs) → passOf s l mask key m (x ∷ xs) ≡ ((a && sideSound s l (x ∷ xs)) && fresh m (lowBits mask (x ∷ xs)))
   unfolding Rest passOf eachSound sorted fresh lowBits _⊓_

@@ -1,4 +1,4 @@
--- The low bits of numbers: where they are distinct the numbers are, and sixteen of them are the whole number.
+-- Numbers whose low bits are distinct are distinct; and the low sixteen bits of an order number are the whole number.
 use Prim.Native.Nat.{ℕ, _≤_}
 use native.Mathlib.Omega.{arith}
 use native.Mathlib.Nat.{mod-eq-of-lt}
@@ -23,7 +23,7 @@ use Rattle.book_sound_law.specs.code.Marks.{isIn, apart}
 use Rattle.book_sound_law.specs.code.Pass.{LimitsFit, bandOf, lowBits, sideSound, sidesSound, sidesBy}
 use Rattle.book_sound_law.proofs.Facts.{each-fits}
 
--- ---- low bits that are distinct are of distinct numbers
+-- ---- distinct low bits belong to distinct numbers
 
 bits-append : (mask : ℕ) (xs ys : List Order) → lowBits mask (xs ++ ys) ≡ lowBits mask xs ++ lowBits mask ys
 unfolding lowBits
@@ -67,7 +67,7 @@ unfolding sidesBy sidesSound
 no-clash mask l xs ys r e f =
     sym (lift (sideSound Buy l xs) (sideSound Sell l ys) _ _ (λ a. bits-distinct mask (xs ++ ys) (rw (bits-append mask xs ys) a)) (sym e ∙ f))
 
--- ---- sixteen bits are the whole number
+-- ---- sixteen bits hold a whole order number
 
 module _ (given : ℕ) (h : given ≤ numbersMost) where
   abbrev Small : Order → Type 0

@@ -1,4 +1,4 @@
--- Distinct numbers: each number stands at most once.
+-- Order numbers are distinct exactly where each comes at most once.
 use Prim.Native.Nat.{ℕ, _+_, _≤_}
 use native.Mathlib.Omega.{arith}
 use borrow.Author.Tests.{eq-eqb, eqb-true, not-true}
@@ -42,7 +42,7 @@ once-distinct (o ∷ os) h =
     make (rw (none-rests (o .number) os (let z = rw (eq-eqb (o .number) (o .number) refl) at (h (o .number)) in omega arith)) refl)
     (once-distinct os (λ id. omega (arith, h id)))
 
--- a number above all others does not stand among them
+-- a number above all others is not among them
 pub times-older : (k : ℕ) (os : List Order) → Older k os → times k os ≡ 0
 unfolding tally
 times-older k [] h = refl

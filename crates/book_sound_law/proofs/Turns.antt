@@ -1,4 +1,4 @@
--- What the functions of a pass answer, at each of their returns, and what a turn of its loop keeps.
+-- Each return of the functions of a pass is what the definition says, and each turn of its loop keeps what the loop needs.
 use Prim.Native.Nat.{ℕ, _+_, _-_, _*_, _≤_, _<_}
 use native.Mathlib.Omega.{arith}
 use mathlib.Core.Bool.{Bool, true, false, _&&_, not}
@@ -26,7 +26,7 @@ use Rattle.book_sound_law.proofs.Keys.{keyed}
 
 -- ---- an order
 
--- a test that cannot pass
+-- a test that cannot come out true is false
 pub refuted : (b : Bool) → (b ≡ true → ⊥) → false ≡ b
 refuted true f = absurd (f refl)
 refuted false f = refl
@@ -35,7 +35,7 @@ module _ (l : Limits) (o : Order) where
   fits : fine l o ≡ true → OrderFits (l .given) (l .tick) (bandOf l) o
   fits e = order-fits (l .given) (l .tick) (bandOf l) o e
 
-  -- the bounds, as the code tests them
+  -- lots, number and price are within their bounds, as the code tests it
   abbrev bounded : Bool
   bounded = (isLots (o .lots) && between 1 (o .number) (l .given)) && between (l .low) (o .price) (l .high)
 
@@ -56,11 +56,11 @@ module _ (l : Limits) (o : Order) where
     outer : ((isLots (o .lots) && between 1 (o .number) (l .given)) ≡ true) × (between (l .low) (o .price) (l .high) ≡ true)
     outer = split _ _ (not-false bounded f)
 
-    -- a price in the band is small
+    -- a price in the band is small enough for the factor
     pub bounded-small : l .high < scale → o .price < scale
     bounded-small h = omega (arith, between-facts (l .low) (o .price) (l .high) (outer .1) .1)
 
-    -- past the other tests, the tick decides
+    -- once the bounds hold, only the tick is left to decide
     pub fine-tick : (r : Bool) → r ≡ onTick (l .tick) (o .price) → r ≡ fine l o
     fine-tick r t =
         let inner = split (isLots (o .lots)) (between 1 (o .number) (l .given)) (outer .0) in

@@ -1,6 +1,6 @@
 -- Document 01, "A session is sound when", its part on the book: "live counts are at most 256; live orders have distinct numbers already
--- given, lots 1 to 10,000, tick prices in the band, correct priority; best buy is below best sell". Of plain values: the numbers given,
--- the tick, the band, and the orders of each side.
+-- given, lots 1 to 10,000, tick prices in the band, correct priority; best buy is below best sell". It is defined on plain values: the numbers
+-- given, the tick, the band, and the orders of each side.
 use Prim.Native.Nat.{ℕ, _≤_}
 use mathlib.Core.Path.{_≡_}
 use mathlib.Core.Bool.{Bool, true, not}
@@ -36,7 +36,7 @@ uncrossed [] sells = true
 uncrossed (b ∷ bs) [] = true
 uncrossed (b ∷ bs) (s ∷ ss) = ltb (b .price) (s .price)
 
--- the order numbers are distinct over both sides together
+-- a sound book; its order numbers are distinct over both sides together
 unfoldable pub bookSound : ℕ → ℕ → Band → List Order → List Order → Bool
 bookSound given tick b buys sells =
     leb (length buys) slots
@@ -48,7 +48,7 @@ bookSound given tick b buys sells =
     ⊓ distinct (buys ++ sells)
     ⊓ uncrossed buys sells
 
--- ---- the same, as facts for those who compute with them
+-- ---- the same as facts, for proofs that compute with them
 
 pub record OrderFits (given tick : ℕ) (b : Band) (o : Order) : Type 0 where
   pub number-some : 1 ≤ o .number
@@ -70,8 +70,8 @@ pub record BookFits (given tick : ℕ) (b : Band) (buys sells : List Order) : Ty
 
 -- ---- a book seen from one side
 
--- of two lists, the one that is of that side. With the buys and the sells: a side's own orders. With a side's own orders and those
--- across: the buys
+-- of two lists, the one that belongs to that side. Applied to buys and sells it gives the side's own orders; applied to a side's own orders
+-- and those across it gives the buys
 abbrev pub onSide : Side → List Order → List Order → List Order
 onSide Buy own across = own
 onSide Sell own across = across

@@ -1,8 +1,8 @@
-// book_sound_law: the law of a sound book, as document 01 lists its conditions, and of the one pass that judges them.
-// It has no code and may use terms, rules_law, tables and book_law. It promises: the pass finds what the conditions say, and an order that
-// comes in, a cancelled order and a wider band leave a sound book sound.
+// book_sound_law: what a sound book is, by the conditions of document 01, and the one pass over each table that judges them.
+// It has no code and may use terms, tables, rules_law and book_law. It promises: the pass finds what the conditions say; an incoming order,
+// a cancelled order and a wider band leave a sound book sound.
 
-// What live orders are held to: the numbers given, the tick, the factor that divides by it, and the ends of the band.
+// What live orders are judged by: the numbers given, the tick and its factor, and the ends of the band.
 pub struct Limits {
     pub given: u64,
     pub tick: u64,

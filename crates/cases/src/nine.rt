@@ -12,7 +12,7 @@ pub struct Word {
     pub next: usize,
 }
 
-// What stands for the greatest 64-bit number, which has a digit more.
+// Stands in the input for the greatest 64-bit number, which has one digit more.
 const GREATEST: u64 = 9_999_999_999_999_999_999;
 
 fn byte(b: u8) -> u64 {
@@ -26,7 +26,7 @@ fn meant(x: u64) -> u64 {
     x
 }
 
-// The number that begins at a place, up to a byte that is no digit; the next number begins behind that byte.
+// The number that begins at a place, up to a byte below the digit 0, such as a space; the next number begins behind that byte.
 fn read(text: &[u8], from: usize) -> Word
     requires { ⌜ from ≤ length (now text) ⌝ }
     ensures { λ r. ⌜ (from ≤ r .next) × (r .next ≤ length (now (text .entry))) ⌝ }
@@ -50,7 +50,7 @@ fn read(text: &[u8], from: usize) -> Word
     }
 }
 
-// The next nine numbers; missing ones are 0.
+// The next nine numbers; those that are missing are 0.
 pub fn nine(text: &[u8], from: usize) -> Line
     requires { ⌜ from < length (now text) ⌝ }
     ensures { λ r. ⌜ (from < r .next) × (r .next ≤ length (now (text .entry))) ⌝ }

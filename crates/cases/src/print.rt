@@ -1,4 +1,4 @@
-// Numbers printed, a space after each.
+// Prints numbers, with a space after each.
 
 pub fn number(x: u64) {
     io::print_decimal(1, x);

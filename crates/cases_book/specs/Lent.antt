@@ -1,4 +1,4 @@
--- What the steps of the program need of the numbers that are lent.
+-- What the steps of the program need to know of the lent numbers.
 use Prim.Native.Nat.{ℕ, _≤_}
 use mathlib.Core.List.{List}
 use lib.ListN.{length}

@@ -1,4 +1,4 @@
-// Numbers printed with a space after each.
+// Prints numbers, with a space after each.
 use cases::print;
 ghost use Prim.Native.Nat.{_≤_};
 
@@ -14,7 +14,7 @@ pub fn truth(b: bool) {
     print::number(0);
 }
 
-// The numbers from one place up to another, as far as there are any.
+// Prints the numbers from one place up to another, as far as there are any.
 pub fn part(t: &[u64], from: usize, to: usize) {
     let mut i = from;
     while i < t.len() {
@@ -53,7 +53,7 @@ fn nonzero(t: &[u64], from: usize, to: usize) -> u64 {
     found
 }
 
-// How many numbers are not 0 from a place up to another, and from there on.
+// Prints how many numbers from one place up to another are not 0, and how many from there on.
 pub fn rest(t: &[u64], from: usize, to: usize) {
     print::number(nonzero(t, from, to));
     print::number(nonzero(t, to, t.len()));

@@ -20,12 +20,12 @@ ghost use Rattle.tables.specs.Lengths.{tableLength};
 ghost use Rattle.rules_law.specs.Reference.{RangeFits};
 ghost use Rattle.cases_book.specs.Lent.{Counted, Lent};
 
-// A table that is longer than it must be, and a room with place for a report of every counter order.
+// A table that is longer than it must be, and a room for a report of every counter order.
 pub const LONG: usize = lengths::TABLE + 132;
 
 const ROOM: usize = lengths::RECORD * sizes::SLOTS + 64;
 
-// How many orders the two sides have: the side that a line names, and the other.
+// How many orders are live: on the side that a line names, and on the other.
 pub struct Counts {
     pub own: usize,
     pub other: usize,
@@ -116,7 +116,7 @@ fn remove(t: &mut [u64], n: usize, number: u64) -> usize
     left
 }
 
-// A line that goes to one table: an order put in, an order removed, or numbers past the live part.
+// Does what a line asks of one table: puts an order in, removes one, or overwrites numbers past the live part.
 fn edit(t: &mut [u64], n: usize, side: Side, w: [u64; 9]) -> usize
     requires { ⌜ (n ≤ slots) × (tableLength ≤ length (now t)) ⌝ }
     ensures { λ r. ⌜ r ≤ slots ⌝ }
@@ -136,7 +136,7 @@ fn edit(t: &mut [u64], n: usize, side: Side, w: [u64; 9]) -> usize
     n
 }
 
-// The reports begin at place 10; the two numbers on either side of them are printed with them.
+// An order sweeps a table. Its reports begin at place 10, and the two numbers on either side of them are printed with them.
 fn sweep(t: &mut [u64], n: usize, x: Incoming) -> usize
     requires { ⌜ (n ≤ slots) × (tableLength ≤ length (now t)) × RangeFits (x .range) ⌝ }
     ensures { λ r. ⌜ r ≤ slots ⌝ }
@@ -178,7 +178,7 @@ fn show_named<'a>(side: Side, own: &'a [u64], other: &'a [u64], c: Counts) {
     }
 }
 
-// A line that names a side, with that side's table and the other one.
+// Does what a line asks that names a side, given that side's table and the other one.
 fn act(own: &mut [u64], other: &mut [u64], c: Counts, side: Side, w: [u64; 9]) -> Counts
     requires { ⌜ Counted c × Lent (now own) (now other) ⌝ }
     ensures { λ r. ⌜ Counted r ⌝ }
@@ -202,7 +202,7 @@ fn act(own: &mut [u64], other: &mut [u64], c: Counts, side: Side, w: [u64; 9]) -
     Counts { own: k, other: m }
 }
 
-// The same, with the buys and the sells.
+// The same, given the buys and the sells.
 fn turn(buys: &mut [u64], sells: &mut [u64], c: Counts, w: [u64; 9]) -> Counts
     requires { ⌜ Counted c × Lent (now buys) (now sells) ⌝ }
     ensures { λ r. ⌜ Counted r ⌝ }
@@ -224,7 +224,7 @@ fn turned(c: Counts) -> Counts
     }
 }
 
-// Line after line, to the end of the input.
+// Takes line after line, to the end of the input.
 pub fn run(text: &[u8], buys: &mut [u64], sells: &mut [u64])
     requires { ⌜ Lent (now buys) (now sells) ⌝ }
 {

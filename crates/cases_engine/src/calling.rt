@@ -1,4 +1,4 @@
-// The three calls, with what a line hands them.
+// The engine's three calls, each with what a line of input hands it.
 use crate::says;
 use crate::setting;
 use cases::print;
@@ -37,7 +37,7 @@ fn life_of(x: u64) -> Life {
     Life::Ioc
 }
 
-// An order's number of an act: 1 for a sell, 2 for a market order and 4 for an immediate one, added up.
+// The order that an act's number from 0 to 7 stands for: 1 for a sell, 2 for a market order and 4 for an ioc order, added up.
 fn entry_of(act: u64, lots: u64, price: u64) -> Entry {
     let side = side_of(act % 2);
     let kind = kind_of(act / 2 % 2, price);
@@ -60,7 +60,7 @@ fn act_of(act: u64, x: u64, y: u64) -> Act {
     }
 }
 
-// As many numbers as there are.
+// So many numbers, but no more than there are.
 fn up_to(n: u64, most: usize) -> usize
     ensures { λ r. ⌜ r ≤ most ⌝ }
 {
@@ -86,7 +86,7 @@ pub fn begin(w: [u64; 9]) -> Opened {
     opening::begin(g)
 }
 
-// Applies an event to parts of the tables and of the room.
+// Applies an event, lending parts of the tables and of the room.
 pub fn apply_event(
     s: Session,
     w: [u64; 9],
@@ -114,7 +114,7 @@ pub fn apply_event(
     applied.session
 }
 
-// The view of a side, with parts of the tables.
+// Prints the view of a side, lending parts of the tables.
 pub fn look<'a>(s: Session, w: [u64; 9], buys: &'a [u64], sells: &'a [u64]) {
     let side = side_of(w[1]);
     let nbuys = up_to(w[2], buys.len());

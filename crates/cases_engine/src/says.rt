@@ -1,4 +1,4 @@
-// What is printed: numbers with a space after each, a session, and the sum of a slice.
+// Prints numbers with a space after each, a session, and the sum of a slice.
 use cases::print;
 use engine_law::Answer;
 use state_law::Session;
@@ -31,7 +31,7 @@ pub fn answer(a: Answer) {
     }
 }
 
-// Settings aside, every number that an event can change, but for the remembered trades.
+// Prints every number of a session that an event can change, except the remembered trades.
 pub fn session(s: Session) {
     print::number(s.clock.time);
     print::number(truth(s.clock.closed));
@@ -50,7 +50,7 @@ pub fn session(s: Session) {
     print::number(s.tape.half.value);
 }
 
-// A sum over the numbers of a slice and their places: a change of one of them by less than 1,000,003 changes it.
+// Prints a sum over the numbers of a slice and their places: changing one of them by less than 1,000,003 changes the sum.
 pub fn sum(t: &[u64]) {
     let mut i: usize = 0;
     let mut sum: u64 = 0;

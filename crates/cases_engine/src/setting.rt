@@ -1,4 +1,4 @@
-// A number of a session set, by its place in this list:
+// Sets a number of a session, by its place in this list:
 //   1 base, 2 close, 3 settle, 4 tick, 5 length, 6 days, 7 under, all of the settings;
 //   8 time, 9 closed, 10 buys, 11 sells, 12 widened, 13 cooling, 14 under, 15 given;
 //   16 reference, 17 count and 18 sum of the minute, 19 trades, 20 count, 21 lots and 22 value of the half hour;

@@ -9,7 +9,7 @@ use tables::lengths;
 use tables::orders;
 use terms::Order;
 
-// Tables and a room that are longer than they must be.
+// Tables and a room longer than they must be.
 pub const LONG: usize = lengths::TABLE + 32;
 
 pub const ROOM: usize = lengths::ROOM + 30;
@@ -20,7 +20,7 @@ fn set(t: &mut [u64], place: u64, value: u64) {
     }
 }
 
-// Orders of one price and as many lots each, numbered from the first on, as many as the table has place for.
+// Puts orders of one price and equal lots into a table, numbered from the first on, as many as fit.
 fn put_orders(t: &mut [u64], count: u64, first: u64, price: u64, lots: u64) {
     let mut at: usize = 0;
     let mut put: u64 = 0;
@@ -39,7 +39,7 @@ fn put_orders(t: &mut [u64], count: u64, first: u64, price: u64, lots: u64) {
     }
 }
 
-// A line that goes to one table.
+// Does what a line asks of one table.
 fn edit(t: &mut [u64], w: [u64; 9]) {
     if w[0] == 2 {
         set(t, w[2], w[3]);
@@ -56,7 +56,7 @@ fn edit_named(buys: &mut [u64], sells: &mut [u64], w: [u64; 9]) {
     edit(sells, w);
 }
 
-// The session, and a sum of all numbers of the tables and the room.
+// Prints the session, and the sums of both tables and the room.
 fn show(s: Session, buys: &[u64], sells: &[u64], room: &[u64]) {
     says::session(s);
     says::sum(buys);
@@ -107,7 +107,7 @@ fn turn(s: Session, w: [u64; 9], buys: &mut [u64], sells: &mut [u64], room: &mut
     s
 }
 
-// Line after line, to the end of the input; it begins with the session of a refused opening.
+// Takes line after line, to the end of the input; the first session is that of a refused opening.
 pub fn run(text: &[u8], buys: &mut [u64], sells: &mut [u64], room: &mut [u64]) {
     let first = calling::begin([0; 9]);
     let mut s = first.session;

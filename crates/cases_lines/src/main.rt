@@ -1,5 +1,5 @@
-// cases_lines: the lines of document 01's listing, read from standard input and written again; then each of them cut after every byte and
-// with every byte changed; then single lines with their places, the listing's reports from their records, and refusals of writers.
+// cases_lines: reads the lines of document 01's listing from standard input and writes them again; then reads each of them cut after every
+// byte and with every byte changed; then single lines, for their places; then writes the listing's reports from their records, and refusals.
 use libc::STDIN_FILENO;
 use libc::STDOUT_FILENO;
 use lines_reading_law::ReadEvent;
@@ -151,7 +151,7 @@ fn show_event(bytes: &[u8]) -> usize {
     }
 }
 
-// The same for settings.
+// Does the same for settings.
 fn show_settings(bytes: &[u8]) -> usize {
     match lines_reading::read_settings(bytes) {
         ReadSettings::Whole(g, n) => {
@@ -179,7 +179,7 @@ fn show_line(settings: bool, bytes: &[u8]) {
     }
 }
 
-// The place after the first newline from `at` on, or the bytes' end.
+// The place behind the first newline from `at` on, or the end of the bytes.
 fn line_end(bytes: &[u8], at: usize) -> usize
     requires { ⌜ at < length (now bytes) ⌝ }
     ensures { λ r. ⌜ (at < r) × (r ≤ length (now (bytes .entry))) ⌝ }
@@ -194,7 +194,7 @@ fn line_end(bytes: &[u8], at: usize) -> usize
     p
 }
 
-// Each line with all that follows it: settings first, then events.
+// Shows line after line: settings first, then events. Each is read with all that follows it.
 fn show_lines(bytes: &[u8]) {
     let mut at = 0;
     while at < bytes.len() {
@@ -203,7 +203,7 @@ fn show_lines(bytes: &[u8]) {
     }
 }
 
-// A line cut after each of its bytes.
+// Shows a line cut after each of its bytes.
 fn cut(settings: bool, line: &[u8]) {
     let mut k = 0;
     while k < line.len() {
@@ -212,7 +212,7 @@ fn cut(settings: bool, line: &[u8]) {
     }
 }
 
-// A line with each of its bytes changed.
+// Shows a line with each of its bytes changed.
 fn change(settings: bool, line: &mut [u8]) {
     let mut i = 0;
     while i < line.len() {
@@ -234,7 +234,7 @@ fn damage(bytes: &mut [u8]) {
     }
 }
 
-// Lines with their places.
+// Shows single lines, most of them wrong or unfinished: a wrong one is answered with its place.
 fn show_places() {
     show_event(b"");
     show_settings(b"");
@@ -253,7 +253,7 @@ fn show_places() {
     show_settings(b"t=5 do=clock\n");
 }
 
-// The report whose record stands at a place of a room.
+// Shows the report whose record stands at a place of a room.
 fn show_report(room: &[u64], at: usize) {
     match records::read_record(room, at) {
         ReadRecord::Told(report) => {
@@ -278,7 +278,7 @@ fn show_reports(room: &[u64]) {
     }
 }
 
-// The two refusals of writers, the first of them first, and the program's own line.
+// Shows the two refusals of writers, 16 before 17, and the line that the program prints for a refused event.
 fn show_refusals() {
     let long = Event {
         time: sizes::DIGITS + 1,

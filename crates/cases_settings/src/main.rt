@@ -1,5 +1,5 @@
-// cases_settings: settings of all sorts, judged by terms::judge::check: each field in turn at its ends, just past them, off the tick,
-// at 0 and at the largest 64-bit number. A line for each: the field, its value, and the refusal's number, 0 for none.
+// cases_settings: settings of many sorts, judged by terms::judge::check: each field in turn at its ends, just past them, off the tick, at 0
+// and at the largest 64-bit number. It prints a line for each: the field, its value, and the refusal's number, 0 for none.
 use terms::Category;
 use terms::Settings;
 use terms::Verdict;
@@ -8,7 +8,7 @@ const FIELDS: usize = 7;
 
 const VALUES: usize = 18;
 
-// Settings that are valid at every end of every field's range.
+// Valid settings, of which one field at a time is changed.
 fn plain() -> Settings {
     Settings {
         category: Category::Gems,
@@ -22,7 +22,7 @@ fn plain() -> Settings {
     }
 }
 
-// The same with one field set: base, close, settle, tick, length, days, under by their numbers.
+// The same with one field set; the fields are base, close, settle, tick, length, days and under, by their numbers.
 fn with(field: usize, v: u64) -> Settings {
     let mut g = plain();
     if field == 0 {
@@ -82,7 +82,7 @@ fn show(field: usize, v: u64) {
     io::write_all(1, b"\n");
 }
 
-// A field at every value.
+// Judges a field at every value.
 fn show_all(field: usize) {
     let mut i: usize = 0;
     while i < VALUES {

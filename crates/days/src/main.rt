@@ -1,4 +1,4 @@
-// days: whole days from files, each held against the output that it must have. The arguments name the days: NAME.in and NAME.out.
+// days: runs whole days from files and compares what each prints with its expected output. The arguments name the days: NAME.in and NAME.out.
 use descriptors::Load;
 use descriptors::reading;
 use feed::lines;
@@ -6,10 +6,10 @@ use stream_law::Finish;
 ghost use Prim.Native.Nat.{_+_, _≤_};
 ghost use lib.ListN.{length};
 
-// The room for an expected output. A longer one is not read.
+// The room for an expected output; a longer one counts as unreadable.
 const EXPECTED: usize = lines::TEXT * 4;
 
-// How many days printed what they must, how many something else, and how many have files that could not be read.
+// How many days printed what they must, how many printed something else, and how many have files that could not be read.
 struct Count {
     right: u64,
     wrong: u64,
@@ -27,7 +27,7 @@ fn end_with(path: &mut [u8], n: usize, ending: &[u8])
     }
 }
 
-// Opens the file of a day's name, the first n bytes of a path, and an ending.
+// Opens a day's file: its name is the first n bytes of a path, followed by an ending.
 fn open_file(path: &mut [u8], n: usize, ending: &[u8]) -> i32 {
     if path.len() < n {
         return -1;
@@ -40,7 +40,7 @@ fn open_file(path: &mut [u8], n: usize, ending: &[u8]) -> i32 {
     os::open_read(&path[0..end])
 }
 
-// Runs a day, and holds all that it prints against all of an expected output.
+// Runs a day and compares all that it prints with all of an expected output.
 fn hold(fd: i32, expected: i32, room: &mut [u8]) -> Finish {
     match reading::read_whole(expected, room) {
         Load::Whole(n) => stream::compare(fd, &room[0..n]),
@@ -49,7 +49,7 @@ fn hold(fd: i32, expected: i32, room: &mut [u8]) -> Finish {
     }
 }
 
-// The day of two open files.
+// Runs the day of two open files, with a room for the expected output.
 fn run(fd: i32, expected: i32) -> Finish {
     let mut room = [0u8; EXPECTED];
     let told = hold(fd, expected, &mut room);
@@ -91,7 +91,7 @@ fn tell(told: Finish, count: Count) -> Count {
     }
 }
 
-// The day that an argument names: a line that says how it ended.
+// Runs the day that an argument names, and prints a line that says how it ended.
 fn day(i: usize, count: Count) -> Count {
     let mut path = io::buffer();
     let n = os::arg(i, &mut path);
@@ -102,7 +102,7 @@ fn day(i: usize, count: Count) -> Count {
     tell(told, count)
 }
 
-// The last line: how many there were of each.
+// Prints the last line: how many days ended in each way.
 fn total(count: Count) {
     let right = count.right;
     let wrong = count.wrong;

@@ -1,4 +1,4 @@
--- What is counted is there.
+-- No count exceeds the bytes that there are.
 use Prim.Native.Nat.{ℕ, _≤_}
 use Rattle.descriptors.specs.declared.Got.{Got}
 use Rattle.descriptors.specs.declared.Load.{Load}

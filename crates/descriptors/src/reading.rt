@@ -1,4 +1,4 @@
-// Bytes read from a descriptor.
+// Reads bytes from a descriptor.
 use crate::Got;
 use crate::Load;
 use crate::pausing;
@@ -24,7 +24,7 @@ pub fn read_some(fd: i32, buf: &mut [u8]) -> Got
     Got::Failed
 }
 
-// Reads to the end of the input. An input that fills the buffer is too long: its end was not seen.
+// Reads to the end of the input. An input that fills the buffer counts as too long, since its end was not seen.
 pub fn read_whole(fd: i32, buf: &mut [u8]) -> Load
     ensures { λ r. ⌜ LoadWithin (length (now (buf .entry))) r ⌝ }
 {

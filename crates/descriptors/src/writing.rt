@@ -1,9 +1,9 @@
-// Bytes written to a descriptor.
+// Writes bytes to a descriptor.
 use crate::pausing;
 ghost use Prim.Native.Nat.{_≤_};
 ghost use lib.ListN.{length};
 
-// Writes once, as soon as some bytes are taken. Answers how many were, 0 where the write failed.
+// Writes once, as soon as some bytes are taken. Answers how many were taken, 0 where the write failed.
 fn write_some(fd: i32, bytes: &[u8]) -> usize
     ensures { λ r. ⌜ r ≤ length (now (bytes .entry)) ⌝ }
 {

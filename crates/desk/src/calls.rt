@@ -1,4 +1,4 @@
-// The calls on a session: open, apply, sound, view, on runs of numbers that an app keeps.
+// The calls on a session: open, apply, sound and view, on numbers that an app keeps.
 use desk_packing::events;
 use desk_packing::runs;
 use desk_packing::sessions;
@@ -23,7 +23,7 @@ ghost use Rattle.desk_packing_law.specs.Sessions.{isSession};
 ghost use Rattle.desk_packing_law.specs.Answers.{answerOf};
 ghost use Rattle.desk_law.specs.Calls.{openedFrom, OpenedAs, strangeVerdict, AppliedOn, soundOn, viewOn};
 
-// The opening that a run of settings asks for.
+// The opening that the numbers of settings ask for.
 fn opened(gs: &[u64]) -> Opened
     requires { ⌜ settingsLength ≤ length (now gs) ⌝ }
     ensures { λ r. ⌜ r ≡ openedFrom (now (gs .entry)) ⌝ }
@@ -38,7 +38,7 @@ fn opened(gs: &[u64]) -> Opened
     opening::begin(settings::unpack(gs))
 }
 
-// What a verdict is answered where nothing is counted.
+// The answer for a verdict, where nothing is counted.
 fn answer_to(v: Verdict) -> u64
     ensures { λ r. ⌜ r ≡ answerOf v 0 ⌝ }
 {
@@ -48,7 +48,7 @@ fn answer_to(v: Verdict) -> u64
     }
 }
 
-// Opens a session: 0 and the session, or 12 or 13 and the fixed session; 1 for a short run.
+// Opens a session: 0 and the session, or 12 or 13 and the fixed session; 1 if a slice is too short.
 #[no_mangle]
 pub extern "C" fn kakoludar_open(settings: &[u64], session: &mut [u64]) -> u64
     ensures { λ r. ⌜ OpenedAs (now (settings .entry)) (now (session .entry)) (now (session .exit)) r ⌝ }
@@ -67,7 +67,7 @@ pub extern "C" fn kakoludar_open(settings: &[u64], session: &mut [u64]) -> u64
     answer_to(verdict)
 }
 
-// What an event is answered on numbers that are no session's: the fixed session that stands for them is not sound.
+// The answer to an event on numbers that are no session's: the fixed session, which stands for them, is not sound.
 fn turned_away(buys: &[u64], sells: &[u64], room: &[u64]) -> u64
     ensures { λ r. ⌜ r ≡ answerOf (strangeVerdict (now (buys .entry)) (now (sells .entry)) (now (room .entry))) 0 ⌝ }
 {
@@ -77,7 +77,7 @@ fn turned_away(buys: &[u64], sells: &[u64], room: &[u64]) -> u64
     desk_answers::refused(Refusal::Unsound)
 }
 
-// An event on runs that are long enough, of which the first is a session's.
+// Applies an event, where the slices are long enough and the first is a session's.
 fn carried(
     session: &mut [u64],
     event: &[u64],
@@ -103,7 +103,7 @@ fn carried(
     }
 }
 
-// Applies an event: the count of its reports, or a refusal, which writes nothing.
+// Applies an event and answers the count of its reports, or a refusal, which writes nothing.
 #[no_mangle]
 pub extern "C" fn kakoludar_apply(
     session: &mut [u64],
@@ -126,7 +126,7 @@ pub extern "C" fn kakoludar_apply(
     carried(session, event, buys, sells, room)
 }
 
-// Whether a session is sound, with the orders in its tables.
+// Whether a session is sound, with the orders in its tables: 1 or 0.
 #[no_mangle]
 pub extern "C" fn kakoludar_sound(session: &[u64], buys: &[u64], sells: &[u64]) -> u64
     ensures { λ r. ⌜ r ≡ soundOn (now (session .entry)) (now (buys .entry)) (now (sells .entry)) ⌝ }

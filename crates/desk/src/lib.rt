@@ -1,6 +1,6 @@
-// desk: the boundary for apps: functions of C on plain numbers and bytes, which the app lends and keeps.
+// desk: the boundary for apps: C functions on plain numbers and bytes, which the app lends and keeps.
 // It may use every crate below it. It promises, for any content and any length of every lent slice: the answer, and each lent number and
-// byte afterwards, are those of desk_law; a refusal writes nothing, but that a refused opening lays the fixed session.
+// byte afterwards, are those of desk_law; a refusal writes nothing, except that a refused opening writes the fixed session.
 
 pub mod calls;
 pub mod line_calls;

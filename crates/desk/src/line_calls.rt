@@ -28,7 +28,7 @@ pub fn wrote(w: Wrote) -> u64
     }
 }
 
-// Reads the event whose line the bytes start with: the bytes that it took, 14, or 15 with the place.
+// Reads the event whose line the bytes start with; answers how many bytes it took, or 14, or 15 with the place.
 #[no_mangle]
 pub extern "C" fn kakoludar_read_event(line: &[u8], event: &mut [u64]) -> u64
     ensures { λ r. ⌜ EventReadInto (now (line .entry)) (now (event .entry)) (now (event .exit)) r ⌝ }
@@ -47,7 +47,7 @@ pub extern "C" fn kakoludar_read_event(line: &[u8], event: &mut [u64]) -> u64
     }
 }
 
-// Reads the settings whose line the bytes start with.
+// Reads the settings whose line the bytes start with; answers as for an event.
 #[no_mangle]
 pub extern "C" fn kakoludar_read_settings(line: &[u8], settings: &mut [u64]) -> u64
     ensures { λ r. ⌜ SettingsReadInto (now (line .entry)) (now (settings .entry)) (now (settings .exit)) r ⌝ }
@@ -66,7 +66,7 @@ pub extern "C" fn kakoludar_read_settings(line: &[u8], settings: &mut [u64]) -> 
     }
 }
 
-// Numbers that are no report's have no line: none is written, and the room is judged as for any line.
+// The answer where numbers are no report's: no line is written, but the line room is judged as for any line.
 fn no_line(line: &[u8]) -> u64
     ensures { λ r. ⌜ r ≡ answerOf (lineVerdict (now (line .entry)) []) 0 ⌝ }
 {
@@ -76,7 +76,7 @@ fn no_line(line: &[u8]) -> u64
     desk_answers::done(0)
 }
 
-// Writes the line of a report, from its record: the bytes written, none for numbers that are no report's, or a refusal.
+// Writes the line of a report, from its record; answers how many bytes it has, 0 where the numbers are no report's, or a refusal.
 #[no_mangle]
 pub extern "C" fn kakoludar_write_report(report: &[u64], line: &mut [u8]) -> u64
     ensures { λ r. ⌜ ReportWrittenOn (now (report .entry)) (now (line .entry)) (now (line .exit)) r ⌝ }

@@ -1,4 +1,4 @@
-// Where a session stands, as numbers; and the numbers by which an app and this library know each other.
+// Where a session stands, as numbers; and the numbers by which an app knows this library and its layout.
 use desk_packing::runs;
 use desk_packing::sessions;
 use engine::standings;
@@ -17,7 +17,7 @@ pub const STANDING: usize = 14;
 
 pub const VERSION: u64 = 2000;
 
-// The run of a standing.
+// The numbers of a standing.
 fn packed(st: Standing) -> [u64; 14]
     ensures { λ r. ⌜ r ≡ standingNumbers st ⌝ }
 {
@@ -42,7 +42,7 @@ fn packed(st: Standing) -> [u64; 14]
     ]
 }
 
-// Lays what a look came to, unless it was refused; answers 0 or the refusal.
+// Writes a standing, unless the call was refused; answers 0 or the refusal.
 fn lay_stood(run: &mut [u64], stood: Stood) -> u64
     requires { ⌜ standingLength ≤ length (now run) ⌝ }
     ensures { λ r. ⌜ LaidStood stood (now (run .entry)) (now (run .exit)) r ⌝ }
@@ -59,7 +59,7 @@ fn lay_stood(run: &mut [u64], stood: Stood) -> u64
     }
 }
 
-// Where a session stands: 0 and 14 numbers; 1 for a short run or table, 2 for a session that is not sound, and nothing written.
+// Where a session stands: 0 and 14 numbers; or 1 if a slice is too short, 2 if the session is not sound, with nothing written.
 #[no_mangle]
 pub extern "C" fn kakoludar_standing(
     session: &[u64],

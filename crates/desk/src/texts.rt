@@ -1,4 +1,4 @@
-// The calls on text: session lines in, report lines out, between them a run of numbers that an app keeps.
+// The calls on text: session lines in, report lines out. Between calls the app keeps the run as numbers.
 use feed::lines;
 use feed_law::Run;
 use feed_law::Stop;
@@ -13,7 +13,7 @@ ghost use Rattle.desk_law.specs.Feeding.{StartedAs, countsLength, stopNumber, i
 
 pub const COUNTS: usize = 2;
 
-// Lays a run before its first line; 1 for a short one.
+// Writes a run that has taken no line yet; 1 if the slice is too short.
 #[no_mangle]
 pub extern "C" fn kakoludar_start(run: &mut [u64]) -> u64
     ensures { λ r. ⌜ StartedAs (now (run .entry)) (now (run .exit)) r ⌝ }
@@ -25,7 +25,7 @@ pub extern "C" fn kakoludar_start(run: &mut [u64]) -> u64
     desk_answers::done(0)
 }
 
-// What a stop is answered.
+// The answer for the reason why no further line was taken.
 fn answer_to(stop: Stop) -> u64
     ensures { λ r. ⌜ r ≡ stopNumber stop ⌝ }
 {
@@ -48,7 +48,7 @@ fn is_refusal(stop: Stop) -> bool
     }
 }
 
-// Lays where the run stands, and both counts.
+// Writes the run, and both counts.
 fn lay_after(run: &mut [u64], counts: &mut [u64], after: Run, used: usize, wrote: usize)
     requires { ⌜ (runLength ≤ length (now run)) × (countsLength ≤ length (now counts)) ⌝ }
     ensures { λ _. ⌜ LaidAfter (now (run .entry)) (now (counts .entry)) after used wrote (now (run .exit)) (now (counts .exit)) ⌝ }
@@ -58,7 +58,7 @@ fn lay_after(run: &mut [u64], counts: &mut [u64], after: Run, used: usize, wrote
     counts[1] = wrote as u64;
 }
 
-// Lays where the run stands after some lines and both counts, unless they were refused; answers why no further line was taken.
+// Writes the run after some lines and both counts, unless the call was refused; answers why no further line was taken.
 fn lay_taken(run: &mut [u64], counts: &mut [u64], t: Taken) -> u64
     requires { ⌜ (runLength ≤ length (now run)) × (countsLength ≤ length (now counts)) ⌝ }
     ensures { λ r. ⌜ LaidTaken (now (run .entry)) (now (counts .entry)) t (now (run .exit)) (now (counts .exit)) r ⌝ }
@@ -75,7 +75,7 @@ fn lay_taken(run: &mut [u64], counts: &mut [u64], t: Taken) -> u64
     answer
 }
 
-// Takes the whole lines of some bytes and prints what they say. Answers why it took no more; the counts are the bytes taken and the
+// Takes the whole lines of some bytes and prints what they say. Answers why it took no more; the counts are of the bytes taken and the
 // bytes printed. A refusal writes nothing.
 #[no_mangle]
 pub extern "C" fn kakoludar_feed(
@@ -100,7 +100,7 @@ pub extern "C" fn kakoludar_feed(
     lay_taken(run, counts, taken)
 }
 
-// The same with the last bytes of the input: where no whole line is left, the end is told and the run is over.
+// The same with the last bytes of the input: once no whole line is left, the end of the input is judged too, and the run is over.
 #[no_mangle]
 pub extern "C" fn kakoludar_end(
     run: &mut [u64],

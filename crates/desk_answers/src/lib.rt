@@ -1,5 +1,5 @@
-// desk_answers: what a call answers, as one number: a code, and a count.
-// It may use terms and desk_packing_law. It promises: the number is the definition of desk_packing_law, so code and count can be got back from it.
+// desk_answers: what a call answers, as one number: a code and a count.
+// It may use terms and desk_packing_law. It promises: the number is the definition of desk_packing_law, so code and count can be read from it.
 
 use terms::Refusal;
 use terms::numbers;
@@ -19,7 +19,7 @@ pub fn number(code: u64, count: u64) -> u64
     code + CODES * count
 }
 
-// Done, with a count.
+// The answer of a call that did what was asked, with a count.
 pub fn done(count: u64) -> u64
     requires { ⌜ count ≤ countMost ⌝ }
     ensures { λ r. ⌜ r ≡ answerOf Fine count ⌝ }
@@ -27,7 +27,7 @@ pub fn done(count: u64) -> u64
     number(0, count)
 }
 
-// A refusal.
+// The answer of a refused call.
 pub fn refused(r: Refusal) -> u64
     ensures { λ n. ⌜ n ≡ answerOf (Refused r) 0 ⌝ }
 {
@@ -35,7 +35,7 @@ pub fn refused(r: Refusal) -> u64
     number(code, 0)
 }
 
-// 15, with the place.
+// The answer 15, with the place.
 pub fn wrong_at(place: usize) -> u64
     requires { ⌜ place ≤ countMost ⌝ }
     ensures { λ r. ⌜ r ≡ answerNumber (numberOf LineWrong) place ⌝ }

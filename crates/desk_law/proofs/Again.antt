@@ -1,5 +1,5 @@
--- WHAT A CALL LAYS INTO A RUN IS FOUND AGAIN BY THE NEXT: calls on runs of numbers are calls on sessions, events and settings. So every
--- promise on runs of calls of the engine holds of an app that keeps its numbers between calls.
+-- WHAT A CALL WRITES, THE NEXT CALL READS: calls on an app's numbers are calls on sessions, events and settings. So every promise on runs
+-- of calls of the engine holds for an app that keeps its numbers between calls.
 use Prim.Native.Nat.{ℕ, _≤_}
 use mathlib.Core.Path.{_≡_, refl, sym, ap, _∙_}
 use mathlib.Core.List.{List}
@@ -45,7 +45,7 @@ opened-again gs run run′ r h k o =
 
 -- ---- apply
 
--- by the verdict: an accepted event's session is laid, a refused one's run stays
+-- an accepted event's session is written, and a refused one leaves the numbers as they were
 run-again : (run : List ℕ) (s : Session) (e : Event) (buys sells room : List ℕ) → s ≡ sessionFrom run →
     sessionFrom (runBy (called s e buys sells room .verdict) (called s e buys sells room .day .session) run) ≡ called s e buys sells room .day .session
 unfolding called
@@ -64,7 +64,7 @@ applied-again run event buys sells room run′ buys′ sells′ room′ r h k o 
     ap sessionFrom (o .kept)
     ∙ rw (le-ltb (length run) sessionLength h, le-ltb (length event) eventLength k) (run-again run (sessionFrom run) (eventFrom event) buys sells room refl)
 
--- ---- the readers
+-- ---- the calls that read a line
 
 pub event-again : (line run run′ : List ℕ) (r : ℕ) (e : Event) (n : ℕ) → eventLength ≤ length run → readEvent line ≡ whole e n → EventReadInto line run run′ r →
     eventFrom run′ ≡ e

@@ -1,4 +1,4 @@
--- What an app is told of an event is the paper's number and the count of what the engine answers to it.
+-- What an app is answered for an event is the paper's number and the count of what the engine answers to it.
 use Prim.Native.Nat.{ℕ, _≤_}
 use borrow.Author.Tests.{le-ltb}
 use mathlib.Core.Path.{_≡_, refl, sym, ap, _∙_}
@@ -17,7 +17,7 @@ use Rattle.desk_packing_law.specs.Events.{eventFrom}
 use Rattle.desk_packing_law.specs.Answers.{answerNumber, answerOf}
 use Rattle.desk_law.specs.Calls.{calledOn, AppliedOn}
 
--- an answer of the engine as one number
+-- the engine's answer as one number
 abbrev pub numberFor : Answer → ℕ
 numberFor a = answerNumber (answerCode a) (answerCount a)
 
@@ -30,7 +30,7 @@ module _ (run event buys sells room : List ℕ) (s : sessionLength ≤ length ru
   unfolding calledOn
   on-day = rw (le-ltb (length run) sessionLength s, le-ltb (length event) eventLength e)
 
-  -- `kakoludar_apply` and `engine::apply`, on the same session, event, tables and room
+  -- `kakoludar_apply` and `engine::apply` answer alike, on the same session, event, tables and room
   pub engine-answered : (run₁ buys₁ sells₁ room₁ buys₂ sells₂ room₂ : List ℕ) (r : ℕ) (a : Applied) →
       AppliedOn run event buys sells room run₁ buys₁ sells₁ room₁ r →
       AppliedAs (sessionFrom run) (eventFrom event) buys sells room buys₂ sells₂ room₂ a → r ≡ numberFor (a .answer)

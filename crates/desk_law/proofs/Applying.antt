@@ -1,4 +1,4 @@
--- What an event on runs of numbers leaves, as code comes to it, by the engine's answer.
+-- Each return of `kakoludar_apply` leaves what the definition says, given the engine's answer.
 use Prim.Native.Nat.{ℕ, _≤_, _<_}
 use native.Mathlib.Omega.{arith}
 use mathlib.Core.Path.{_≡_, refl, sym, _∙_}
@@ -45,7 +45,7 @@ answered-fine : (v : Verdict) (k count : ℕ) → Answer.Reported count ≡ answ
 answered-fine Fine k count p = (refl, cc)
 answered-fine (Refused r) k count p = absurd (let z : _≡_ {A = ℕ} 0 1 = cc in omega arith)
 
--- the reports of a call are few enough for the room
+-- a call's reports are no more than the room holds
 called-few : (s : Session) (e : Event) (buys sells room : List ℕ) → length (called s e buys sells room .reports) ≤ reportsMost
 unfolding called callVerdict refusalOf
 called-few s e buys sells room = go (callVerdict s e buys sells room) refl
@@ -82,7 +82,7 @@ module _ (buys sells room : List ℕ) (found : Bool) (h : found ≡ roomy buys s
   strange-unsound t e = rw (← h, not-false found t) e
 
 module _ (run event buys sells room : List ℕ) (r : ℕ) where
-  -- ---- a run that is short
+  -- ---- the session's numbers or the event's are too few
 
   pub apply-no-session : length run < sessionLength → r ≡ answerOf (Refused SmallRoom) 0 → AppliedOn run event buys sells room run buys sells room r
   unfolding calledOn recordsOf
@@ -98,7 +98,7 @@ module _ (run event buys sells room : List ℕ) (r : ℕ) where
         let t = lt-ltb (length event) eventLength k in
         record { answer = rw (s, t) e; kept = rw (s, t); bought = rw (s, t); sold = rw (s, t); told = rw (s, t) (sym (put-none room 0)) }
 
-    -- ---- runs that are long enough: numbers that are no session's are turned away
+    -- ---- they are enough, but the first are no session's
 
     module _ (k : eventLength ≤ length event) where
       turned : (n : Refusal) → callVerdict (sessionFrom run) (eventFrom event) buys sells room ≡ Refused n → r ≡ answerOf (Refused n) 0 →
@@ -124,7 +124,7 @@ module _ (run event buys sells room : List ℕ) (r : ℕ) where
           (λ w. turned Unsound (rw (w, unsound)) (rw w at e))
           (λ w. turned SmallRoom (rw w) (rw w at e))
 
-    -- ---- what the engine's call came to
+    -- ---- they are a session's, and the engine is called
 
     module _ (k : eventLength ≤ length event) (s : Session) (e : Event) (i : s ≡ sessionFrom run) (j : e ≡ eventFrom event) where
       abbrev out : Outcome

@@ -1,4 +1,4 @@
--- Each result at the boundary is an equation against the definitions, so two are equal.
+-- Each contract gives every result by an equation, so two results for one input are equal.
 use mathlib.Core.Path.{sym, _∙_}
 use Rattle.desk_law.specs.Determined.{OpenDetermined, ApplyDetermined, ReadDetermined, WriteDetermined, StartDetermined, FeedDetermined, SoundDetermined, ViewDetermined, StandingDetermined, VersionDetermined, LayoutDetermined}
 

@@ -1,4 +1,4 @@
--- What a reader's answer leaves, as code comes to it: the answer is the right one for the bytes, and no place is past a line.
+-- Each return of the calls that read a line leaves what the definition says: the answer is the right one, and no count exceeds a line's length.
 use Prim.Native.Nat.{ℕ, _≤_, _<_}
 use native.Mathlib.Omega.{arith}
 use mathlib.Core.Path.{_≡_, ap, _∙_}
@@ -28,7 +28,7 @@ use Rattle.desk_packing_law.specs.Answers.{countMost, answerNumber, answerOf}
 use Rattle.desk_law.specs.Reads.{ReadInto, EventReadInto, SettingsReadInto}
 use Rattle.lines_writing_law.proofs.Short.{event-short, settings-short}
 
--- ---- of any lines that are no longer than a line room
+-- ---- lines of any sort, if none is longer than a line room
 
 module _ {E : Type 0} (L : E → List ℕ → Type 0) (short : (e : E) (bs : List ℕ) → L e bs → length bs ≤ lineRoom) where
   whole-few : (b : List ℕ) (e : E) (n : ℕ) → Right L b (whole e n) → n ≤ countMost
@@ -39,7 +39,7 @@ module _ {E : Type 0} (L : E → List ℕ → Type 0) (short : (e : E) (bs : Lis
       let m : n ≤ length b = omega arith in
       omega (arith, length-take-le n b m, length-append (take n b) rest, short e (take n b ++ rest) l)
 
--- ---- what is left, by the answer
+-- ---- what is left, by the reader's answer
 
 module _ {E : Type 0} (numbers : E → List ℕ) (m : ℕ) (a : Answer E) (run : List ℕ) (r : ℕ) where
   read-short : length run < m → r ≡ answerOf (Refused SmallRoom) 0 → ReadInto numbers m a run run r
@@ -61,7 +61,7 @@ event-lines-short : (e : Event) (bs : List ℕ) → EventLine e bs → length bs
 event-lines-short e bs (q, _) = rw q (event-short e)
 
 module _ (line : List ℕ) (o : ReadEvent) (right : EventRead line o) where
-  -- the answer is the one that the definition computes
+  -- the reader's answer is the one that the definition computes
   event-is : (b : Answer Event) → eventAnswer o ≡ b → readEvent line ≡ b
   event-is b q = event-only line (readEvent line) (eventAnswer o) (event-right line) (right .right) ∙ q
 

@@ -1,4 +1,4 @@
--- What a writer's answer leaves, as code comes to it, by what the numbers were.
+-- Each return of the calls that write a line leaves what the definition says.
 use Prim.Native.Nat.{ℕ, _≤_, _<_}
 use native.Mathlib.Omega.{arith}
 use mathlib.Core.Path.{_≡_, refl, ap, _∙_}
@@ -32,7 +32,7 @@ use Rattle.desk_packing_law.specs.Answers.{countMost, answerOf}
 use Rattle.desk_law.specs.Writes.{wroteNumber, Few, WrittenOn, settingsVerdictOn, SettingsWrittenOn, eventVerdictOn, EventWrittenOn, reportIn, reportVerdictOn, ReportWrittenOn}
 use Rattle.lines_writing_law.proofs.Short.{event-short, settings-short, report-short}
 
--- ---- of any line
+-- ---- lines of any sort
 
 pub wrote-few : (v : Verdict) (n : ℕ) (w : Wrote) → n ≤ countMost → w ≡ wroteOf v n → Few w
 wrote-few Fine n w h e = rw e h
@@ -52,7 +52,7 @@ writes-on v room line ns room′ w r e k x =
 refused-on : (v : Verdict) (n : Refusal) (line room : List ℕ) (r : ℕ) → v ≡ Refused n → r ≡ answerOf (Refused n) 0 → WrittenOn v line room room r
 refused-on v n line room r e x = record { answer = rw e x; laid = rw e }
 
--- ---- settings; code tests `found`, which is whether the category is one
+-- ---- settings; `found` is the outcome of the code's test whether the category is one
 
 module _ (run room : List ℕ) (r : ℕ) where
   pub settings-no-run : length run < settingsLength → r ≡ answerOf (Refused SmallRoom) 0 → SettingsWrittenOn run room room r
@@ -97,7 +97,7 @@ event-few e room room′ w p = writes-few room (renderEvent e) (eventNumbers e) 
 
 -- ---- reports
 
--- no line leaves the room as it was, whatever the verdict
+-- where there is no line to write, the room stays as it was, whatever the verdict
 none-written : (v : Verdict) (room : List ℕ) → room ≡ roomOf v [] room
 none-written Fine room = refl
 none-written (Refused r) room = refl
@@ -111,7 +111,7 @@ module _ (room : List ℕ) (r : ℕ) where
   unfolding lineVerdict firstFailed allWritable
   no-line-done h x = rw (le-leb lineRoom (length room) h) x
 
--- what the reader of records finds is what the definition computes
+-- what the reader of records answers is what the definition computes
 report-is : (run : List ℕ) (o : ReadRecord) → recordLength ≤ length run → RecordRead (take recordLength (drop 0 run)) o → o ≡ reportIn run
 unfolding reportIn
 report-is run o h p =

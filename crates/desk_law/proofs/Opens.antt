@@ -1,4 +1,4 @@
--- What an opening on runs of numbers leaves, as code comes to it.
+-- Each return of `kakoludar_open` leaves what the definition says.
 use Prim.Native.Nat.{ℕ, _≤_, _<_}
 use mathlib.Core.Path.{_≡_}
 use mathlib.Core.Bool.{Bool, true, false, not}
@@ -18,7 +18,7 @@ use Rattle.desk_packing_law.specs.Sessions.{sessionNumbers}
 use Rattle.desk_packing_law.specs.Answers.{answerOf}
 use Rattle.desk_law.specs.Calls.{openedFrom, OpenedAs}
 
--- code tests `found`, which is whether the category is one
+-- `found` is the outcome of the code's test whether the category is one
 module _ (gs : List ℕ) (found : Bool) (h : found ≡ isCategory (getD gs 0 0)) where
   pub opened-out : (s : Session) → not found ≡ true → s ≡ fixedSession → record { verdict = Refused SettingsRange; session = s } ≡ openedFrom gs
   unfolding openedFrom

@@ -1,4 +1,4 @@
--- What a look at where a session stands leaves, as code comes to it.
+-- Each return of `kakoludar_standing` leaves what the definition says.
 use Prim.Native.Nat.{ℕ, _≤_, _<_}
 use mathlib.Core.Path.{_≡_}
 use mathlib.Core.List.{List, [], _∷_}
@@ -17,7 +17,7 @@ use Rattle.desk_packing_law.specs.Sessions.{flag, sessionFrom}
 use Rattle.desk_packing_law.specs.Answers.{answerOf}
 use Rattle.desk_law.specs.Standings.{standingLength, standingNumbers, stoodOn, LaidStood, StandingOn}
 
--- ---- its numbers, with the flag that code has for the cooling-off
+-- ---- the numbers of a standing, with the code's flag for the cooling-off
 
 pub standing-packed : (st : Standing) (n : ℕ) → n ≡ flag (st .cooling) →
     st .percent ∷ st .band .low ∷ st .band .high ∷ st .range .low ∷ st .range .high ∷ st .reference ∷ n ∷ st .ends ∷ st .price ∷ st .lots ∷ st .buys ∷ st .sells ∷ st .given ∷ st .trades ∷ []
@@ -34,7 +34,7 @@ pub stood-laid : {a : Stood} {standing standing′ ns : List ℕ} {r : ℕ} → 
     standing′ ≡ put standing 0 ns → r ≡ answerOf Fine 0 → LaidStood a standing standing′ r
 stood-laid e n l k = record { answer = rw e k; laid = rw (e, ← n) l }
 
--- ---- two short runs, and the look
+-- ---- two slices that may be too short, and then the engine's call
 
 module _ {run buys sells standing : List ℕ} {r : ℕ} where
   pub stand-no-session : length run < sessionLength → r ≡ answerOf (Refused SmallRoom) 0 → StandingOn run buys sells standing standing r

@@ -1,4 +1,4 @@
--- What an app reads in the numbers of a standing is what orders are judged by.
+-- An app reads in the numbers of a standing what orders are judged by.
 use Prim.Native.Nat.{ℕ}
 use native.Mathlib.Omega.{arith}
 use mathlib.Core.Path.{_≡_, refl, sym, ap, _∙_}
@@ -29,12 +29,12 @@ use Rattle.desk_packing_law.specs.Sessions.{flag, sessionFrom}
 use Rattle.desk_packing_law.specs.Answers.{answerOf}
 use Rattle.desk_law.specs.Standings.{standingLength, standingNumbers, stoodOn, standingBy, StandingOn}
 
--- an answer of 0 is no refusal's
+-- only a verdict without a refusal is answered 0
 done-fine : (v : Verdict) → 0 ≡ answerOf v 0 → v ≡ Fine
 done-fine Fine e = refl
 done-fine (Refused r) e = absurd (omega (arith, refusal-number r .0))
 
--- so the runs were long enough
+-- so both slices were long enough
 long-stood : (short : Stood) (a b : Bool) (st : Stood) → short .verdict ≡ Refused SmallRoom → cond a short (cond b short st) .verdict ≡ Fine →
     cond a short (cond b short st) ≡ st
 long-stood short true b st e f = let no : Refused SmallRoom ≡ Fine = sym e ∙ f in cc
@@ -61,7 +61,7 @@ module _ (run buys sells standing ns : List ℕ) (a : StandingOn run buys sells 
   laid : ns ≡ put standing 0 (standingNumbers st)
   laid = a .stood .laid ∙ ap (λ (v : Verdict). standingBy v st standing) fine
 
-  -- a limit passes row 8 just where it lies from number 1 to number 2, until the end of a cooling-off, number 7, where number 6 is 1
+  -- a limit passes row 8 exactly where it lies from number 1 to number 2; this holds until a cooling-off ends, at number 7, if number 6 is 1
   pub limit-read : (side : Side) (x : ℕ) (life : Life) (lots t : ℕ) → (eqb (getD ns 6 0) 1 && leb (getD ns 7 0) t) ≡ false →
       bandRight (bandNow (clockStep (sessionFrom run) t)) (Enter (record { side = side; kind = Limit x; life = life; lots = lots }))
       ≡ between (getD ns 1 0) x (getD ns 2 0)
@@ -70,7 +70,7 @@ module _ (run buys sells standing ns : List ℕ) (a : StandingOn run buys sells 
       let waits : (st .cooling && leb (st .ends) t) ≡ false = rw (← flagged (st .cooling)) (rw laid at e) in
       rw laid (limit-shown (sessionFrom run) buys sells st side x life lots t shown waits)
 
-  -- a price of the other side is in range just where it lies from number 3 to number 4
+  -- a counter price is in range exactly where it lies from number 3 to number 4
   pub counter-read : (x : ℕ) → inRange (rangeNow (sessionFrom run)) x ≡ between (getD ns 3 0) x (getD ns 4 0)
   unfolding put standingNumbers
   counter-read x = rw laid (counter-shown (sessionFrom run) buys sells st x shown)

@@ -1,4 +1,4 @@
--- TEXT IN PIECES: a run that a call lays is the one that the next call finds; and a call that is refused writes nothing.
+-- TEXT IN PIECES: the run that a call writes is the one that the next call reads; and a refused call writes nothing.
 use Prim.Native.Nat.{ℕ, _-_, _≤_}
 use native.Mathlib.Omega.{arith}
 use mathlib.Core.Path.{_≡_, refl, sym, ap, _∙_}
@@ -39,7 +39,7 @@ use Rattle.state_law.specs.code.Tens.{Ten}
 use Rattle.state_law.proofs.Tens.{fixed-ten, opening-ten}
 use Rattle.desk_packing_law.proofs.StageInverse.{run-laid-back}
 
--- ---- the arrays of a session have ten numbers, whatever lines there are
+-- ---- a session's arrays have ten numbers, whatever lines are taken
 
 run-ten : (ns : List ℕ) → Ten (runFrom ns .session)
 unfolding runFrom
@@ -75,7 +75,7 @@ fed-ten left stage l bytes =
     fed-by calls (λ left stage l xs f. Ten (l .session) → Ten (f .world .session)) (λ left stage l xs h t. t) (λ left stage l xs h t. t)
     (λ left stage l xs h z t. turn-ten stage l xs t) (λ left stage l xs f u k t. k (turn-ten stage l xs t)) (length bytes) left stage l bytes (omega arith)
 
--- ---- a call never refuses what has its tables and its room
+-- ---- a call with long enough tables and room is not refused
 
 stop-fine : (stage : Stage) → isRefusal (stopAt stage) ≡ false
 stop-fine Stage.Awaiting = refl
@@ -93,9 +93,9 @@ end-fine Stop.Full left rest f e = e
 end-fine Stop.Over left rest f e = e
 end-fine (Stop.Refused r) left rest f e = e
 
--- ---- what both calls have in common: they move a session of ten to one of ten; and a refusal leaves all as it was
+-- ---- for feed and end alike: a session whose arrays have ten numbers stays one; and a refusal leaves everything as it was
 
--- what is lent is as it was, and nothing is printed
+-- the call leaves what is lent as it was, and prints nothing
 pub record Idle (buys sells room : List ℕ) (f : Fed Lent) : Type 0 where
   pub bought : f .world .buys ≡ buys
   pub sold : f .world .sells ≡ sells
@@ -144,7 +144,7 @@ end-calls =
     end-idle Stop.Over left rest f q e k = k e
     end-idle (Stop.Refused r) left rest f q e k = k e
 
--- ---- what is laid is found
+-- ---- what a call writes, the next call reads
 
 pub started-again : (run run′ : List ℕ) (r : ℕ) → runLength ≤ length run → StartedAs run run′ r → runFrom run′ ≡ begun
 unfolding startVerdict
@@ -160,7 +160,7 @@ module _ (of : Feed) (law : Calls of)
   unfolding fedOn
   on-lines h k = rw (le-ltb (length run) runLength h, le-ltb (length counts) countsLength k)
 
-  -- the run that a call lays is the one that the next call finds
+  -- the run that a call writes is the one that the next call reads
   pub fed-again : runLength ≤ length run → countsLength ≤ length counts → isRefusal (fed .stop) ≡ false →
       runFrom run′ ≡ runAfter (of (runFrom run) buys sells room bytes out)
   fed-again h k e =
@@ -193,11 +193,11 @@ module _ (of : Feed) (law : Calls of)
 
 -- ---- text in pieces
 
--- all that is printed for some bytes by a run that is kept as numbers
+-- all that a run, kept as numbers, prints for some bytes
 abbrev pub printedBy : List ℕ → List ℕ → List ℕ → List ℕ → List ℕ → List ℕ
 printedBy run buys sells room bytes = printedFrom calls (runFrom run .stage) (lentOf (runFrom run .session) buys sells room) bytes
 
--- what is not refused is the lines of the bytes
+-- a call that is not refused takes the lines of the bytes
 of-lines : (run : Run) (buys sells room bytes out : List ℕ) → isRefusal (fedOf run buys sells room bytes out .stop) ≡ false →
     fedOf run buys sells room bytes out ≡ linesOf run buys sells room bytes out
 unfolding fedOf
@@ -224,7 +224,7 @@ module _ (run bytes buys sells room out counts run′ buys′ sells′ room′ o
     found : runFrom run′ ≡ runAfter f
     found = fed-again of law run bytes buys sells room out counts run′ buys′ sells′ room′ out′ counts′ r p h k fine
 
-    -- where the next call finds the run, and what it is lent
+    -- the stage that the next call reads, and the tables and room that it is lent
     next-stage : runFrom run′ .stage ≡ f .stage
     next-stage = ap (λ (x : Run). x .stage) found
 
@@ -233,7 +233,7 @@ module _ (run bytes buys sells room out counts run′ buys′ sells′ room′ o
         let l = p .left in
         rw (ap (λ (x : Run). x .session) found, l .bought, l .sold, l .told, is-f)
 
-  -- what a feed prints, and what is then printed for the bytes that are left and those that follow, is what is printed for all of them
+  -- what a feed prints, and what is then printed for the bytes left and those that follow, is together what is printed for all of them
   pub fed-pieces : FedAs fedOf run bytes buys sells room out counts run′ buys′ sells′ room′ out′ counts′ r →
       isRefusal (fedOn fedOf run bytes buys sells room out counts .stop) ≡ false → (more : List ℕ) →
       let g : Fed Lent = fedOf start buys sells room bytes out in
@@ -243,7 +243,7 @@ module _ (run bytes buys sells room out counts run′ buys′ sells′ room′ o
       rw (next-stage fedOf feed-calls p fine, next-lent fedOf feed-calls p fine, j)
       (pieces calls (length out) (start .stage) (lentOf (start .session) buys sells room) bytes more)
 
-  -- an end that is not refused is the end behind the lines of the bytes
+  -- an end that is not refused takes the lines of the bytes, and then the end
   end-lines : isRefusal (endedOf start buys sells room bytes out .stop) ≡ false →
       endedOf start buys sells room bytes out ≡ fedToEnd calls (length out) (start .stage) (lentOf (start .session) buys sells room) bytes
   unfolding endedOf endBehind
@@ -258,8 +258,8 @@ module _ (run bytes buys sells room out counts run′ buys′ sells′ room′ o
       before Stop.Over left rest f q e = e
       before (Stop.Refused r) left rest f q e = e
 
-  -- what the end prints, and what is then printed for the bytes that are left, is what is printed for all of them; and unless the room is
-  -- to be emptied first, nothing is left to be printed
+  -- what the end prints, and what is then printed for the bytes left, is together what is printed for all of them; and unless the output room
+  -- has to be emptied first, nothing is left to be printed
   pub ended-prints : FedAs endedOf run bytes buys sells room out counts run′ buys′ sells′ room′ out′ counts′ r →
       isRefusal (fedOn endedOf run bytes buys sells room out counts .stop) ≡ false →
       let g : Fed Lent = endedOf start buys sells room bytes out in

@@ -1,4 +1,4 @@
--- What text in and text out leaves, as code comes to it.
+-- Each return of the calls on text leaves what the definition says.
 use Prim.Native.Nat.{ℕ, _≤_, _<_}
 use native.Mathlib.Omega.{arith}
 use mathlib.Core.Path.{_≡_, refl, sym, ap, _∙_}
@@ -30,7 +30,7 @@ module _ (run : List ℕ) (r : ℕ) where
   unfolding startVerdict
   start-done b run′ h e l a = let s = le-ltb (length run) runLength h in record { answer = rw s a; laid = rw (s, ← e) l }
 
--- ---- both counts
+-- ---- the two counts
 
 two-laid : (counts : List ℕ) (a b : ℕ) → countsLength ≤ length counts → set (set counts 0 a) 1 b ≡ put counts 0 (a ∷ b ∷ [])
 unfolding put
@@ -42,7 +42,7 @@ pub after-laid : (run counts run′ : List ℕ) (after : Run) (used wrote : ℕ)
     LaidAfter run counts after used wrote run′ (set (set counts 0 used) 1 wrote)
 after-laid run counts run′ after used wrote h l = record { kept = l; counted = two-laid counts used wrote h }
 
--- ---- lines that were taken
+-- ---- what is written for lines that were taken
 
 module _ {run counts : List ℕ} {t : Taken} {r : ℕ} {refused : Bool} (q : refused ≡ isRefusal (t .stop)) (x : r ≡ stopNumber (t .stop)) where
   pub laid-not : refused ≡ true → LaidTaken run counts t run counts r
@@ -55,7 +55,7 @@ module _ {run counts : List ℕ} {t : Taken} {r : ℕ} {refused : Bool} (q : ref
 -- ---- feed and end
 
 module _ {of : Feed} {run bytes buys sells room out counts : List ℕ} {r : ℕ} where
-  -- a short run of numbers
+  -- the run's numbers or the counts are too few
   pub feed-no-run : length run < runLength → r ≡ answerOf (Refused SmallRoom) 0 →
       FedAs of run bytes buys sells room out counts run buys sells room out counts r
   unfolding fedOn
@@ -83,7 +83,7 @@ module _ {of : Feed} {run bytes buys sells room out counts : List ℕ} {r : ℕ}
               };
         }
 
-    -- runs that are long enough: what the lines came to
+    -- they are enough: what the lines come to is written
     pub feed-laid : {before : Run} {t : Taken} {run′ buys′ sells′ room′ out′ counts′ : List ℕ} → countsLength ≤ length counts → before ≡ runFrom run →
         TakenBy of before buys sells room bytes out buys′ sells′ room′ out′ t → LaidTaken run counts t run′ counts′ r →
         FedAs of run bytes buys sells room out counts run′ buys′ sells′ room′ out′ counts′ r

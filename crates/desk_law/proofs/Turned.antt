@@ -1,5 +1,5 @@
--- Numbers that are no session's or no event's are turned away in their turn: by 2, "session not sound", and by 4, "a number of the event out of
--- its range".
+-- Numbers that are no session's are refused by 2, "session not sound", and numbers that are no event's by 4, "a number of the event out of
+-- its range", if no earlier row applies.
 use Prim.Native.Nat.{ℕ}
 use mathlib.Core.Path.{_≡_}
 use mathlib.Core.Bool.{false}

@@ -1,4 +1,4 @@
--- THE CALLS ON A SESSION, on runs of numbers that an app keeps: what each answers, and what it leaves in every lent run.
+-- THE CALLS ON A SESSION, on numbers that an app keeps: what each call answers, and what it leaves in every lent slice.
 use Prim.Native.Nat.{ℕ}
 use mathlib.Core.Path.{_≡_}
 use mathlib.Core.Bool.{cond}
@@ -24,40 +24,40 @@ use Rattle.desk_packing_law.specs.Sessions.{flag, sessionNumbers, sessionFrom}
 use Rattle.desk_packing_law.specs.Events.{eventFrom}
 use Rattle.desk_packing_law.specs.Answers.{answerOf}
 
--- one thing where two runs are as long as they have to be, and another where one is short
+-- `long` where both slices have the length that they need, `short` where one has not
 abbrev pub whereLong : {A : Type 0} → List ℕ → ℕ → List ℕ → ℕ → A → A → A
 whereLong xs n ys m long short = cond (ltb (length xs) n) short (cond (ltb (length ys) m) short long)
 
 -- ---- open
 
--- a category above 7 is out of range; else "a refused one returns its number and one fixed session"
+-- settings whose category is above 7 are out of range; others are opened: "a refused one returns its number and one fixed session"
 unfoldable pub openedFrom : List ℕ → Opened
 openedFrom gs = cond (isCategory (getD gs 0 0)) (openingOf (settingsFrom gs)) (record { verdict = Refused SettingsRange; session = fixedSession })
 
--- a short run is a short table, 1, and nothing is written
+-- a slice that is too short is answered 1, as a short table, and nothing is written
 pub record OpenedAs (gs run run′ : List ℕ) (r : ℕ) : Type 0 where
   pub answer : r ≡ answerOf (whereLong gs settingsLength run sessionLength (openedFrom gs .verdict) (Refused SmallRoom)) 0
   pub laid : run′ ≡ whereLong gs settingsLength run sessionLength (put run 0 (sessionNumbers (openedFrom gs .session))) run
 
 -- ---- apply
 
--- what an event comes to, on the day that the runs hold; a short run is a short table
+-- what an event comes to on the day that the numbers hold; a slice that is too short is answered as a short table
 unfoldable pub calledOn : List ℕ → List ℕ → List ℕ → List ℕ → List ℕ → Outcome
 calledOn run event buys sells room =
     whereLong run sessionLength event eventLength
     (called (sessionFrom run) (eventFrom event) buys sells room)
     (record { verdict = Refused SmallRoom; day = dayIn (sessionFrom run) buys sells; reports = [] })
 
--- what it comes to on numbers that are no session's: "1: a table under .. numbers", "2: session not sound"
+-- the verdict on numbers that are no session's: 1, "a table under .. numbers", or 2, "session not sound"
 unfoldable pub strangeVerdict : List ℕ → List ℕ → List ℕ → Verdict
 strangeVerdict buys sells room = cond (roomy buys sells room) (Refused Unsound) (Refused SmallRoom)
 
--- the session's run: laid anew by an accepted event; "All refusals return the number and the session given, and write nothing."
+-- the session's numbers afterwards: an accepted event writes them anew; "All refusals return the number and the session given, and write nothing."
 abbrev pub runBy : Verdict → Session → List ℕ → List ℕ
 runBy Fine s run = put run 0 (sessionNumbers s)
 runBy (Refused r) s run = run
 
--- the answer, the session's run, both tables and the room, by what the event comes to
+-- the answer, and the session's numbers, both tables and the room afterwards, given what the event comes to
 pub record LeftBy (o : Outcome) (run buys sells room run′ buys′ sells′ room′ : List ℕ) (r : ℕ) : Type 0 where
   pub answer : r ≡ answerOf (o .verdict) (length (o .reports))
   pub kept : run′ ≡ runBy (o .verdict) (o .day .session) run
@@ -70,7 +70,7 @@ AppliedOn run event buys sells room run′ buys′ sells′ room′ r = LeftBy (
 
 -- ---- sound
 
--- 1 sound, 0 not, 0 too for a short run or table
+-- 1 if the session is sound; 0 if not, or if a slice is too short
 unfoldable pub soundOn : List ℕ → List ℕ → List ℕ → ℕ
 soundOn run buys sells =
     cond (ltb (length run) sessionLength) 0
@@ -78,7 +78,7 @@ soundOn run buys sells =
 
 -- ---- view
 
--- the length of the view, which starts at number 0 of the named table (1 buy, 2 sell; any other: 0)
+-- the length of the view, which starts at number 0 of the named table (1 buy, 2 sell; 0 for any other number)
 unfoldable pub viewOn : ℕ → List ℕ → List ℕ → List ℕ → ℕ
 viewOn side run buys sells =
     cond (ltb (length run) sessionLength) 0

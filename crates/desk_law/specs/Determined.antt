@@ -1,4 +1,4 @@
--- DETERMINACY AT THE BOUNDARY: what a contract allows for one input is one result. Two results of a call coincide, with every lent number.
+-- DETERMINACY AT THE BOUNDARY: a contract allows one result for one input. Two results of a call coincide, with every lent number.
 use Prim.Native.Nat.{ℕ}
 use mathlib.Core.Path.{_≡_}
 use mathlib.Core.List.{List}

@@ -1,4 +1,4 @@
--- TEXT IN AND TEXT OUT, on runs of numbers that an app keeps: what each call answers, and what it leaves in every lent slice.
+-- TEXT IN AND TEXT OUT, with a run of the program that an app keeps as numbers: what each call answers and leaves in every lent slice.
 use Prim.Native.Nat.{ℕ}
 use mathlib.Core.Path.{_≡_}
 use mathlib.Core.Bool.{Bool, true, false, cond}
@@ -21,7 +21,7 @@ use Rattle.desk_packing_law.specs.Stages.{runLength, runNumbers, runFrom}
 
 -- ---- start
 
--- 1 for a short run
+-- 1 if the slice for the run is too short
 unfoldable pub startVerdict : List ℕ → Verdict
 startVerdict run = cond (ltb (length run) runLength) (Refused SmallRoom) Fine
 
@@ -35,11 +35,11 @@ pub record StartedAs (run run′ : List ℕ) (r : ℕ) : Type 0 where
 
 -- ---- feed and end
 
--- two counts: the bytes taken, and the bytes printed
+-- the two counts: the bytes taken, and the bytes printed
 abbrev pub countsLength : ℕ
 countsLength = 2
 
--- 0 the bytes hold no further line, 1 the output room is to be emptied, 2 the run is over; or a refusal
+-- 0: the bytes hold no further whole line; 1: the output room has to be emptied; 2: the run is over; or a refusal
 abbrev pub stopNumber : Stop → ℕ
 stopNumber Stop.Waits = answerNumber 0 0
 stopNumber Stop.Full = answerNumber 0 1
@@ -52,33 +52,33 @@ isRefusal Stop.Full = false
 isRefusal Stop.Over = false
 isRefusal (Stop.Refused r) = true
 
--- numbers that are laid anew, but by a refusal, which writes nothing
+-- numbers written to the front of a slice, except by a refusal, which writes nothing
 abbrev pub laidBy : Stop → List ℕ → List ℕ → List ℕ
 laidBy s ns old = cond (isRefusal s) old (put old 0 ns)
 
--- where a run stands after some lines, and both counts
+-- the run's numbers after some lines, and both counts
 pub record LaidAfter (run counts : List ℕ) (after : Run) (used wrote : ℕ) (run′ counts′ : List ℕ) : Type 0 where
   pub kept : run′ ≡ put run 0 (runNumbers after)
   pub counted : counts′ ≡ put counts 0 (used ∷ wrote ∷ [])
 
--- the same for lines that were taken, unless they were refused; and the answer
+-- the same for lines that were taken, unless the call was refused; and its answer
 pub record LaidTaken (run counts : List ℕ) (t : Taken) (run′ counts′ : List ℕ) (r : ℕ) : Type 0 where
   pub answer : r ≡ stopNumber (t .stop)
   pub kept : run′ ≡ laidBy (t .stop) (runNumbers (t .run)) run
   pub counted : counts′ ≡ laidBy (t .stop) (t .used ∷ t .wrote ∷ []) counts
 
--- what the bytes come to, on the run that the numbers are of; a short run of numbers is a short table
+-- what the bytes come to on the run that the numbers stand for; a slice that is too short is answered as a short table
 unfoldable pub fedOn : Feed → List ℕ → List ℕ → List ℕ → List ℕ → List ℕ → List ℕ → List ℕ → Fed Lent
 fedOn of run bytes buys sells room out counts =
     whereLong run runLength counts countsLength
     (of (runFrom run) buys sells room bytes out)
     (halted calls (Stop.Refused SmallRoom) (runFrom run .stage) (lentOf (runFrom run .session) buys sells room))
 
--- where the run stands afterwards
+-- the run after the bytes
 abbrev pub runAfter : Fed Lent → Run
 runAfter f = record { stage = f .stage; session = f .world .session }
 
--- the answer and every lent slice, by what the bytes come to
+-- the answer, and every lent slice afterwards, given what the bytes come to
 pub record FedLeft (f : Fed Lent) (run out counts run′ buys′ sells′ room′ out′ counts′ : List ℕ) (r : ℕ) : Type 0 where
   pub answer : r ≡ stopNumber (f .stop)
   pub kept : run′ ≡ laidBy (f .stop) (runNumbers (runAfter f)) run
@@ -88,7 +88,7 @@ pub record FedLeft (f : Fed Lent) (run out counts run′ buys′ sells′ room�
   pub printed : out′ ≡ laid out (f .text)
   pub counted : counts′ ≡ laidBy (f .stop) (f .used ∷ length (f .text) ∷ []) counts
 
--- THE CONTRACT of `kakoludar_feed`, where it is `fedOf`, and of `kakoludar_end`, where it is `endedOf`
+-- THE CONTRACT of `kakoludar_feed`, with `fedOf`, and of `kakoludar_end`, with `endedOf`
 pub record FedAs (of : Feed)
     (run bytes buys sells room out counts run′ buys′ sells′ room′ out′ counts′ : List ℕ) (r : ℕ) : Type 0 where
   pub left : FedLeft (fedOn of run bytes buys sells room out counts) run out counts run′ buys′ sells′ room′ out′ counts′ r

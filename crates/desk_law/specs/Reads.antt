@@ -1,4 +1,4 @@
--- THE CALLS THAT READ A LINE into a run of numbers: what each answers, and what it leaves in the run.
+-- THE CALLS THAT READ A LINE into numbers: what each call answers, and what it leaves in the lent slice.
 use Prim.Native.Nat.{ℕ}
 use mathlib.Core.Path.{_≡_}
 use mathlib.Core.Bool.{cond}
@@ -15,17 +15,17 @@ use Rattle.desk_packing_law.specs.Settings.{settingsNumbers}
 use Rattle.desk_packing_law.specs.Events.{eventNumbers}
 use Rattle.desk_packing_law.specs.Answers.{answerNumber, answerOf}
 
--- the paper's number of what was read, 0, 14 or 15, and its value: the bytes that the line took, or the place
+-- the answer to a line: 0 with the bytes that it took, 14, or 15 with the place
 abbrev pub readNumber : {E : Type 0} → Answer E → ℕ
 readNumber a = answerNumber (codeOf a) (countOf a)
 
--- the run of what was read; a refusal writes nothing
+-- the slice afterwards: the numbers of what was read; a refusal writes nothing
 abbrev pub runRead : {E : Type 0} → (E → List ℕ) → Answer E → List ℕ → List ℕ
 runRead numbers (whole e n) run = put run 0 (numbers e)
 runRead numbers unfinished run = run
 runRead numbers (wrong n) run = run
 
--- values whose runs have some length were read into a run, with this answer; a short run is a short table
+-- the contract of a reading call, for values of n numbers, given the reader's answer a; a slice that is too short is answered as a short table
 pub record ReadInto {E : Type 0} (numbers : E → List ℕ) (n : ℕ) (a : Answer E) (run run′ : List ℕ) (r : ℕ) : Type 0 where
   pub answer : r ≡ cond (ltb (length run) n) (answerOf (Refused SmallRoom) 0) (readNumber a)
   pub laid : run′ ≡ cond (ltb (length run) n) run (runRead numbers a run)

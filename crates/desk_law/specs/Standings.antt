@@ -1,4 +1,4 @@
--- WHERE A SESSION STANDS, on runs of numbers that an app keeps: what the call answers, and what it leaves in the run for its standing.
+-- WHERE A SESSION STANDS, for an app that keeps it as numbers: what the call answers, and what it leaves in the slice for the standing.
 use Prim.Native.Nat.{ℕ}
 use mathlib.Core.Path.{_≡_}
 use mathlib.Core.List.{List, [], _∷_}
@@ -17,7 +17,7 @@ use Rattle.desk_law.specs.Calls.{whereLong}
 abbrev pub standingLength : ℕ
 standingLength = 14
 
--- the percent in force, the band, the range, the reference, whether a cooling-off runs (0 or 1) and its end, the last trade's price and
+-- the percent in force, the band, the range, the reference, whether a cooling-off runs (0 or 1) and when it ends, the last trade's price and
 -- lots, live buys and sells, orders given, trades
 unfoldable pub standingNumbers : Standing → List ℕ
 standingNumbers st =
@@ -37,19 +37,19 @@ standingNumbers st =
     ∷ st .trades
     ∷ []
 
--- what the look comes to, on the session that the numbers are of; a short run is a short table
+-- what the call comes to on the session that the numbers stand for; a slice that is too short is answered as a short table
 unfoldable pub stoodOn : List ℕ → List ℕ → List ℕ → List ℕ → Stood
 stoodOn run buys sells standing =
     whereLong run sessionLength standing standingLength
     (standingCall (sessionFrom run) buys sells)
     (record { verdict = Refused SmallRoom; standing = noStanding })
 
--- the run for the standing: its numbers from the front; a refusal writes nothing
+-- the slice for the standing afterwards: its numbers are written to the front; a refusal writes nothing
 abbrev pub standingBy : Verdict → Standing → List ℕ → List ℕ
 standingBy Fine st run = put run 0 (standingNumbers st)
 standingBy (Refused r) st run = run
 
--- the answer and that run, by what the look comes to
+-- the answer, and that slice afterwards, given what the call comes to
 pub record LaidStood (a : Stood) (standing standing′ : List ℕ) (r : ℕ) : Type 0 where
   pub answer : r ≡ answerOf (a .verdict) 0
   pub laid : standing′ ≡ standingBy (a .verdict) (a .standing) standing

@@ -1,4 +1,4 @@
--- THE CALLS THAT WRITE A LINE from a run of numbers: what each answers, and what it leaves in the line room.
+-- THE CALLS THAT WRITE A LINE from numbers: what each call answers, and what it leaves in the line room.
 use Prim.Native.Nat.{ℕ, _≤_}
 use mathlib.Core.Path.{_≡_}
 use mathlib.Core.Bool.{cond}
@@ -27,17 +27,17 @@ abbrev pub wroteNumber : Wrote → ℕ
 wroteNumber (Wrote.Written n) = answerOf Fine n
 wroteNumber (Wrote.Refused r) = answerOf (Refused r) 0
 
--- few bytes were written
+-- a line that was written has no more bytes than an answer can count
 abbrev pub Few : Wrote → Type 0
 Few (Wrote.Written n) = n ≤ countMost
 Few (Wrote.Refused r) = Unit
 
--- a line is written where the verdict is fine; a refusal writes nothing
+-- the contract of a writing call: the line is written where the verdict is fine; a refusal writes nothing
 pub record WrittenOn (v : Verdict) (line room room′ : List ℕ) (r : ℕ) : Type 0 where
   pub answer : r ≡ answerOf v (length line)
   pub laid : room′ ≡ roomOf v line room
 
--- ---- settings: 1 for a short run, 12 where the category is none, then 16 and 17
+-- ---- settings: 1 if the slice is too short, 12 if the category is none, then 16 and 17
 
 unfoldable pub settingsVerdictOn : List ℕ → List ℕ → Verdict
 settingsVerdictOn run room =
@@ -47,7 +47,7 @@ settingsVerdictOn run room =
 abbrev pub SettingsWrittenOn : List ℕ → List ℕ → List ℕ → ℕ → Type 0
 SettingsWrittenOn run room room′ r = WrittenOn (settingsVerdictOn run room) (renderSettings (settingsFrom run)) room room′ r
 
--- ---- an event: 1 for a short run, 4 where the numbers are no event's, then 16 and 17
+-- ---- an event: 1 if the slice is too short, 4 if the numbers are no event's, then 16 and 17
 
 abbrev pub foundVerdict : FoundEvent → List ℕ → Verdict
 foundVerdict (FoundEvent.Told e) room = lineVerdict room (eventNumbers e)
@@ -59,7 +59,7 @@ eventVerdictOn run room = cond (ltb (length run) eventLength) (Refused SmallRoom
 abbrev pub EventWrittenOn : List ℕ → List ℕ → List ℕ → ℕ → Type 0
 EventWrittenOn run room room′ r = WrittenOn (eventVerdictOn run room) (renderEvent (eventFrom run)) room room′ r
 
--- ---- a report, from its record: 1 for a short run, then 16 and 17. Numbers that are no report's have no line: none is written
+-- ---- a report, from its record: 1 if the slice is too short, then 16 and 17. For numbers that are no report's no line is written
 
 unfoldable pub reportIn : List ℕ → ReadRecord
 reportIn ns = reportFrom (getD ns 0 0) (getD ns 1 0) (getD ns 2 0) (getD ns 3 0) (getD ns 4 0) (getD ns 5 0)

@@ -1,3 +1,3 @@
-// desk_law: the law of the boundary: what each of its calls answers and leaves in the lent numbers and bytes.
-// It has no code and may use the laws below it, desk_answers, desk_packing and desk_runs. It promises: each call is determined, and what a call lays
-// into a run of numbers is what the next call finds there.
+// desk_law: the boundary for apps: what each of its calls answers, and what it leaves in the lent numbers and bytes.
+// It has no code and may use terms, tables and the laws below it. It promises: each call is determined, and what a call writes into an
+// app's numbers is what the next call reads there.

@@ -1,4 +1,4 @@
-// An event to and from a run of six numbers.
+// An event written as six numbers, and read from them.
 use desk_packing_law::FoundEvent;
 use terms::Act;
 use terms::Entry;
@@ -49,7 +49,7 @@ fn limit_of(kind: Kind) -> u64
     }
 }
 
-// The run of an event.
+// The numbers of an event.
 pub fn pack(e: Event) -> [u64; 6]
     ensures { λ r. ⌜ r ≡ eventNumbers e ⌝ }
 {
@@ -76,7 +76,7 @@ pub fn pack(e: Event) -> [u64; 6]
     }
 }
 
-// An event, where the numbers that it leaves unused are zero.
+// The event, where the numbers that it leaves unused are zero.
 fn told_if(unused: bool, time: u64, act: Act) -> FoundEvent
     ensures { λ r. ⌜ r ≡ toldIf unused time act ⌝ }
 {
@@ -133,7 +133,7 @@ fn entry_from(time: u64, side: Side, kind: u64, life: u64, lots: u64, price: u64
     FoundEvent::Nothing
 }
 
-// By the number of what it does.
+// An event, by the number of what it does.
 fn found_from(time: u64, what: u64, kind: u64, life: u64, amount: u64, price: u64) -> FoundEvent
     ensures { λ r. ⌜ r ≡ foundFrom time what kind life amount price ⌝ }
 {
@@ -159,7 +159,7 @@ fn found_from(time: u64, what: u64, kind: u64, life: u64, amount: u64, price: u6
     FoundEvent::Nothing
 }
 
-// The event of a run, or that it is none's.
+// The event that some numbers stand for, or that they stand for none.
 pub fn find(ns: &[u64]) -> FoundEvent
     requires { ⌜ eventLength ≤ length (now ns) ⌝ }
     ensures { λ r. ⌜ r ≡ foundIn (now (ns .entry)) ⌝ }
@@ -167,7 +167,7 @@ pub fn find(ns: &[u64]) -> FoundEvent
     found_from(ns[0], ns[1], ns[2], ns[3], ns[4], ns[5])
 }
 
-// The event of a run; a clock at the greatest time where the numbers are no event's.
+// The event that some numbers stand for; where they are no event's, a clock event at the greatest time, which is refused.
 pub fn unpack(ns: &[u64]) -> Event
     requires { ⌜ eventLength ≤ length (now ns) ⌝ }
     ensures { λ r. ⌜ r ≡ eventFrom (now (ns .entry)) ⌝ }

@@ -1,4 +1,4 @@
-// Runs of numbers: how long each is, where the sections of a session begin, and a run laid into lent numbers.
+// How many numbers each value takes, where the sections of a session begin, and how numbers are written into a lent slice.
 ghost use mathlib.Core.Path.{_≡_};
 ghost use Prim.Native.Nat.{_+_, _≤_};
 ghost use lib.ListN.{length};
@@ -25,7 +25,7 @@ pub const RECKONING_AT: usize = 17;
 
 pub const TAPE_AT: usize = 20;
 
-// The numbers of a run from its front on; what lies past them is as it was.
+// Writes numbers to the front of a slice; what lies past them is as it was.
 pub fn lay(run: &mut [u64], ns: &[u64])
     requires { ⌜ length (now ns) ≤ length (now run) ⌝ }
     ensures { λ _. ⌜ now (run .exit) ≡ put (now (run .entry)) 0 (now (ns .entry)) ⌝ }
@@ -37,7 +37,7 @@ pub fn lay(run: &mut [u64], ns: &[u64])
     }
 }
 
-// Ten numbers of a run, as an array.
+// Ten numbers of a slice, as an array.
 pub fn ten_at(ns: &[u64], at: usize) -> [u64; 10]
     requires { ⌜ at + 10 ≤ length (now ns) ⌝ }
     ensures { λ r. ⌜ r ≡ tenAt (now (ns .entry)) at ⌝ }

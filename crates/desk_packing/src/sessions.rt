@@ -1,4 +1,4 @@
-// A session to and from a run of 44 numbers, a section for each of its groups.
+// A session written as 44 numbers, a section for each of its groups, and read from them.
 use crate::runs;
 use crate::settings;
 use rules_law::Minute;
@@ -94,7 +94,7 @@ fn tape_at(ns: &[u64], at: usize) -> Tape
     }
 }
 
-// The session of a run that is one's.
+// The session that the numbers of one stand for.
 pub fn session_of(ns: &[u64]) -> Session
     requires { ⌜ sessionLength ≤ length (now ns) ⌝ }
     ensures { λ r. ⌜ r ≡ sessionOf (now (ns .entry)) ⌝ }
@@ -121,7 +121,7 @@ pub fn fixed() -> Session
     session_of(&zeros)
 }
 
-// The session of a run; the fixed one where the numbers are no session's.
+// The session that some numbers stand for; the fixed one where they are no session's.
 pub fn unpack(ns: &[u64]) -> Session
     requires { ⌜ sessionLength ≤ length (now ns) ⌝ }
     ensures { λ r. ⌜ r ≡ sessionFrom (now (ns .entry)) ⌝ }
@@ -132,7 +132,7 @@ pub fn unpack(ns: &[u64]) -> Session
     session_of(ns)
 }
 
-// The run of a session.
+// The numbers of a session.
 pub fn pack(s: Session) -> [u64; 44]
     ensures { λ r. ⌜ r ≡ sessionNumbers s ⌝ }
 {

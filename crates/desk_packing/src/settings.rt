@@ -1,4 +1,4 @@
-// Settings to and from a run of eight numbers.
+// Settings written as eight numbers, and read from them.
 use terms::Category;
 use terms::Settings;
 use terms::numbers;
@@ -8,7 +8,7 @@ ghost use lib.ListN.{length};
 ghost use Rattle.desk_packing_law.specs.Runs.{settingsLength};
 ghost use Rattle.desk_packing_law.specs.Settings.{settingsNumbers, isCategory, categoryFrom, settingsAt, settingsFrom};
 
-// A number that is the row of a category.
+// Whether a number is the row of a category.
 pub fn is_category(n: u64) -> bool
     ensures { λ r. ⌜ r ≡ isCategory n ⌝ }
 {
@@ -43,7 +43,7 @@ fn category_from(n: u64) -> Category
     Category::Other
 }
 
-// The settings that numbers are of, from a place on.
+// The settings that numbers stand for, from a place on.
 pub fn settings_at(ns: &[u64], at: usize) -> Settings
     requires { ⌜ at + settingsLength ≤ length (now ns) ⌝ }
     ensures { λ r. ⌜ r ≡ settingsAt (now (ns .entry)) at ⌝ }
@@ -61,7 +61,7 @@ pub fn settings_at(ns: &[u64], at: usize) -> Settings
     }
 }
 
-// The settings of a run.
+// The settings that numbers stand for.
 pub fn unpack(ns: &[u64]) -> Settings
     requires { ⌜ settingsLength ≤ length (now ns) ⌝ }
     ensures { λ r. ⌜ r ≡ settingsFrom (now (ns .entry)) ⌝ }
@@ -69,7 +69,7 @@ pub fn unpack(ns: &[u64]) -> Settings
     settings_at(ns, 0)
 }
 
-// The run of settings.
+// The numbers of settings.
 pub fn pack(g: Settings) -> [u64; 8]
     ensures { λ r. ⌜ r ≡ settingsNumbers g ⌝ }
 {

@@ -1,4 +1,4 @@
--- The code and the count of an answer are got back from its number.
+-- Code and count can be computed back from an answer's number.
 use Prim.Native.Nat.{ℕ, _/_, _%_, _≤_, _<_}
 use native.Mathlib.Omega.{arith}
 use mathlib.Core.Path.{_≡_}

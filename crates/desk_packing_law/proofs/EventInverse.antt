@@ -1,4 +1,4 @@
--- PACKING AND UNPACKING ARE INVERSE, of events, whatever follows in the run.
+-- PACKING AND UNPACKING EVENTS ARE INVERSE, whatever follows the numbers.
 use Prim.Native.Nat.{ℕ, _≤_}
 use mathlib.Core.Path.{_≡_, refl, sym, _∙_}
 use mathlib.Core.Bool.{Bool, true, false, _&&_}
@@ -21,7 +21,7 @@ use Rattle.desk_packing_law.specs.Runs.{eventLength}
 use Rattle.desk_packing_law.specs.Events.{sideNumber, kindNumber, lifeNumber, limitOf, actNumbers, eventNumbers, toldIf, orderFrom, entryFrom, foundFrom, foundIn, eventFrom}
 use Rattle.desk_packing_law.proofs.Listed.{first-listed}
 
--- ---- an event is told back from its numbers
+-- ---- an event is read back from its numbers
 
 entry-back : (t : ℕ) (side : Side) (kind : Kind) (life : Life) (lots : ℕ) →
     foundFrom t (sideNumber side) (kindNumber kind) (lifeNumber life) lots (limitOf kind)
@@ -52,9 +52,9 @@ pub event-back : (e : Event) (rest : List ℕ) → eventFrom (eventNumbers e ++ 
 unfolding eventFrom
 event-back e rest = rw (found-back e rest)
 
--- ---- what is told has those numbers
+-- ---- an event that is read has the given numbers
 
--- an answer is nothing, or an event with the numbers that were given
+-- nothing was read, or an event whose numbers these are
 abbrev Only : List ℕ → FoundEvent → Type 0
 Only ns (FoundEvent.Told e) = ns ≡ eventNumbers e
 Only ns FoundEvent.Nothing = Unit
@@ -86,7 +86,7 @@ only-entry t side k l lots p =
     (λ e. rw (eqb-true k 2 e) (only-order t side Market l lots p (eqb p 0) (eqb-true p 0)))
     (λ _. tt))
 
--- the numbers that are to be zero are
+-- a test for three zeros passes only where all three are zero
 three : (a b c : ℕ) → (eqb a 0 && eqb b 0 && eqb c 0) ≡ true → (a ≡ 0) × (b ≡ 0) × (c ≡ 0)
 three a b c e =
     let p = split (eqb a 0 && eqb b 0) (eqb c 0) e in

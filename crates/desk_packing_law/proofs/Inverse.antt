@@ -1,4 +1,4 @@
--- PACKING AND UNPACKING ARE INVERSE, of settings and of sessions, whatever follows in the run.
+-- PACKING AND UNPACKING SETTINGS AND SESSIONS ARE INVERSE, whatever follows the numbers.
 use Prim.Native.Nat.{ℕ, zero, suc, _+_, _≤_}
 use native.Mathlib.Omega.{arith}
 use mathlib.Core.Path.{_≡_, refl, sym}
@@ -82,7 +82,7 @@ closed-back zero k = refl
 closed-back (suc zero) k = refl
 closed-back (suc (suc n)) k = absurd (omega arith)
 
--- the numbers of a session are a session's
+-- the numbers of a session are recognised as a session's
 pub is-session : (s : Session) (rest : List ℕ) → isSession (sessionNumbers s ++ rest) ≡ true
 unfolding isSession sessionNumbers settingsNumbers
 is-session s rest = make (make refl (row-is (s .settings .category))) (flag-small (s .clock .closed))
@@ -105,15 +105,15 @@ session-numbers ns h k =
     rw (k, row-back (getD ns settingsBase 0) (q .1), closed-back (getD ns (clockBase + 1) 0) (leb-true (getD ns (clockBase + 1) 0) 1 (p .1)))
     (rw (eqb-true (getD ns 0 0) layout (q .0)) at (sym (first-listed ns sessionLength h)))
 
--- every run is of a session whose arrays have ten numbers
+-- the session of any numbers has arrays of ten
 pub from-ten : (ns : List ℕ) → Ten (sessionFrom ns)
 unfolding sessionFrom sessionOf fixedSession
 from-ten ns = by Ten (isSession ns) _ _ (λ e. record { prices = refl; sizes = refl }) (λ e. record { prices = refl; sizes = refl })
 
--- ---- in a run that a session was laid into
+-- ---- a session written to the front of a slice
 
 module _ (run : List ℕ) (s : Session) where
-  -- it is found again,
+  -- is read back from it,
   pub laid-back : Ten s → sessionFrom (put run 0 (sessionNumbers s)) ≡ s
   unfolding put
   laid-back ten = session-back s ten (drop (length (sessionNumbers s)) run)

@@ -1,4 +1,4 @@
--- A run laid into lent numbers: how its loop begins, a turn, and its end.
+-- The loop that writes numbers to the front of a slice: what holds before the first turn, after each turn, and at the end.
 use Prim.Native.Nat.{ℕ, _+_, _≤_, _<_}
 use native.Mathlib.Omega.{arith}
 use native.Mathlib.Nat.{zero-add}

@@ -1,4 +1,4 @@
--- Sessions and events packed and unpacked as code does it.
+-- What the code packs and unpacks is what the definitions say, for sessions and events.
 use Prim.Native.Nat.{ℕ, _+_}
 use mathlib.Core.Path.{_≡_, refl, ap, _∙_}
 use mathlib.Core.Bool.{Bool, true, false, not, _&&_}
@@ -26,7 +26,7 @@ use Rattle.desk_packing_law.specs.Settings.{settingsNumbers, settingsAt,
 use Rattle.desk_packing_law.specs.Sessions.{flag, liveNumbers, reckoningNumbers, tapeNumbers, clockFrom, liveFrom, reckoningFrom, tapeFrom, sessionNumbers, isSession, sessionOf, sessionFrom}
 use Rattle.desk_packing_law.specs.Events.{sideNumber, kindNumber, lifeNumber, limitOf, actNumbers, eventNumbers, foundIn, greatest, eventFrom}
 
--- ---- a session by its sections
+-- ---- a session, section by section
 
 module _ (ns : List ℕ) (at : ℕ) where
   pub settings-with : (c : Category) → c ≡ categoryFrom (getD ns at 0) →
@@ -58,7 +58,7 @@ fixed-is = refl
 pub zeros-fixed : (r : Session) → r ≡ sessionOf (replicate sessionLength 0) → r ≡ fixedSession
 zeros-fixed r e = e ∙ fixed-is
 
--- code tests `found`, which is whether the numbers are a session's
+-- `found` is the outcome of the code's test whether the numbers are a session's
 module _ (ns : List ℕ) (found : Bool) (h : found ≡ isSession ns) (r : Session) where
   pub no-session : not found ≡ true → r ≡ fixedSession → r ≡ sessionFrom ns
   unfolding sessionFrom
@@ -68,7 +68,7 @@ module _ (ns : List ℕ) (found : Bool) (h : found ≡ isSession ns) (r : Sessio
   unfolding sessionFrom
   a-session t e = rw (← h, not-false found t) e
 
--- the numbers of a session, with these for its category and whether it is closed
+-- the numbers of a session, with its category and its closed flag given as numbers
 abbrev packed : Session → ℕ → ℕ → List ℕ
 packed s row closed =
     layout

@@ -1,4 +1,4 @@
--- PACKING AND UNPACKING A RUN ARE INVERSE, whatever follows in the numbers; and numbers that are no run's do nothing.
+-- PACKING AND UNPACKING A RUN OF THE PROGRAM ARE INVERSE, whatever follows the numbers; and numbers that are no run's do nothing.
 use Prim.Native.Nat.{ℕ, zero, suc, _≤_}
 use native.Mathlib.Omega.{arith}
 use mathlib.Core.Path.{_≡_, refl}
@@ -50,7 +50,7 @@ run-numbers (n ∷ ns) h k =
     let p = both k in
     rw (k, number-back n (leb-true n 2 (p .0)), session-numbers ns (omega arith) (p .1))
 
--- a run that was laid is found again
+-- a run that was written to the front of a slice is read back from it
 pub run-laid-back : (ns : List ℕ) (r : Run) → Ten (r .session) → runFrom (put ns 0 (runNumbers r)) ≡ r
 unfolding put
 run-laid-back ns r ten = run-back r (drop (length (runNumbers r)) ns) ten

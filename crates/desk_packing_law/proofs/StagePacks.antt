@@ -1,4 +1,4 @@
--- A run packed and unpacked as code does it.
+-- What the code packs and unpacks is what the definitions say, for runs of the program.
 use Prim.Native.Nat.{ℕ, _-_, _≤_, _<_}
 use native.Mathlib.Omega.{arith}
 use native.Mathlib.Nat.{le-of-eq}
@@ -19,7 +19,7 @@ use Rattle.feed_law.specs.declared.Stage.{Stage}
 use Rattle.desk_packing_law.specs.Sessions.{sessionNumbers, isSession, sessionFrom}
 use Rattle.desk_packing_law.specs.Stages.{stageNumber, runNumbers, isRun, stageFrom, runFrom}
 
--- the part of a slice behind its first number
+-- all of a slice behind its first number
 behind : (ns : List ℕ) → take (length ns - 1) (drop 1 ns) ≡ drop 1 ns
 behind ns = take-all (length ns - 1) (drop 1 ns) (le-of-eq (length-drop 1 ns))
 
@@ -27,7 +27,7 @@ pub run-tested : (ns : List ℕ) (found : Bool) → found ≡ isSession (take (l
 unfolding isRun _⊓_
 run-tested ns found e = rw (e, behind ns)
 
--- code tests `found`, which is whether the numbers are a run's
+-- `found` is the outcome of the code's test whether the numbers are a run's
 module _ (ns : List ℕ) (found : Bool) (h : found ≡ isRun ns) (session : Session) where
   pub no-run : not found ≡ true → session ≡ fixedSession → record { stage = Stage.Over; session = session } ≡ runFrom ns
   unfolding runFrom
@@ -38,7 +38,7 @@ module _ (ns : List ℕ) (found : Bool) (h : found ≡ isRun ns) (session : Sess
   unfolding runFrom
   a-run stage t e f = rw (← h, not-false found t, e, f, behind ns)
 
--- a number, and a run behind it
+-- writing numbers behind the first place, and then the first one, is writing all of them to the front
 pub laid-behind : (ns rest part′ : List ℕ) (first : ℕ) → length rest < length ns → part′ ≡ put (take (length ns - 1) (drop 1 ns)) 0 rest →
     set (putMid 1 (length ns - 1) ns part′) 0 first ≡ put ns 0 (first ∷ rest)
 unfolding put

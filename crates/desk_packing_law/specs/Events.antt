@@ -1,5 +1,5 @@
--- AN EVENT as a run of six numbers: time, do (1 buy, 2 sell, 3 cancel, 4 under, 5 clock, 6 close), kind (1 limit, 2 market), life (1 day,
--- 2 ioc), amount (lots, or the number of the order to cancel), price (limit, underlying or settlement). Unused ones are zero.
+-- AN EVENT as six numbers: time, do (1 buy, 2 sell, 3 cancel, 4 under, 5 clock, 6 close), kind (1 limit, 2 market), life (1 day, 2 ioc),
+-- amount (lots, or the number of the order to cancel), price (limit, underlying or settlement). Unused ones are zero.
 use Prim.Native.Nat.{ℕ}
 use mathlib.Core.Bool.{Bool, true, cond, _&&_}
 use mathlib.Core.List.{List, [], _∷_}
@@ -43,9 +43,9 @@ actNumbers (Finish settle) = 6 ∷ 0 ∷ 0 ∷ 0 ∷ settle ∷ []
 unfoldable pub eventNumbers : Event → List ℕ
 eventNumbers e = e .time ∷ actNumbers (e .act)
 
--- ---- told back
+-- ---- events read back
 
--- an event, where the numbers that it leaves unused are zero
+-- the event, where the numbers that it leaves unused are zero
 abbrev pub toldIf : Bool → ℕ → Act → FoundEvent
 toldIf unused time act = cond unused (FoundEvent.Told (record { time = time; act = act })) FoundEvent.Nothing
 
@@ -61,7 +61,7 @@ entryFrom time side kind life lots price =
     cond (eqb kind 1) (orderFrom true time side (Limit price) life lots)
     (cond (eqb kind 2) (orderFrom (eqb price 0) time side Market life lots) FoundEvent.Nothing)
 
--- by the number of what it does
+-- an event, by the number of what it does
 unfoldable pub foundFrom : ℕ → ℕ → ℕ → ℕ → ℕ → ℕ → FoundEvent
 foundFrom time what kind life amount price =
     cond (eqb what 1) (entryFrom time Buy kind life amount price)
@@ -71,11 +71,11 @@ foundFrom time what kind life amount price =
     (cond (eqb what 5) (toldIf (eqb kind 0 && eqb life 0 && eqb amount 0 && eqb price 0) time Clock)
     (cond (eqb what 6) (toldIf (eqb kind 0 && eqb life 0 && eqb amount 0) time (Finish price)) FoundEvent.Nothing)))))
 
--- the event that a run is of, or that it is none's
+-- the event that some numbers stand for, or that they stand for none
 unfoldable pub foundIn : List ℕ → FoundEvent
 foundIn ns = foundFrom (getD ns 0 0) (getD ns 1 0) (getD ns 2 0) (getD ns 3 0) (getD ns 4 0) (getD ns 5 0)
 
--- numbers that are no event's are taken for a clock at the greatest time, which is out of its range
+-- numbers that are no event's are read as a clock event at the greatest time, which row 4 refuses
 abbrev pub greatest : ℕ
 greatest = 18446744073709551615
 

@@ -1,5 +1,5 @@
--- The runs of numbers that an app keeps and hands over: how long each is, where the sections of a session begin, and ten numbers that an array
--- is made of.
+-- The numbers that an app keeps and hands over: how many each value takes, where the sections of a session begin, and how an array of ten is
+-- read.
 use Prim.Native.Nat.{ℕ, _+_}
 use mathlib.Core.List.{List, [], _∷_}
 use lib.ListN.{getD}
@@ -13,8 +13,8 @@ sessionLength = 44
 abbrev pub eventLength : ℕ
 eventLength = 6
 
--- the layout of stored numbers: a session begins with it, so that numbers that were stored by another layout are told apart. Layouts are
--- counted from 101: before they were marked, a category's number, 0 to 7, stood in that place
+-- the layout of stored numbers: a session begins with it, so that numbers stored by another layout are told apart. Layouts are counted from
+-- 101, since before layouts were marked a category's number, 0 to 7, stood in that place
 abbrev pub layout : ℕ
 layout = 101
 
@@ -35,7 +35,7 @@ reckoningBase = 17
 abbrev pub tapeBase : ℕ
 tapeBase = 20
 
--- the ten numbers of a run from a place on
+-- the ten numbers from a place on
 abbrev pub tenAt : List ℕ → ℕ → List ℕ
 tenAt ns at =
     getD ns at 0

@@ -1,6 +1,6 @@
--- A SESSION as a run of 44 numbers: the layout; the eight of its settings; the clock's time, closed (0 or 1), widened, cooling and under; live
--- buys, live sells and given; the reference, the minute's count and sum; trades, the ten prices, the ten sizes, the half hour's count, lots and
--- value. Each group of the session is a section, which is laid and found from its base on.
+-- A SESSION as 44 numbers: the layout; the eight of its settings; the clock's time, closed (0 or 1), widened, cooling and under; live buys,
+-- live sells and given; the reference, the minute's count and sum; trades, the ten prices, the ten sizes, the half hour's count, lots and
+-- value. Each group of the session is a section, which is written and read from its own place on.
 use Prim.Native.Nat.{ℕ, _+_}
 use mathlib.Core.Bool.{Bool, true, false, cond}
 use mathlib.Core.List.{List, [], _∷_, _++_}
@@ -21,7 +21,7 @@ abbrev pub flag : Bool → ℕ
 flag true = 1
 flag false = 0
 
--- ---- the sections, laid
+-- ---- the sections as numbers
 
 abbrev pub clockNumbers : Dial → List ℕ
 clockNumbers c = c .time ∷ flag (c .closed) ∷ c .widened ∷ c .cooling ∷ c .under ∷ []
@@ -44,7 +44,7 @@ sessionNumbers s =
     ++ (reckoningNumbers (s .reckoning)
     ++ tapeNumbers (s .tape)))))
 
--- ---- the sections, found from a place on
+-- ---- the sections read from a place on
 
 abbrev pub clockFrom : List ℕ → ℕ → Dial
 clockFrom ns at =
@@ -72,11 +72,11 @@ tapeFrom ns at =
       half = record { count = getD ns (at + 21) 0; lots = getD ns (at + 22) 0; value = getD ns (at + 23) 0 };
     }
 
--- numbers that are a session's: this layout, a category, and closed or not
+-- whether numbers are a session's: they begin with this layout, the category is one, and closed is 0 or 1
 unfoldable pub isSession : List ℕ → Bool
 isSession ns = eqb (getD ns 0 0) layout ⊓ isCategory (getD ns settingsBase 0) ⊓ leb (getD ns (clockBase + 1) 0) 1
 
--- the session that such a run is of
+-- the session that such numbers stand for
 unfoldable pub sessionOf : List ℕ → Session
 sessionOf ns =
     record {
@@ -87,6 +87,6 @@ sessionOf ns =
       tape = tapeFrom ns tapeBase;
     }
 
--- other numbers are taken for the paper's fixed session, which is not sound
+-- any other numbers are read as the paper's fixed session, which is not sound
 unfoldable pub sessionFrom : List ℕ → Session
 sessionFrom ns = cond (isSession ns) (sessionOf ns) fixedSession

@@ -1,4 +1,4 @@
--- SETTINGS as a run of eight numbers: category, base, close, settle, tick, length, days, under.
+-- SETTINGS as eight numbers: category, base, close, settle, tick, length, days, under.
 use Prim.Native.Nat.{ℕ, _+_}
 use mathlib.Core.Bool.{Bool, cond}
 use mathlib.Core.List.{List, [], _∷_}
@@ -13,7 +13,7 @@ unfoldable pub settingsNumbers : Settings → List ℕ
 settingsNumbers g =
     rowOf (g .category) ∷ g .base ∷ g .close ∷ g .settle ∷ g .tick ∷ g .length ∷ g .days ∷ g .under ∷ []
 
--- a number that is the row of a category
+-- whether a number is the row of a category
 abbrev pub isCategory : ℕ → Bool
 isCategory n = leb n 7
 
@@ -28,7 +28,7 @@ categoryFrom n =
     (cond (eqb n 5) Precious
     (cond (eqb n 6) Gems Other))))))
 
--- the settings that numbers are of from a place on, where their category is one
+-- the settings that numbers stand for, from a place on, if the first is a category's
 unfoldable pub settingsAt : List ℕ → ℕ → Settings
 settingsAt ns at =
     record {
@@ -42,6 +42,6 @@ settingsAt ns at =
       under = getD ns (at + 7) 0;
     }
 
--- the settings that a run is of
+-- the settings that numbers stand for
 abbrev pub settingsFrom : List ℕ → Settings
 settingsFrom ns = settingsAt ns 0

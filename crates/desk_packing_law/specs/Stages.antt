@@ -1,4 +1,4 @@
--- WHERE A RUN STANDS as 45 numbers: its stage (0 awaiting settings, 1 trading, 2 over), then the 44 of its session.
+-- A RUN OF THE PROGRAM as 45 numbers: its stage (0 awaiting settings, 1 trading, 2 over), then the 44 of its session.
 use Prim.Native.Nat.{ℕ}
 use mathlib.Core.Bool.{Bool, cond}
 use mathlib.Core.List.{List, _∷_}
@@ -21,7 +21,7 @@ stageNumber Stage.Over = 2
 unfoldable pub runNumbers : Run → List ℕ
 runNumbers r = stageNumber (r .stage) ∷ sessionNumbers (r .session)
 
--- numbers that are a run's: a stage, and a session's
+-- whether numbers are a run's: the first is a stage, and the others are a session's
 unfoldable pub isRun : List ℕ → Bool
 isRun ns = leb (getD ns 0 0) 2 ⊓ isSession (drop 1 ns)
 
@@ -32,6 +32,6 @@ stageFrom n = cond (eqb n 0) Stage.Awaiting (cond (eqb n 1) Stage.Trading Stage.
 abbrev pub overRun : Run
 overRun = record { stage = Stage.Over; session = fixedSession }
 
--- other numbers are taken for a run that is over
+-- any other numbers are read as a run that is over
 unfoldable pub runFrom : List ℕ → Run
 runFrom ns = cond (isRun ns) (record { stage = stageFrom (getD ns 0 0); session = sessionFrom (drop 1 ns) }) overRun

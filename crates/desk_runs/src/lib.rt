@@ -1,4 +1,4 @@
-// desk_runs: where a run of session lines stands, as 45 numbers, for apps that keep and hand over nothing else.
+// desk_runs: a run of the program between two pieces of its input, as 45 numbers, for apps that keep and hand over nothing else.
 // It may use feed_law, desk_packing_law and desk_packing, and what these use. It promises: packing and unpacking are the definitions of
 // desk_packing_law, for any numbers whatever; numbers that are no run's are a run that is over, which takes no byte and prints none.
 use desk_packing::runs;
@@ -46,7 +46,7 @@ fn is_run(ns: &[u64]) -> bool
     stage & session
 }
 
-// The run of some numbers; one that is over where they are no run's.
+// The run that some numbers stand for; one that is over where they are no run's.
 pub fn unpack(ns: &[u64]) -> Run
     requires { ⌜ runLength ≤ length (now ns) ⌝ }
     ensures { λ r. ⌜ r ≡ runFrom (now (ns .entry)) ⌝ }
@@ -66,7 +66,7 @@ pub fn unpack(ns: &[u64]) -> Run
     }
 }
 
-// Lays a number and a run of numbers behind it; what lies past them is as it was.
+// Writes a number to the front of a slice and others behind it; what lies past them is as it was.
 fn lay_behind(ns: &mut [u64], first: u64, rest: &[u64])
     requires { ⌜ length (now rest) < length (now ns) ⌝ }
     ensures { λ _. ⌜ now (ns .exit) ≡ put (now (ns .entry)) 0 (first ∷ now (rest .entry)) ⌝ }
@@ -75,7 +75,7 @@ fn lay_behind(ns: &mut [u64], first: u64, rest: &[u64])
     ns[0] = first;
 }
 
-// Lays the numbers of a run.
+// Writes the numbers of a run to the front of a slice.
 pub fn lay(ns: &mut [u64], run: Run)
     requires { ⌜ runLength ≤ length (now ns) ⌝ }
     ensures { λ _. ⌜ now (ns .exit) ≡ put (now (ns .entry)) 0 (runNumbers run) ⌝ }

@@ -1,4 +1,4 @@
--- A walker is its bytes and its place, so two are equal.
+-- The contracts fix a walker's bytes and its place, so two walkers that they allow for one input are equal.
 use Prim.Native.Nat.{ℕ}
 use mathlib.Core.Path.{_≡_, sym, _∙_}
 use mathlib.Core.List.{List}

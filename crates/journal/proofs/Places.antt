@@ -1,4 +1,4 @@
--- The bytes from a place on, as the part of a slice, and what an answer there says of lines.
+-- The bytes from a place on are a part of the slice; and what the reader's answer there says of lines.
 use Prim.Native.Nat.{ℕ, _-_, _<_}
 use native.Mathlib.Nat.{le-of-eq, le-of-lt}
 use mathlib.Core.Path.{_≡_, sym, ap, _∙_}
@@ -24,7 +24,7 @@ pub read-past : (bytes : List ℕ) (place : ℕ) (r : ReadEvent) → length byte
 unfolding eventAt
 read-past bytes place r past a = event-told [] r a ∙ ap readEvent (sym (drop-of-length-le bytes (le-of-lt past)))
 
--- the answer at a place is the right one for the bytes from there on, by what a line is
+-- an answer at a place is the reader's right answer for the bytes from there on
 pub right-there : (bytes : List ℕ) (place : ℕ) (r : ReadEvent) → eventAnswer r ≡ eventAt bytes place → EventRead (drop place bytes) r
 unfolding eventAt
 right-there bytes place r q = record { right = rw q (event-right (drop place bytes)) }

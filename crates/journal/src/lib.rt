@@ -1,13 +1,13 @@
 // journal: saved bytes walked line by line.
-// It may use terms, lines_text and lines_reading. It promises, for any bytes and any place: what the reader of events answers on the bytes from that
-// place on, and on none where the place is past their end.
+// It may use terms, lines_text_law, lines_reading_law and lines_reading. It promises, for any bytes and any place: what the reader of events
+// answers on the bytes from that place on, or on no bytes where the place is past their end.
 
 use lines_reading_law::ReadEvent;
 ghost use mathlib.Core.Path.{_≡_};
 ghost use Rattle.lines_reading_law.specs.Answers.{eventAnswer};
 ghost use Rattle.lines_reading_law.specs.Walk.{eventAt};
 
-// A walker holds the caller's bytes and its place.
+// A walker: the caller's bytes, and a place in them.
 pub struct Walker<'a> {
     pub bytes: &'a [u8],
     pub at: usize,
@@ -37,7 +37,7 @@ pub fn step<'a>(w: Walker<'a>) -> ReadEvent
     event_at(w.bytes, w.at)
 }
 
-// The walker at another place: after a line, the place past it.
+// The walker moved to another place; after a line, that is the place past it.
 pub fn moved<'a>(w: Walker<'a>, at: usize) -> Walker<'a>
     ensures { λ r. ⌜ (r .bytes ≡ w .entry .bytes) × (r .at ≡ at) ⌝ }
 {

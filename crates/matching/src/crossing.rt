@@ -1,4 +1,4 @@
-// The sweep over the counter side's table: a loop that reads the table and writes the reports, then the table is settled once.
+// The sweep over the counter side's table: a loop reads the table and writes the reports, and afterwards the table is changed once.
 use crate::deals;
 use crate::prices;
 use matching_law::Incoming;
@@ -16,7 +16,7 @@ ghost use Rattle.rules_law.specs.Reference.{RangeFits};
 ghost use Rattle.tables.specs.Tables.{decode, tableOf, Holds};
 ghost use Rattle.matching_law.specs.code.Sweeps.{trim, headLots, passedWhole, finish, Passes, SweptInto};
 
-// A sweep that stopped before the counter order in slot i.
+// The answer of a sweep that stops before the counter order in slot i.
 fn stop(i: usize, left: u64, last: u64, out: bool) -> Passed
     ensures { λ r. ⌜ r ≡ passedWhole i left last out ⌝ }
 {
@@ -30,7 +30,7 @@ fn stop(i: usize, left: u64, last: u64, out: bool) -> Passed
     }
 }
 
-// How far the incoming order comes over the counter orders.
+// Goes over the counter orders, reports the trades, and answers how far the incoming order came.
 fn pass(t: &[u64], n: usize, room: &mut [u64], at: usize, x: Incoming) -> Passed
     requires { ⌜ (n ≤ slots) × (tableLength ≤ length (now t)) × (at + recordLength * n ≤ length (now room)) × RangeFits (x .range) ⌝ }
     ensures { λ r. ⌜ Passes n (decode n (now (t .entry))) (finish x at 0 0 (x .last) (x .lots) (decode n (now (t .entry))) (now (room .entry))) (now (room .exit)) r ⌝ }
@@ -71,7 +71,7 @@ fn pass(t: &[u64], n: usize, room: &mut [u64], at: usize, x: Incoming) -> Passed
     stop(i, left, last, false)
 }
 
-// The first counter orders are gone, and the next one has lost some lots.
+// Takes out the first counter orders, which traded whole, and the lots that the next one lost.
 fn settle(t: &mut [u64], n: usize, whole: usize, lots: u64)
     requires { ⌜ Holds n (now t) × (whole ≤ n) × (lots ≤ headLots (drop whole (decode n (now t)))) ⌝ }
     ensures { λ _. ⌜ now (t .exit) ≡ tableOf (trim lots (drop whole (decode n (now (t .entry))))) (now (t .entry)) ⌝ }

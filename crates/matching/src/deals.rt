@@ -14,7 +14,7 @@ ghost use Rattle.tables.specs.Put.{put};
 ghost use Rattle.book_law.specs.Matching.{part, dealOf};
 ghost use Rattle.matching_law.specs.code.Sweeps.{fillReport};
 
-// So many lots of an order.
+// A part of an order, of so many lots.
 pub fn part_of(o: Order, lots: u64) -> Order
     ensures { λ r. ⌜ r ≡ part o lots ⌝ }
 {
@@ -44,7 +44,7 @@ fn deal_of(side: Side, number: u64, f: Order) -> Deal
     }
 }
 
-// The report of a fill, from `at` on.
+// Writes the trade report of a fill from `at` on.
 pub fn report(room: &mut [u64], at: usize, x: Incoming, f: Order)
     requires { ⌜ at + recordLength ≤ length (now room) ⌝ }
     ensures { λ _. ⌜ now (room .exit) ≡ put (now (room .entry)) at (recordOf (fillReport x f)) ⌝ }

@@ -1,4 +1,4 @@
-// Whether an incoming order trades at a counter price: limit, range, mark.
+// Whether an incoming order trades at a counter price: by its limit, the range and the mark.
 use matching_law::AtPrice;
 use matching_law::Incoming;
 use rules::mark;
@@ -21,7 +21,7 @@ fn is_within(side: Side, limit: u64, price: u64) -> bool
     }
 }
 
-// The counter price fits the limit; a market order has none.
+// Whether the counter price fits the limit; a market order has none.
 fn is_fitting(side: Side, kind: Kind, price: u64) -> bool
     ensures { λ r. ⌜ r ≡ fits side kind price ⌝ }
 {
@@ -31,7 +31,7 @@ fn is_fitting(side: Side, kind: Kind, price: u64) -> bool
     }
 }
 
-// A market order that has traded, for the first time at `first`, and a counter price beyond its mark.
+// Whether a market order has traded, first at `first`, and the counter price lies beyond its mark; `first` is 0 before it trades.
 fn is_beyond(side: Side, kind: Kind, first: u64, price: u64) -> bool
     requires { ⌜ first ≤ markMost ⌝ }
     ensures { λ r. ⌜ r ≡ beyond side kind first price ⌝ }
@@ -42,7 +42,7 @@ fn is_beyond(side: Side, kind: Kind, first: u64, price: u64) -> bool
     }
 }
 
-// The price of the first trade, once there is one at this price.
+// The price of the order's first trade, once it has traded at this price.
 pub fn first_after(first: u64, price: u64) -> u64
     ensures { λ r. ⌜ r ≡ firstAfter first price ⌝ }
 {
@@ -52,7 +52,7 @@ pub fn first_after(first: u64, price: u64) -> u64
     first
 }
 
-// What the incoming order does at this price, once it has traded at `first`.
+// What the incoming order does at this price, when its first trade was at `first`, 0 for none.
 pub fn meet(x: Incoming, first: u64, price: u64) -> AtPrice
     requires { ⌜ RangeFits (x .range) × (first ≤ markMost) ⌝ }
     ensures { λ r. ⌜ r ≡ atPriceOf (takerOf x) first price ⌝ }

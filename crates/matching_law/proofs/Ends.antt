@@ -1,4 +1,4 @@
--- What is left of a sweep from a state on its way, when it stops, cuts an order short, or takes one whole and goes on.
+-- What a sweep leaves from any point on: if it stops there, if it trades a part of the next order, or if it trades that whole and goes on.
 use Prim.Native.Nat.{ℕ, suc, _+_, _-_, _*_, _≤_}
 use native.Mathlib.Omega.{arith}
 use native.Mathlib.Nat.{add-zero, sub-zero}

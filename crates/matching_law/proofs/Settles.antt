@@ -1,4 +1,4 @@
--- The counter table settled after a sweep, and the sweep as a whole.
+-- The counter table after a sweep, and the sweep as a whole.
 use Prim.Native.Nat.{ℕ, _+_, _-_, _*_, _≤_, _<_}
 use native.Mathlib.Omega.{arith}
 use native.Mathlib.Nat.{zero-add, add-zero}
@@ -22,12 +22,12 @@ use Rattle.matching_law.specs.code.Sweeps.{takerOf, sweptOf, trim, headL
 use Rattle.matching_law.proofs.Ends.{trim-none}
 use Rattle.matching_law.proofs.Turns.{head-lots}
 
--- ---- settle
+-- ---- settle: taking out the orders that traded whole, and cutting the next
 
 pub settle-none : (n : ℕ) (t u : List ℕ) (i lots : ℕ) → u ≡ tableOf (drop i (decode n t)) t → lots ≡ 0 → u ≡ tableOf (trim lots (drop i (decode n t))) t
 settle-none n t u i lots e z = rw (z, trim-none) e
 
--- an order that has lots to lose is there
+-- if the order after those has lots to lose, there is such an order
 pub head-there : (n : ℕ) (t : List ℕ) (i lots : ℕ) → (lots ≡ 0 → ⊥) → lots ≤ headLots (drop i (decode n t)) → i < n
 unfolding headLots
 head-there n t i lots z h = elim (decLt i n) [ yes p ↦ p | no p ↦ absurd (z (omega (arith, rw (decode-end n t i (omega arith)) at h))) ]
@@ -87,7 +87,7 @@ swept-into x n t room at t′ room′ r h e =
       answer = rw (count, some, ap (λ (y : End). y .left) (h .same), ap (λ (y : End). y .last) (h .same), ap (λ (y : End). y .out) (h .same));
     }
 
--- what a caller knows then: the table holds the orders that remain
+-- what a caller knows afterwards: the table holds the orders that remain
 pub after-sweep : (x : Incoming) (n : ℕ) (t room : List ℕ) (at : ℕ) (t′ room′ : List ℕ) (r : Matched) → Holds n t →
     SweptInto x (decode n t) t room at t′ room′ r → After (r .count) (sweptOf x (decode n t) .rest) t t′
 after-sweep x n t room at t′ room′ r h k =

@@ -1,4 +1,4 @@
--- `sweep` by one test: a counter price at which the incoming order trades, and one at which it does not.
+-- `sweep` by one test at each counter price: whether the incoming order trades there or not.
 use Prim.Native.Nat.{ℕ, _-_, _≤_}
 use borrow.Author.Tests.{eq-eqb}
 use mathlib.Core.Path.{_≡_, refl}
@@ -13,7 +13,7 @@ use Rattle.rules_law.proofs.Ranges.{in-range-small}
 use Rattle.book_law.specs.Matching.{Taker, Swept, stopped, cutShort, takenWhole, fits, beyond, firstAfter, sweep}
 use Rattle.matching_law.specs.code.Sweeps.{atPriceOf}
 
--- the three tests of `sweep`, in its order: it fits, it is in range, it is beyond the mark
+-- `sweep` makes three tests in this order: the price fits, it is in range, it is beyond the mark
 module _ (stop : Bool → Swept) (on : Swept) where
   stops : (f r b : Bool) → (f && r && not b) ≡ false → cond (not f) (stop false) (cond (not r) (stop true) (cond b (stop false) on)) ≡ stop (f && not r)
   stops false r b e = refl
@@ -32,7 +32,7 @@ middle false r b e = absurd (false≢true e)
 middle true false b e = absurd (false≢true e)
 middle true true b e = refl
 
--- no lots are left
+-- with no lots left, a sweep ends
 pub sweep-zero : (q : Taker) (first lots : ℕ) → lots ≡ 0 → (os : List Order) → sweep q first lots os ≡ stopped false lots os
 unfolding sweep
 sweep-zero q first lots e [] = refl
@@ -54,7 +54,7 @@ module _ (q : Taker) (first lots : ℕ) (os : List Order) (o : Order) (xs : List
     pub sweep-takes : ltb lots (o .lots) ≡ false → sweep q first lots os ≡ takenWhole o (sweep q (firstAfter first (o .price)) (lots - o .lots) xs)
     sweep-takes h = rw (goes, h)
 
--- the first trade of an order is at a price in range, and so its mark fits
+-- a first trade is at a price in range, so the products for its mark do not overflow
 pub first-small : (q : Taker) (first price : ℕ) → RangeFits (q .range) → first ≤ markMost → atPriceOf q first price .trades ≡ true → firstAfter first price ≤ markMost
 first-small q first price f h p =
     let s : price ≤ markMost = in-range-small (q .range) price f (middle (fits (q .side) (q .kind) price) (inRange (q .range) price) (beyond (q .side) (q .kind) first price) p) in

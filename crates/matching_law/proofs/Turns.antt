@@ -1,4 +1,4 @@
--- The loop of `pass`: each way out of it, and a turn, from what the loop holds.
+-- The loop of `pass`: from what the loop keeps, each way out of it and each turn of it give what the contract and the loop ask for.
 use Prim.Native.Nat.{ℕ, _+_, _-_, _*_, _≤_, _<_}
 use native.Mathlib.Omega.{arith}
 use borrow.Author.Tests.{ne-eqb, lt-ltb, le-ltb, not-true, not-false}

@@ -1,12 +1,12 @@
-// matching_law: the law of matching as code does it: what a sweep leaves in the counter side's table, in the room and in its answer.
-// It has no code and may use book_law and what that uses. It promises: the parts of a sweep, an order at a time, make up `sweep`.
+// matching_law: what a sweep leaves in the counter side's table, in the room and in its answer, as the code computes it.
+// It has no code and may use book_law and what that uses. It promises: a sweep made one order at a time comes to what `sweep` says.
 
 use rules_law::Range;
 use terms::Kind;
 use terms::Side;
 
-// An order that comes in, with the range that its trades must be in, its number and time, and the price that stands for its
-// own last trade while it has none.
+// An order that comes in, with the range in which it may trade, its number and time, and the price that stands for its own last trade
+// while it has none.
 pub struct Incoming {
     pub side: Side,
     pub kind: Kind,
@@ -17,14 +17,14 @@ pub struct Incoming {
     pub last: u64,
 }
 
-// What an incoming order does at a counter price: whether it trades, or, if not, stops for want of range.
+// What an incoming order does at a counter price: whether it trades there, and if not, whether that is because the price is out of range.
 pub struct AtPrice {
     pub trades: bool,
     pub out: bool,
 }
 
-// How far a sweep came: counter orders that traded whole, lots that the next one traded, lots left of the incoming order,
-// trades made, the price of the last, and whether it stopped for want of range.
+// How far a sweep came: how many counter orders traded whole, the lots that the next one traded, the lots left of the incoming order,
+// the trades made, the price of the last, and whether the sweep ended at a price out of range.
 pub struct Passed {
     pub whole: usize,
     pub part: u64,
@@ -34,8 +34,8 @@ pub struct Passed {
     pub out: bool,
 }
 
-// What a sweep comes to: counter orders that remain, lots left, trades made, the place in the room behind their reports, the
-// price of the last, and whether it stopped for want of range.
+// What a sweep comes to: how many counter orders remain, the lots left, the trades made, the place in the room behind their reports, the
+// price of the last, and whether the sweep ended at a price out of range.
 pub struct Matched {
     pub count: usize,
     pub left: u64,

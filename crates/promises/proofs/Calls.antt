@@ -1,4 +1,4 @@
--- The promises of the calls, each from one of the definitions.
+-- The promises of runs of calls: each follows from the same promise of the definitions.
 use Prim.Native.Nat.{ℕ, _+_, _≤_}
 use native.Mathlib.Omega.{arith}
 use borrow.Author.Tests.{le-leb}
@@ -93,7 +93,7 @@ calls-stand g es rs h r z a b t e =
     rw (run-told g es rs h r, ap (λ (d : Day). d .session) day) (stands-said g es) in
     (ap (λ (x : Stood). codeOf (x .verdict)) fine, subst (λ (x : Stood). AsSaid g rs (x .standing)) (sym fine) said)
 
--- ---- what is told
+-- ---- what the reports tell
 
 pub calls-trade-within : CallsTradeWithin
 calls-trade-within g es rs h r before later t deal e = trades-within g es before later t deal (sym (run-told g es rs h r) ∙ e)
@@ -104,7 +104,7 @@ calls-go-forward g es rs h r before later x y e = reports-forward g es before la
 pub calls-writable : CallsWritable
 calls-writable g es rs h r before later x e = runs-writable g es before later x (sym (run-told g es rs h r) ∙ e)
 
--- with room for a line and numbers that can be written, neither 16 nor 17 applies
+-- with a line room of full length and numbers that can be written, neither 16 nor 17 applies
 fine-line : (room numbers : List ℕ) → lineRoom ≤ length room → allWritable numbers ≡ true → codeOf (lineVerdict room numbers) ≡ 0
 unfolding lineVerdict firstFailed
 fine-line room numbers l w = rw (le-leb lineRoom (length room) l, w)
@@ -122,7 +122,7 @@ calls-widen g es rs h r before later t band e =
 pub calls-widen-once : CallsWidenOnce
 calls-widen-once g es rs h r = rw (run-told g es rs h r) (widens-once g es)
 
--- ---- two runs
+-- ---- two runs compared
 
 pub same-runs : SameRuns
 same-runs g es rs rs′ h h′ r r′ =

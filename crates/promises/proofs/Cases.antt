@@ -1,4 +1,4 @@
--- The small cases, computed.
+-- The definitions are computed on each small case.
 use mathlib.Core.Path.{refl}
 use Rattle.terms.specs.Truth.{_⊓_}
 use Rattle.terms.specs.Refusals.{firstFailed}

@@ -1,5 +1,5 @@
--- A clock line changes no trade: a day and the same day ticked answer every later event alike, and are one day after it, or two closed
--- ones. It rests on two steps of time being one.
+-- A clock line changes no trade: a day and the same day after a clock event answer every later event alike, and afterwards are the same day
+-- or are both closed. The proof rests on two steps of time being one.
 use Prim.Native.Nat.{ℕ, _≤_}
 use native.Mathlib.Omega.{arith}
 use borrow.Author.Tests.{leb-true, le-leb}
@@ -42,12 +42,12 @@ use Rattle.engine_law.proofs.Kept.{outcome-verdict, accepted-sound}
 use Rattle.promises.proofs.Runs.{told-append}
 use Rattle.promises.specs.ClockLine.{clockAt, plainOne, plain, Reply, replies, From, ClockLine}
 
--- ---- the day after an accepted clock event
+-- ---- the day after an accepted clock event, called the ticked day
 
 abbrev ticked : Day → ℕ → Day
 ticked d t = stepped d t .day
 
--- the live counts of a sound day are those of its orders already
+-- setting the live counts of a sound day to the numbers of its orders changes nothing
 counted-same : (d : Day) (t a b : ℕ) → d .session .live .buys ≡ a → d .session .live .sells ≡ b →
     setSells (setBuys (clockStep (d .session) t) a) b ≡ clockStep (d .session) t
 unfolding clockStep
@@ -67,7 +67,7 @@ clock-day d t h =
       sells = d .sells;
     })
 
--- ---- reports, slab and ref left out
+-- ---- reports without slab and ref
 
 plain-append : (xs ys : List Report) → plain (xs ++ ys) ≡ plain xs ++ plain ys
 unfolding plain
@@ -92,13 +92,13 @@ after-plain d t a =
     let s : Session = d .session in
     plain-append (clockReports s (clockStep s t)) (a .reports) ∙ ap (λ (l : List Report). l ++ plain (a .reports)) (clock-plain s (clockStep s t))
 
--- ---- one event, on a day and on the same day ticked
+-- ---- one event, on a day and on the ticked day
 
 place-ticked : (d : Day) (t : ℕ) (a : Act) → hasPlace sizes (ticked d t) a ≡ hasPlace sizes d a
 unfolding hasPlace
 place-ticked d t a = any-same _ _ (λ n. ap (λ (l : List Order). lifeHasPlace sizes (n .life) (length l)) (own-by (n .side) (clockStep (d .session) t) d)) (carries a .entry)
 
--- what the accepted clock event gives: both days are sound, and it is not before the last accepted time
+-- what follows from an accepted clock event: both days are sound, and the event is not before the last accepted time
 record Ticks (d : Day) (t : ℕ) : Type 0 where
   whole : sound d ≡ true
   then-whole : sound (ticked d t) ≡ true
@@ -113,7 +113,7 @@ ticks d t h =
       forward = leb-true (d .session .clock .time) t (a .forward);
     }
 
--- every row of the table is the same for both
+-- every row of the table of refusals says the same of both days
 refusal-ticked : (d : Day) (t : ℕ) (e : Event) → Ticks d t → t ≤ e .time → refusalOf (ticked d t) e ≡ refusalOf d e
 unfolding refusalOf clockStep finds
 refusal-ticked d t e k h =
@@ -130,13 +130,13 @@ refusal-ticked d t e k h =
     ∷ unless DayFull (hasNumbers sizes (d .session .live .given) (d .session .tape .trades) (e .act))
     ∷ [])
 
--- ---- what the act does
+-- ---- what the act does on both
 
--- the clock steps after the clock steps lead to the same day
+-- after further clock steps both are the same day
 ticked-twice : (d : Day) (t u : ℕ) → d .session .clock .time ≤ t → t ≤ u → ticked (ticked d t) u ≡ ticked d u
 ticked-twice d t u k h = ap (λ (s : Session). dayBy s d) (clock-twice (d .session) t u k h)
 
--- a close cancels and tells the same
+-- a close reports the same cancels and the same prices on both
 ends-ticked : (d : Day) (t u settle : ℕ) → ends (timed (ticked d t) u .day) settle .reports ≡ ends (timed d u .day) settle .reports
 unfolding finished clockStep
 ends-ticked d t u settle = refl
@@ -161,9 +161,9 @@ unfolding outcome
 outcome-plain d t e k h =
     rw (refusal-ticked d t e k h) (decided-plain (refusalOf d e) (ticked d t) d (act (ticked d t) e) (act d e) (act-plain d t e k h))
 
--- ---- the events that follow
+-- ---- all events that follow
 
--- two closed days answer alike: everything is refused 3
+-- two closed days answer alike: every event is refused with 3
 closed-replies : (d d′ : Day) (es : List Event) → sound d ≡ true → sound d′ ≡ true → d .session .clock .closed ≡ true → d′ .session .clock .closed ≡ true →
     replies d′ es ≡ replies d es
 unfolding replies outcome
@@ -176,7 +176,7 @@ close-closed : (d : Day) (e : Event) → carries (e .act) .closes ≡ true → a
 unfolding finished
 close-closed d e c = rw (act-closes d e c, closing d (e .act) c .1) refl
 
--- after an accepted event: the same day, or two closed ones
+-- after an accepted event both are the same day, or both are closed
 act-replies : (d : Day) (t : ℕ) (e : Event) (es : List Event) → Ticks d t → t ≤ e .time → Accepted d e → Accepted (ticked d t) e →
     replies (act (ticked d t) e .day) es ≡ replies (act d e .day) es
 act-replies d t e es k h x y =
@@ -211,7 +211,7 @@ run-replies d t (e ∷ es) k f =
     rest-replies d t e es k (f .0) (run-replies d t es k (f .1)) in
     λ i. record { verdict = verdict i; reports = said i } ∷ next i
 
--- for any day on which the clock event is accepted
+-- the replies agree, from any day on which the clock event is accepted
 pub clock-changes-nothing : (d : Day) (t : ℕ) (es : List Event) → outcome d (clockAt t) .verdict ≡ Fine → From t es →
     replies (outcome d (clockAt t) .day) es ≡ replies d es
 clock-changes-nothing d t es h f =
@@ -221,9 +221,9 @@ clock-changes-nothing d t es h f =
 pub clock-line : ClockLine
 clock-line g before later t h f = clock-changes-nothing (after (opened g) before) t later h f
 
--- ---- and of all that is told
+-- ---- the same of all that is reported
 
--- what a run of replies says
+-- all reports of a run of replies
 said : List Reply → List Report
 said [] = []
 said (r ∷ rs) = r .reports ++ said rs
@@ -235,7 +235,7 @@ told-plain d (e ∷ es) =
     plain-append (outcome d e .reports) (told (outcome d e .day) es)
     ∙ ap (λ (l : List Report). plain (outcome d e .reports) ++ l) (told-plain (outcome d e .day) es)
 
--- an accepted clock event says slab and ref at most
+-- an accepted clock event reports slab and ref at most
 clock-says : (d : Day) (t : ℕ) → outcome d (clockAt t) .verdict ≡ Fine → plain (outcome d (clockAt t) .reports) ≡ []
 unfolding outcome act plain
 clock-says d t h =

@@ -1,4 +1,4 @@
--- Each result is an equation against the definitions, or the one right answer to bytes, so two are equal.
+-- Each contract gives the result by an equation, or fixes the one right answer to bytes, so two results for one input are equal.
 use mathlib.Core.Path.{_≡_, refl, sym, ap, _∙_}
 use Rattle.terms.specs.declared.Event.{Event}
 use Rattle.terms.specs.declared.Settings.{Settings}
@@ -35,7 +35,7 @@ apply-determined s e buys sells room buys₁ sells₁ room₁ buys₂ sells₂ r
       told = a .told ∙ sym (b .told);
     }
 
--- a reader's answer is told by the answer that it stands for
+-- a reader's answer as code returns it, from the answer of the definitions
 abbrev eventBack : Answer Event → ReadEvent
 eventBack (whole e n) = ReadEvent.Whole e n
 eventBack unfinished = ReadEvent.Unfinished

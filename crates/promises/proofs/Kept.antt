@@ -1,4 +1,4 @@
--- The promises, each from the law of a run.
+-- The promises of the definitions: each follows from a law of runs.
 use Prim.Native.Nat.{ℕ, _+_, _≤_}
 use native.Mathlib.Omega.{arith}
 use mathlib.Core.Path.{_≡_, refl, sym, _∙_, subst}
@@ -47,13 +47,13 @@ empty-kept id s es = omega (arith, run-kept id (emptyDay s) es)
 pub lots-kept : LotsKept
 lots-kept g es id = empty-kept id (openedSession g) es
 
--- of one order: its lots are all that its number ever asks for
+-- for one order: its lots are all that is ever asked for under its number
 pub order-kept : OrderKept
 order-kept g before later t n h =
     sym (run-asked (opened g) before later t n h)
     ∙ lots-kept g (before ++ (record { time = t; act = Enter n } ∷ later)) (after (opened g) before .session .live .given + 1)
 
--- where no number is given yet
+-- numbers are given in order from 1, on a day that has given none
 pub counts-from : (d : Day) (es : List Event) → d .session .live .given ≡ 0 → accepts (told d es) ≡ numbersTo (after d es .session .live .given)
 unfolding numbersTo
 counts-from d es e = subst (λ (n : ℕ). numbersTo n ++ accepts (told d es) ≡ numbersTo (after d es .session .live .given)) e (run-counts d es)
@@ -75,9 +75,9 @@ time-forward g es more = rw (after-append (opened g) es more) (run-forward (afte
 pub reports-fit : ReportsFit
 reports-fit d e = outcome-few d e
 
--- ---- what a listener has heard, by the definitions of what was said
+-- ---- what a listener has heard, in terms of what the reports said
 
--- at the opening: the settings alone
+-- a listener at the opening, who knows the settings alone
 abbrev first : Settings → Listener
 first g = record { band = initialBand g; reference = openingReference (g .base) (g .under) (g .days); time = 0; past = [] }
 
@@ -97,7 +97,7 @@ swap true false c = refl
 swap false true c = refl
 swap false false c = refl
 
--- the past, newest first, has the same touches
+-- the listener's past, which is kept newest first, has the same trades at the ends of the band as the reports
 past-heard : (b : Band) (t : ℕ) (l : Listener) (rs : List Report) →
     touchedBy b t (listenAll l rs .past) ≡ (touchedBy b t rs || touchedBy b t (l .past))
 unfolding listenAll touchedBy
@@ -115,7 +115,7 @@ or-false : (a : Bool) → (a || false) ≡ true → a ≡ true
 or-false true e = refl
 or-false false e = e
 
--- no cooling-off runs
+-- at the opening no cooling-off runs
 first-cooled : (g : Settings) → Cooled g (openedSession g .clock .cooling) []
 first-cooled g = rw (opened-begun g .not-cooling)
 
@@ -149,12 +149,12 @@ widens-to-enhanced g es before later t band e =
     let f = fine-at g (first g) before later (reportAt t (Slab band)) (rw e at (all-fine g es)) .1 .1 in
     (rw (band-heard (first g) before) at (f .before), f .told)
 
--- no band is widened at the opening, and none is widened more than once
+-- at the opening the band has not been widened, and it is widened at most once
 pub widens-once : WidensOnce
 unfolding openedSession
 widens-once g es = omega (arith, run-widens (opened g) es, run-once (opened g) es (omega arith))
 
--- two reports, one after the other
+-- of two reports that follow each other, the second is not earlier
 two-forward : (g : Settings) (l : Listener) (before later : List Report) (r r′ : Report) → EachFine g l (before ++ (r ∷ (r′ ∷ later))) →
     r .time ≤ r′ .time
 unfolding EachFine
@@ -164,7 +164,7 @@ two-forward g l (x ∷ xs) later r r′ f = two-forward g (listen l x) xs later 
 pub reports-forward : ReportsForward
 reports-forward g es before later r r′ e = two-forward g (first g) before later r r′ (rw e at (all-fine g es))
 
--- ---- what is in force is what the reports give
+-- ---- what is in force is what the reports said
 
 pub stands-said : StandsSaid
 unfolding openedSession standingNow

@@ -1,5 +1,5 @@
--- What a run begins with, an opening that is accepted or refused: a run follows the definitions from its day on. After a refused one every
--- call is refused, so nothing is told and nothing changes.
+-- A run begins with an opening, accepted or refused, and follows the definitions from that day on. After a refused opening every call is
+-- refused, so nothing is reported and nothing changes.
 use Prim.Native.Nat.{ℕ}
 use native.Mathlib.Omega.{arith}
 use mathlib.Core.Path.{_≡_, refl, sym, ap, _∙_, subst}
@@ -43,7 +43,7 @@ by-opening P g f h = go (settingsVerdict g) refl
     go Fine e = f e
     go (Refused r) e = h r e
 
--- no order is live, whatever lies in the tables
+-- no order is live after an opening, whatever lies in the tables
 opening-held : (g : Settings) (buys sells : List ℕ) → dayHeld (openedOn (openingOf g) buys sells) ≡ begins g
 unfolding openedSession fixedSession decode
 opening-held g buys sells = by-opening (λ (o : Opened). dayHeld (openedOn o buys sells) ≡ emptyDay (o .session)) g (λ e. refl) (λ r e. refl)
@@ -52,19 +52,19 @@ pub none-live : (g : Settings) → (begins g .session .live .buys ≡ 0) × (beg
 unfolding openedSession fixedSession
 none-live g = by-opening (λ (o : Opened). (o .session .live .buys ≡ 0) × (o .session .live .sells ≡ 0)) g (λ e. (refl, refl)) (λ r e. (refl, refl))
 
--- no number is given
+-- no number has been given
 pub none-given : (g : Settings) → begins g .session .live .given ≡ 0
 unfolding fixedSession
 none-given g = by-opening (λ (o : Opened). o .session .live .given ≡ 0) g (λ e. opened-begun g .none-given) (λ r e. refl)
 
--- an opening that answers 0 begins the day of its settings, which nothing is against
+-- an opening that answers 0 begins the day of its settings, which no refusal applies to
 pub opened-fine : (g : Settings) → codeOf (openingOf g .verdict) ≡ 0 → (settingsVerdict g ≡ Fine) × (begins g ≡ opened g)
 opened-fine g =
     by-opening (λ (o : Opened). codeOf (o .verdict) ≡ 0 → (settingsVerdict g ≡ Fine) × (emptyDay (o .session) ≡ opened g)) g
     (λ e z. (e, refl))
     (λ r e z. absurd (omega (arith, refusal-number r .0)))
 
--- any other begins the fixed session
+-- any other opening begins with the fixed session
 opened-fixed : (g : Settings) → (codeOf (openingOf g .verdict) ≡ 0 → ⊥) → openingOf g .session ≡ fixedSession
 opened-fixed g = by-opening (λ (o : Opened). (codeOf (o .verdict) ≡ 0 → ⊥) → o .session ≡ fixedSession) g (λ e n. absurd (n refl)) (λ r e n. refl)
 
@@ -92,14 +92,14 @@ cut-from g before later e rs own rest h x =
     cut (begins g) before later e rs own rest (x .held) (x .left) h (x .call) (run-from g before rs (x .held) (x .until)) (x .called)
     (x .following) (x .handed) (x .accepted)
 
--- ---- a day that is not sound tells nothing
+-- ---- a day that is not sound reports nothing
 
 unsound-told : (d : Day) (es : List Event) → sound d ≡ false → told d es ≡ []
 unfolding told
 unsound-told d [] h = refl
 unsound-told d (e ∷ es) h = let n = unsound-nothing d e h in (λ i. n .1 i ++ told (n .0 i) es) ∙ unsound-told d es h
 
--- so the reports of any run are those of the day of its settings, which is not sound where its opening is refused
+-- so the reports of any run are those of the day of its settings; where the opening is refused that day is not sound, and both are none
 pub run-told : (g : Settings) (es : List Event) (rs : List Report) (h : Held) → RunFrom g es rs h → rs ≡ told (opened g) es
 unfolding fixedSession decode
 run-told g es rs h r =
@@ -108,7 +108,7 @@ run-told g es rs h r =
     (λ e. refl)
     (λ q e. unsound-told (emptyDay fixedSession) es (fixed-unsound [] []) ∙ sym (unsound-told (opened g) es (refused-unsound g q e)))
 
--- ---- where every call is refused, nothing is told and nothing changes
+-- ---- where every call is refused, nothing is reported and nothing changes
 
 abbrev Stuck : Held → Type 0
 Stuck h = (c : Call) → (r : Refusal) × (verdictOn h c ≡ Refused r)
@@ -122,7 +122,7 @@ stuck-run h es rs h′ s (calls h₀ h₁ h₂ c es₀ rs₀ rs₁ k run) =
     (λ i. one .0 i ++ rest .0 i, rest .1 ∙ one .1)
 
 module _ (h : Held) (u : sound (dayHeld h) ≡ false) where
-  -- by 1 where something lent is short, else by 2
+  -- a call is refused with 1 where something lent is short, else with 2
   unsound-verdict : (c : Call) → verdictOn h c ≡ cond (hasRoom h c) (Refused Unsound) (Refused SmallRoom)
   unsound-verdict c =
       cases (hasRoom h c) (λ b. judged-verdict h c b ∙ unsound-refused (dayHeld h) (c .event) u ∙ rw b refl) (λ b. short-verdict h c b ∙ rw b refl)
@@ -135,7 +135,7 @@ module _ (h : Held) (u : sound (dayHeld h) ≡ false) where
   unsound-number c =
       cases (hasRoom h c) (λ b. rw (unsound-verdict c, b) refl) (λ b. rw (unsound-verdict c, b) refl)
 
--- A REFUSED OPENING is such a day
+-- A REFUSED OPENING begins such a day
 pub calls-after-refusal : CallsAfterRefusal
 calls-after-refusal g es rs h r n =
     let fixed : r .opening .session ≡ fixedSession =

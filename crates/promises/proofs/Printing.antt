@@ -1,4 +1,4 @@
--- The program's output by the calls is that by the days.
+-- What the calls print is what the definitions of days print, line by line and so for all lines.
 use Prim.Native.Nat.{ℕ, zero, suc, _+_, _-_, _≤_}
 use native.Mathlib.Omega.{arith}
 use mathlib.Core.Path.{_≡_, refl, sym, ap, _∙_, subst}
@@ -50,16 +50,16 @@ use Rattle.promises.specs.Printed.{Holding, atStart, dayOn, Piece, Hande
 use Rattle.promises.specs.Printed.Feeding.{ends, feeds}
 use Rattle.promises.proofs.Tables.{Left, outcome-day}
 
--- ---- lent numbers as a day
+-- ---- the day that lent numbers hold
 
 abbrev pub dayLent : Lent → Day
 dayLent l = dayIn (l .session) (l .buys) (l .sells)
 
--- all that is lent is long enough
+-- tables and room are long enough
 abbrev pub Long : Lent → Type 0
 Long l = roomy (l .buys) (l .sells) (l .room) ≡ true
 
--- ---- an opening: a session with no orders
+-- ---- an opening begins a session with no live orders
 
 none-live : (v : Verdict) (g : Settings) → (openedBy g v .session .live .buys ≡ 0) × (openedBy g v .session .live .sells ≡ 0)
 unfolding openedSession fixedSession
@@ -72,7 +72,7 @@ opened-day g l =
     let n = none-live (settingsVerdict g) g in
     rw (n .0, n .1)
 
--- ---- an event
+-- ---- an event on lent numbers and on their day
 
 module _ (l : Lent) (e : Event) (long : Long l) where
   abbrev o : Outcome
@@ -104,7 +104,7 @@ module _ (l : Lent) (e : Event) (long : Long l) where
   unfolding days
   next-day = outcome-day before afterwards e (o .reports) left
 
-  -- it keeps the lengths
+  -- it leaves tables and room long enough
   few : (side : List Order) (n : ℕ) → n ≡ length side → n ≤ slots → length side ≤ slots
   few side n q h = rw q at h
 
@@ -135,7 +135,7 @@ module _ (l : Lent) (e : Event) (long : Long l) where
       let r = length-put (l .room) 0 (recordsOf (o .reports)) fit in
       rw (comes-to, b, s, r) long
 
--- ---- a line
+-- ---- one line in both worlds
 
 record Same (t : Turn Lent) (u : Turn Day) : Type 0 where
   stage : t .stage ≡ u .stage
@@ -168,7 +168,7 @@ turn-same Stage.Awaiting l h bytes = settings-same l h (readSettings bytes)
 turn-same Stage.Trading l h bytes = event-same l h (readEvent bytes)
 turn-same Stage.Over l h bytes = record { stage = refl; day = refl; used = refl; text = refl; long = h }
 
--- ---- all lines
+-- ---- all lines in both worlds
 
 pub same-printed : (n : ℕ) (stage : Stage) (l : Lent) (bytes : List ℕ) → Long l → printedIn calls n stage l bytes ≡ printedIn days n stage (dayLent l) bytes
 unfolding printedIn
@@ -194,7 +194,7 @@ end-long left stage l bytes h =
     let f : Fed Lent = fedIn calls (length bytes) left stage l bytes in
     rw (end-world calls (f .stop) (left - length (f .text)) (length bytes - f .used) f) (fed-long left stage l bytes h)
 
--- ---- a call
+-- ---- one call of feed or end, where nothing lent is short
 
 module _ (run : Run) (buys sells room bytes out : List ℕ) (v : feedVerdict buys sells room ≡ Fine) where
   fine-long : roomy buys sells room ≡ true
@@ -212,7 +212,7 @@ module _ (run : Run) (buys sells room bytes out : List ℕ) (v : feedVerdict buy
   unfolding endedOf
   fine-ended = ap (endBehind calls (length out) (length bytes)) fine-fed
 
--- what was handed out and is held, by what the bytes came to
+-- what a call printed and left, given what the bytes came to
 module _ (of : Feed) (h h′ : Holding) (p : Piece) (text : List ℕ) (k : Handed of h p text h′) (f : Fed Lent)
     (is : of (h .run) (h .buys) (h .sells) (p .room) (h .kept ++ p .bytes) (p .out) ≡ f) (long : Long (f .world)) where
   as-fed : TakenAs f (p .out) (h′ .buys) (h′ .sells) (k .room) (k .out) (k .answered)
@@ -223,7 +223,7 @@ module _ (of : Feed) (h h′ : Holding) (p : Piece) (text : List ℕ) (k : Hande
       let c = as-fed .printed in
       sym (k .told ∙ (λ i. take (c .count i) (c .laid i)) ∙ take-append-seam (f .text) (drop (length (f .text)) (p .out)))
 
-  -- what is still to be printed, by days
+  -- what is still to be printed after the call, in terms of days
   still : (more : List ℕ) → printedFrom calls (f .stage) (f .world) (drop (f .used) (h .kept ++ p .bytes) ++ more) ≡ toPrint h′ more
   still more =
       let stage : f .stage ≡ h′ .run .stage = sym (ap (λ (x : Run). x .stage) (k .run) ∙ as-fed .stage) in
@@ -232,7 +232,7 @@ module _ (of : Feed) (h h′ : Holding) (p : Piece) (text : List ℕ) (k : Hande
       let bytes : List ℕ = drop (f .used) (h .kept ++ p .bytes) ++ more in
       same-printed (length bytes) (f .stage) (f .world) bytes long ∙ (λ i. printedFrom days (stage i) (world i) (kept i ++ more))
 
--- what was to be printed of the same bytes before
+-- what was to be printed of these bytes before the call, in terms of days
 beforehand : (h : Holding) (p : Piece) → feedVerdict (h .buys) (h .sells) (p .room) ≡ Fine → (more : List ℕ) →
     printedFrom calls (h .run .stage) (lentOf (h .run .session) (h .buys) (h .sells) (p .room)) ((h .kept ++ p .bytes) ++ more) ≡ toPrint h (p .bytes ++ more)
 beforehand h p v more =
@@ -253,7 +253,7 @@ handed-prints h h′ p text k more =
     ∙ pieces calls (length (p .out)) (h .run .stage) l bytes more
     ∙ (λ i. text-is fedOf h h′ p text k f is after i ++ still fedOf h h′ p text k f is after more i)
 
--- ---- so
+-- ---- so a run of calls prints what the definitions say
 
 feeding : (h h′ : Holding) (input text : List ℕ) → Feeding h input text h′ → (more : List ℕ) → toPrint h (input ++ more) ≡ text ++ toPrint h′ more
 feeding h h′ input text (ends _) more = refl

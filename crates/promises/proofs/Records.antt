@@ -1,4 +1,4 @@
--- A record tells its report: two lists of as many reports with the same records are one.
+-- A record determines its report: two lists of equally many reports with the same records are equal.
 use Prim.Native.Nat.{ℕ, zero, suc}
 use mathlib.Core.Path.{_≡_, refl, sym, ap, _∙_}
 use mathlib.Core.Bool.{cond}
@@ -35,7 +35,7 @@ unfoldable reportsIn : ℕ → List ℕ → List Report
 reportsIn zero l = []
 reportsIn (suc n) l = reportIn l ∷ reportsIn n (drop recordLength l)
 
--- ---- it is the report
+-- ---- what is read back is the report
 
 why-back : (w : Why) → whyIn (whyOf w) ≡ w
 why-back Asked = refl

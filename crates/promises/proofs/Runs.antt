@@ -1,4 +1,4 @@
--- The laws of one event, carried over a run by induction.
+-- The laws of one event, extended to runs by induction.
 use Prim.Native.Nat.{ℕ, _+_, _≤_, _<_}
 use native.Mathlib.Omega.{arith}
 use native.Mathlib.Nat.{le-refl, le-trans}
@@ -23,7 +23,7 @@ use Rattle.engine_law.specs.Outcome.{outcome, after, told}
 use Rattle.engine_law.proofs.Kept.{outcome-sound, outcome-kept, outcome-counts, outcome-tells, outcome-widens, outcome-once, outcome-settings, outcome-forward, outcome-given, accepted-asks, asks-old, asks-new}
 use Rattle.promises.specs.Lots.{asked}
 
--- ---- two runs, one after the other
+-- ---- one run after another
 
 pub after-append : (d : Day) (es more : List Event) → after d (es ++ more) ≡ after (after d es) more
 unfolding after
@@ -37,7 +37,7 @@ told-append d (e ∷ es) more =
     ap (λ (l : List Report). outcome d e .reports ++ l) (told-append (outcome d e .day) es more)
     ∙ sym (append-assoc (outcome d e .reports) (told (outcome d e .day) es) (told (after (outcome d e .day) es) more))
 
--- ---- the laws
+-- ---- the laws of a run
 
 pub run-sound : (d : Day) (es : List Event) → sound d ≡ true → sound (after d es) ≡ true
 unfolding after
@@ -78,7 +78,7 @@ unfolding after
 run-settings d [] = refl
 run-settings d (e ∷ es) = run-settings (outcome d e .day) es ∙ outcome-settings d e
 
--- every report is fine, and a listener knows at the end what is in force then
+-- every report is as it must be, and at the end a listener knows what is in force
 pub run-tells : (g : Settings) (l : Listener) (d : Day) (es : List Event) → d .session .settings ≡ g → KnowsOf g l (d .session) →
     TellsOf g l (told d es) (after d es .session)
 unfolding told after
@@ -103,7 +103,7 @@ unfolding after
 run-once d [] h = h
 run-once d (e ∷ es) h = run-once (outcome d e .day) es (outcome-once d e h)
 
--- ---- the number of an order over a run
+-- ---- what is asked for under an order's number, over a run
 
 asked-append : (id : ℕ) (d : Day) (es more : List Event) → asked id d (es ++ more) ≡ asked id d es + asked id (after d es) more
 unfolding asked after
@@ -115,13 +115,13 @@ unfolding after
 run-given d [] = le-refl (d .session .live .given)
 run-given d (e ∷ es) = le-trans (outcome-given d e) (run-given (outcome d e .day) es)
 
--- a number that was given before is asked for no more
+-- under a number that was given before the run, nothing is asked for in it
 run-old : (id : ℕ) (d : Day) (es : List Event) → id ≤ d .session .live .given → asked id d es ≡ 0
 unfolding asked
 run-old id d [] h = refl
 run-old id d (e ∷ es) h = omega (arith, asks-old id d e h, run-old id (outcome d e .day) es (le-trans h (outcome-given d e)))
 
--- and one that is not given at the end was not asked for
+-- nor under one that is not given by its end
 run-new : (id : ℕ) (d : Day) (es : List Event) → after d es .session .live .given < id → asked id d es ≡ 0
 unfolding asked after
 run-new id d [] h = refl
@@ -129,7 +129,7 @@ run-new id d (e ∷ es) h =
     let d′ : Day = outcome d e .day in
     omega (arith, asks-new id d e (omega (arith, run-given d′ es)), run-new id d′ es h)
 
--- so the lots that a number asks for in a run are those of the one order that has it
+-- so what is asked for under a number in a run are the lots of the one order that has it
 pub run-asked : (d : Day) (before later : List Event) (t : ℕ) (n : Entry) → outcome (after d before) (record {
   time = t;
   act = Enter n;

@@ -1,5 +1,5 @@
--- What the view shows are the live orders: their numbers are read back as the orders of the day that is held. In a run from an opening this
--- is so whatever the tables are: short ones, and those of a refused opening, have no live order.
+-- The view shows the live orders: its numbers are read back as the orders of the day that is held. In a run from an opening this is so
+-- whatever the tables are, since there is no live order in short tables or after a refused opening.
 use Prim.Native.Nat.{ℕ, _+_, _*_, _/_, _≤_}
 use native.Mathlib.Omega.{arith}
 use borrow.Author.Tests.{le-ltb}
@@ -39,13 +39,13 @@ use Rattle.promises.proofs.Tables.{verdictOn, verdict-called, refused-c
 use Rattle.promises.proofs.Openings.{none-live, start, start-held, calls-after-refusal}
 use Rattle.promises.proofs.Calls.{calls-keep-lots, calls-stay-sound}
 
--- the numbers of orders are read back as these orders, by their length alone
+-- the numbers of some orders are read back as these orders, and their length says how many there are
 numbers-back : (os : List Order) → decode (length (encode os) / width) (encode os) ≡ os
 numbers-back os =
     let n : length (encode os) / width ≡ length os = omega (arith, length-encode os) in
     rw n (ap (decode (length os)) (sym (append-nil (encode os))) ∙ decode-encode os _)
 
--- the first slots of a table, n of them
+-- the first n slots of a table are read back as the orders in them
 live-back : (n : ℕ) (t : List ℕ) → n ≤ slots → tableLength ≤ length t → decode (length (take (width * n) t) / width) (take (width * n) t) ≡ decode n t
 live-back n t f l =
     let e : encode (decode n t) ≡ take (width * n) t = encode-decode n t (omega arith) in
@@ -76,7 +76,7 @@ module _ (h : Held) (k : sound (dayHeld h) ≡ true) (b : tableLength ≤ length
   resting-seen : (id : ℕ) → resting id (dayHeld h) ≡ restingSeen id h
   resting-seen id = λ i. lotsOf id (sym buys-seen i) + lotsOf id (sym sells-seen i)
 
--- ---- whatever the length of the tables: they are long, or nothing has happened on them
+-- ---- tables of any length: they are long enough, or no event was accepted on them
 
 abbrev Long : Held → Type 0
 Long h = (tableLength ≤ length (h .buys)) × (tableLength ≤ length (h .sells))
@@ -85,7 +85,7 @@ table-long : (os : List Order) (t : List ℕ) → tableLength ≤ length (tableO
 unfolding tableOf
 table-long os t = simp (length-append, length-replicate) (omega (arith, length-encode os))
 
--- an accepted event leaves whole tables, a refused one what was held
+-- a call leaves long tables, or what was held
 called-long : {P : Type 0} (h h′ : Held) (c : Call) (rs : List Report) → Called h c rs h′ → (Long h′ → P) → (h′ ≡ h → P) → P
 called-long {P} h h′ c rs k f g = go (verdictOn h c) refl
   where
@@ -103,7 +103,7 @@ run-long h es rs h′ (ends h₀) f g = g refl
 run-long h es rs h′ (calls h₀ h₁ h₂ c es₀ rs₀ rs₁ k run) f g =
     run-long h₁ es₀ rs₁ h₂ run f (λ e. called-long h₀ h₁ c rs₀ k (λ l. f (subst Long (sym e) l)) (λ e′. g (e ∙ e′)))
 
--- with no live order the view is empty
+-- where no order is live, the view is empty
 either : (b : Bool) (numbers : List ℕ) → cond b numbers numbers ≡ numbers
 either true numbers = refl
 either false numbers = refl

@@ -1,5 +1,5 @@
 -- From calls to the definitions: what a call hands out and leaves is the outcome of its event on the day that was held, so a run of calls
--- is a run of the definitions. A call that is refused changes nothing that is held.
+-- is a run of the definitions. A refused call changes nothing that is held.
 use Prim.Native.Nat.{ℕ, _+_, _*_}
 use native.Mathlib.Omega.{arith}
 use mathlib.Core.Path.{_≡_, refl, sym, ap, _∙_, subst}
@@ -42,7 +42,7 @@ use Rattle.promises.specs.Runs.Calling.{ends, calls}
 use Rattle.promises.proofs.Records.{records-tell}
 use Rattle.promises.proofs.Runs.{after-append, told-append}
 
--- ---- what a call comes to, by its contract
+-- ---- what the contract says that a call comes to
 
 module _ (h : Held) (c : Call) where
   abbrev pub verdictOn : Verdict
@@ -54,7 +54,7 @@ module _ (h : Held) (c : Call) where
   pub verdict-called : calledOn .verdict ≡ verdictOn
   verdict-called = called-verdict (h .session) (c .event) (h .buys) (h .sells) (c .room)
 
-  -- row 1 applies, or the others decide, on the day that is held
+  -- row 1 applies, or else the other rows decide, on the day that is held
   pub short-verdict : hasRoom h c ≡ false → verdictOn ≡ Refused SmallRoom
   short-verdict = small-verdict (h .session) (c .event) (h .buys) (h .sells) (c .room)
 
@@ -64,14 +64,14 @@ module _ (h : Held) (c : Call) where
   judged-called : hasRoom h c ≡ true → calledOn ≡ outcome (dayHeld h) (c .event)
   judged-called = called-outcome (h .session) (c .event) (h .buys) (h .sells) (c .room)
 
--- what it leaves, by what it comes to
+-- what a call leaves, given the outcome of its event
 pub record Left (o : Outcome) (h : Held) (rs : List Report) (h′ : Held) : Type 0 where
   pub session : h′ .session ≡ o .day .session
   pub buys : h′ .buys ≡ tableBy (o .verdict) (o .day .buys) (h .buys)
   pub sells : h′ .sells ≡ tableBy (o .verdict) (o .day .sells) (h .sells)
   pub reports : rs ≡ o .reports
 
--- the records of reports that are laid at the start of a room are the first in it
+-- records written to the front of a room are the first in it
 first-records : (o : List Report) (room : List ℕ) → take (recordLength * length o) (put room 0 (recordsOf o)) ≡ recordsOf o
 unfolding put
 first-records o room = rw (← length-records o) (take-append-seam (recordsOf o) _)
@@ -91,7 +91,7 @@ module _ (h h′ : Held) (c : Call) (rs : List Report) (k : Called h c rs h′) 
             (sym (k .reports .1) ∙ (λ i. take (recordLength * n i) (a .told i)) ∙ first-records (o .reports) (c .room));
       }
 
-  -- with room enough, what its event does on the day that was held
+  -- where nothing lent is short, it leaves what its event does on the day that was held
   judged : hasRoom h c ≡ true → Left (outcome (dayHeld h) (c .event)) h rs h′
   judged b = subst (λ o. Left o h rs h′) (judged-called h c b) left
 
@@ -103,18 +103,18 @@ module _ (h h′ : Held) (c : Call) (rs : List Report) (k : Called h c rs h′) 
       subst (λ x. Left (decided x (dayHeld h) (act (dayHeld h) (c .event))) h rs h′) v left in
       (k′ .reports, λ i. record { session = k′ .session i; buys = k′ .buys i; sells = k′ .sells i })
 
-  -- the number of its answer is that of the first row that applies
+  -- the number that it answers is that of the first row that applies
   pub number-by : numberAnswered k ≡ codeOf (verdictOn h c)
   number-by = answered-code (h .session) (c .event) (h .buys) (h .sells) (c .room) (h′ .buys) (h′ .sells) (k .room) (k .answered) (k .contract)
 
-  -- a call that answers 0 had room enough, and its event is accepted on the day that was held
+  -- a call that answers 0 found nothing short, and its event was accepted on the day that was held
   accepted-call : numberAnswered k ≡ 0 → (hasRoom h c ≡ true) × (outcome (dayHeld h) (c .event) .verdict ≡ Fine)
   accepted-call z =
       let v : calledOn h c .verdict ≡ Fine = verdict-called h c ∙ code-fine (verdictOn h c) (sym number-by ∙ z) in
       let b : hasRoom h c ≡ true = fine-roomy (h .session) (c .event) (h .buys) (h .sells) (c .room) v in
       (b, sym (ap (λ (o : Outcome). o .verdict) (judged-called h c b)) ∙ v)
 
-  -- a law of a call and whether it counts: of one with room enough, by what its event does; of another, as it changes nothing
+  -- to prove a law of a call: if nothing lent is short, prove it from what its event does; otherwise from the call changing nothing
   by-room : (P : Bool → Type 0) → (Left (outcome (dayHeld h) (c .event)) h rs h′ → P true) → ((rs ≡ []) × (h′ ≡ h) → P false) →
       P (hasRoom h c)
   by-room P f g = go (hasRoom h c) refl
@@ -123,14 +123,14 @@ module _ (h h′ : Held) (c : Call) (rs : List Report) (k : Called h c rs h′) 
       go true e = f (judged e)
       go false e = g (refused-call SmallRoom (short-verdict h c e))
 
--- ---- the day that is read from the tables after an event is that of its outcome
+-- ---- the day that is read from the tables after an event is the day of its outcome
 
--- a table of orders, read by their count, is these orders
+-- a table of orders, read by their count, gives these orders
 reads-back : (n : ℕ) (os : List Order) (t : List ℕ) → n ≡ length os → decode n (tableOf os t) ≡ os
 unfolding tableOf
 reads-back n os t e = rw e (decode-encode os _)
 
--- where nothing is written, the day stays
+-- where nothing is written, the day stays the same
 same-day : (h h′ : Held) → h′ .session ≡ h .session → h′ .buys ≡ h .buys → h′ .sells ≡ h .sells → dayHeld h′ ≡ dayHeld h
 same-day h h′ s b e = λ i. dayHeld (record { session = s i; buys = b i; sells = e i })
 
@@ -164,14 +164,14 @@ module _ (h h′ : Held) (e : Event) (rs : List Report) (k : Left (outcome (dayH
   pub outcome-day : dayHeld h′ ≡ o .day
   outcome-day = by-verdict (o .verdict) refl
 
--- ---- a run
+-- ---- a run of calls
 
--- from a day on: the reports and the day that is held at the end are those of the events
+-- a run from day d on: its reports, and the day that is held at the end, are those of the events
 pub record Follows (d : Day) (es : List Event) (rs : List Report) (h : Held) : Type 0 where
   pub reports : rs ≡ told d es
   pub day : dayHeld h ≡ after d es
 
--- an event, then others
+-- one event, followed by others
 judged-next : (h h′ h″ : Held) (e : Event) (es : List Event) (rs rs′ : List Report) → Left (outcome (dayHeld h) e) h rs h′ →
     Follows (dayHeld h′) es rs′ h″ → Follows (dayHeld h) (e ∷ es) (rs ++ rs′) h″
 unfolding told after
@@ -193,7 +193,7 @@ run-follows h es rs h′ (calls h₀ h₁ h₂ c es₀ rs₀ rs₁ k run) =
       day = f .day ∙ ap (λ (x : Day). after x es₀) d;
     })
 
--- what is asked for by the calls' own reports is what the definitions say
+-- what is asked for by the calls' own reports is what the definitions say is asked for
 pub run-asks : (id : ℕ) (h : Held) (es : List Event) (rs : List Report) (h′ : Held) (run : Calling h es rs h′) → askedOver id run ≡ asked id (dayHeld h) es
 unfolding askedOver asked total
 run-asks id h es rs h′ (ends h₀) = refl
@@ -207,9 +207,9 @@ run-asks id h es rs h′ (calls h₀ h₁ h₂ c es₀ rs₀ rs₁ k run) =
     let same : asked id (dayHeld h₁) es₀ ≡ asked id (dayHeld h₀) es₀ = ap (λ (x : Held). asked id (dayHeld x) es₀) (n .1) in
     omega arith)
 
--- ---- a run cut at a call that accepts its event
+-- ---- a run cut in two by a call that accepts its event
 
--- the whole follows, and the event is accepted on the day that the events before it leave
+-- the whole run follows the definitions, and the event is accepted on the day that the events before it leave
 pub record Cut (d : Day) (before later : List Event) (e : Event) (rs own rest : List Report) (h″ : Held) : Type 0 where
   pub whole : Follows d (before ++ (e ∷ later)) (rs ++ (own ++ rest)) h″
   pub accepted : outcome (after d before) e .verdict ≡ Fine

@@ -1,4 +1,4 @@
--- Every report can be written: the numbers of its line are among those of its record, and these are small.
+-- Every report can be written: the numbers of its line are among those of its record, and these are small enough.
 use mathlib.Core.Path.{_≡_, refl, subst}
 use mathlib.Core.Bool.{true}
 use mathlib.Core.List.{List, [], _∷_, _++_}
@@ -24,7 +24,7 @@ report-writable r h =
     let x = r .said in
     writable-tested (reportNumbers r) (h .1 .0, writable-take (holes (saidForm x)) (fieldsOf x) (h .1 .1))
 
--- one of small reports is small
+-- if all reports of a run have small numbers, so has each
 small-at : (before later : List Report) (r : Report) → SmallReports (before ++ (r ∷ later)) → SmallReport r
 unfolding SmallReports
 small-at [] later r h = h .0

@@ -1,4 +1,4 @@
--- Document 01, "Proved small cases": one table, a case a row: what is asked, and the answer.
+-- Document 01, "Proved small cases": one table, in which each row is a question and its answer.
 use Prim.Native.Nat.{ℕ}
 use mathlib.Core.Path.{_≡_}
 use mathlib.Core.Bool.{Bool, cond, not}
@@ -25,7 +25,7 @@ use Rattle.state_law.specs.Day.{opened}
 use Rattle.engine_law.specs.Outcome.{outcome}
 use Rattle.lines_reading_law.specs.Answers.{codeOf as lineCode, readSettings, readEvent}
 
--- a contract of a category with this base, also its previous close and settlement, and this tick; no underlying is known
+-- settings with this category, base and tick; previous close and settlement are the base, and no underlying is known
 abbrev pub contract : Category → ℕ → ℕ → Settings
 contract category base tick =
     record { category = category; base = base; close = base; settle = base; tick = tick; length = 3600000; days = 0; under = 0 }
@@ -38,13 +38,13 @@ pub data Question : Type 0 where
   BandOf : Category → ℕ → ℕ → Question
   -- whether a price is in range of a reference
   InRange : Category → ℕ → ℕ → Question
-  -- the close price after one-lot trades at these prices
+  -- the close price at this tick, after one-lot trades at these prices
   CloseAfter : ℕ → List ℕ → Question
   -- whether a trade at that time is in the half hour of a day of that length
   InHalfHour : ℕ → ℕ → Question
   -- whether a price is within the mark of a first trade
   WithinMark : Side → ℕ → ℕ → Question
-  -- the numbers of the answers that bytes are given as a line of settings and as a line of an event; 0 for a whole line
+  -- the answers to some bytes read as a line of settings and as a line of an event, by their numbers; 0 for a whole line
   Lines : List ℕ → Question
 
 abbrev pub limitBuy : ℕ → Event
@@ -96,7 +96,7 @@ smallCases =
     ∷ case (Lines []) (14 ∷ 14 ∷ [])  -- P12
     ∷ []
 
--- the definitions answer each row as it says
+-- the definitions answer each row as the table says
 abbrev pub AllAnswered : List Case → Type 0
 AllAnswered [] = Unit {0}
 AllAnswered (c ∷ cs) = (answerTo (c .asks) ≡ c .answer) × AllAnswered cs

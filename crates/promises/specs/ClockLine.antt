@@ -1,4 +1,4 @@
--- A CLOCK LINE CHANGES NO TRADE. A clock event may move slab and ref reports to itself; every refusal and every other report stays.
+-- A CLOCK LINE CHANGES NO TRADE. Slab and ref reports may come at a clock event instead of a later one; every refusal and other report stays.
 use Prim.Native.Nat.{ℕ, _≤_}
 use mathlib.Core.Path.{_≡_}
 use mathlib.Core.List.{List, [], _∷_, _++_}
@@ -21,12 +21,12 @@ clockAt t = record { time = t; act = Clock }
 abbrev pub plainOne : Report → Said → List Report
 plainOne r x = maybe (maybe (r ∷ []) (λ price. []) (tells x .reference)) (λ band. []) (tells x .band)
 
--- acceptances, trades, conversions, cancels and closing prices
+-- the reports of acceptances, trades, conversions, cancels and closing prices
 unfoldable pub plain : List Report → List Report
 plain [] = []
 plain (r ∷ rs) = plainOne r (r .said) ++ plain rs
 
--- what an event is answered, slab and ref left out
+-- what an event is answered, without slab and ref reports
 pub record Reply : Type 0 where
   pub verdict : Verdict
   pub reports : List Report
@@ -40,7 +40,7 @@ abbrev pub From : ℕ → List Event → Type 0
 From t [] = Unit {0}
 From t (e ∷ es) = (t ≤ e .time) × From t es
 
--- after any events, a clock event that is accepted and not later than those that follow changes no answer to them
+-- after any events, an accepted clock event that is not later than those that follow changes no reply to them
 abbrev pub ClockLine : Type 0
 ClockLine =
     (g : Settings) (before later : List Event) (t : ℕ) → outcome (after (opened g) before) (clockAt t) .verdict ≡ Fine → From t later →

@@ -1,4 +1,4 @@
--- DETERMINACY: what a contract allows for one input is one result. Two results of a call coincide, with every lent number.
+-- DETERMINACY: a contract allows one result for one input. Two results of a call coincide, with every lent number.
 use Prim.Native.Nat.{ℕ}
 use mathlib.Core.Path.{_≡_}
 use mathlib.Core.List.{List}
@@ -95,7 +95,7 @@ pub record SameTaken (r₁ r₂ : Taken) (buys₁ sells₁ room₁ out₁ buys�
   pub told : room₁ ≡ room₂
   pub printed : out₁ ≡ out₂
 
--- `feed::lines::take_lines`, where it is by `fedOf`, and `feed::lines::take_end`, where it is by `endedOf`
+-- `feed::lines::take_lines`, with `fedOf`, and `feed::lines::take_end`, with `endedOf`
 abbrev pub FeedDetermined : Type 0
 FeedDetermined =
     (of : Feed) (run : Run) (buys sells room bytes out buys₁ sells₁ room₁ out₁ buys₂ sells₂ room₂ out₂ : List ℕ) (r₁ r₂ : Taken) →

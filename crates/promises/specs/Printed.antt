@@ -1,6 +1,6 @@
--- WHAT THE PROGRAM PRINTS: a run of calls of `feed::lines::take_lines`, each handed what the last one left and a further piece of the
--- input, and then `feed::lines::take_end` print what `printed` says of the whole input, which speaks of days and knows of no call, table
--- or piece.
+-- WHAT THE PROGRAM PRINTS: a run of calls of `feed::lines::take_lines`, each handed what the last one left and a further piece of the input,
+-- followed by `feed::lines::take_end`, prints `printed` of the whole input. That definition speaks of days, and knows no call, table or
+-- piece.
 use Prim.Native.Nat.{ℕ}
 use mathlib.Core.Path.{_≡_}
 use mathlib.Core.List.{List, [], _++_}
@@ -23,22 +23,22 @@ pub record Holding : Type 0 where
   pub sells : List ℕ
   pub kept : List ℕ
 
--- before the first call: the tables hold anything
+-- before the first call; the tables may hold anything
 abbrev pub atStart : List ℕ → List ℕ → Holding
 atStart buys sells = record { run = begun; buys = buys; sells = sells; kept = [] }
 
 abbrev pub dayOn : Holding → Day
 dayOn h = dayIn (h .run .session) (h .buys) (h .sells)
 
--- ---- a call: the next piece of the input, a report room that is long enough and holds anything, and any output room
+-- ---- a call is handed the next piece of the input, a report room that is long enough and may hold anything, and any output room
 
 pub record Piece : Type 0 where
   pub bytes : List ℕ
   pub room : List ℕ
   pub out : List ℕ
 
--- the call is handed h and a piece, prints text and leaves h′; nothing is known of it but the contract. It is `feed::lines::take_lines` where
--- it is by `fedOf`, and `feed::lines::take_end` where it is by `endedOf`
+-- the call is handed h and a piece, prints `text` and leaves h′; nothing is known of it but its contract. It is `feed::lines::take_lines`
+-- with `fedOf`, and `feed::lines::take_end` with `endedOf`
 pub record Handed (of : Feed) (h : Holding) (p : Piece) (text : List ℕ) (h′ : Holding) : Type 0 where
   pub answered : Taken
   pub room : List ℕ
@@ -49,24 +49,24 @@ pub record Handed (of : Feed) (h : Holding) (p : Piece) (text : List ℕ) (h′ 
   pub kept : h′ .kept ≡ drop (answered .used) (h .kept ++ p .bytes)
   pub told : text ≡ take (answered .wrote) out
 
--- ---- a run of them: the whole input, all that is printed, and what is held at the end
+-- ---- a run of such calls: the whole input, all that is printed, and what is held at the end
 
 pub data Feeding : Holding → List ℕ → List ℕ → Holding → Type 0 where
   ends : (h : Holding) → Feeding h [] [] h
   feeds : (h h′ h″ : Holding) (p : Piece) (input text more : List ℕ) → Handed fedOf h p text h′ → Feeding h′ input more h″ →
       Feeding h (p .bytes ++ input) (text ++ more) h″
 
--- what is still to be printed of the bytes that are held, with others behind them
+-- what is still to be printed for the bytes that are held and others behind them
 abbrev pub toPrint : Holding → List ℕ → List ℕ
 toPrint h more = printedFrom days (h .run .stage) (dayOn h) (h .kept ++ more)
 
--- HOWEVER THE INPUT IS CUT: what was printed, and what is still to be printed of the bytes that are held, is `printed` of the whole
+-- HOWEVER THE INPUT IS CUT: what was printed, and what is still to be printed for the bytes that are held, is `printed` of the whole input
 abbrev pub FeedingPrints : Type 0
 FeedingPrints =
     (buys sells input text : List ℕ) (h : Holding) → Feeding (atStart buys sells) input text h → printed input ≡ text ++ toPrint h []
 
--- and the end prints it, whatever bytes are held and come last: what it prints and what is then still to be printed is what was; and unless the
--- output room is to be emptied first, nothing is
+-- the end prints the rest, whatever bytes are held and come last: its text and what is still to be printed after it is what was to be printed
+-- before it; and unless the output room has to be emptied first, nothing is left to print
 abbrev pub EndPrints : Type 0
 EndPrints =
     (h h′ : Holding) (p : Piece) (text : List ℕ) (k : Handed endedOf h p text h′) →

@@ -1,6 +1,6 @@
--- A RUN OF CALLS: an opening and any list of calls after it, each handed the session and the tables that the last one left. The opening is
--- what the contract of `state::opening::begin` allows, a call what the contract of `engine::apply` allows, and nothing else is known of
--- them. The promises of this crate, said of such runs.
+-- A RUN OF CALLS: an opening and any list of calls after it, each handed the session and the tables that the last one left. Of the opening
+-- only the contract of `state::opening::begin` is known, and of a call only that of `engine::apply`. The promises of this crate are stated
+-- for such runs.
 use Prim.Native.Nat.{ℕ, _+_, _*_, _/_, _≤_}
 use mathlib.Core.Path.{_≡_}
 use mathlib.Core.Bool.{Bool, true, false, cond}
@@ -45,7 +45,7 @@ use Rattle.lines_writing_law.specs.Writes.{wroteCode, Writes}
 use Rattle.promises.specs.ClockLine.{clockAt, plain, From}
 use Rattle.promises.specs.Writable.{AllWritable}
 
--- ---- what a caller holds between calls, and the day that it is
+-- ---- what a caller holds between calls, and the day that this is
 
 pub record Held : Type 0 where
   pub session : Session
@@ -55,26 +55,26 @@ pub record Held : Type 0 where
 abbrev pub dayHeld : Held → Day
 dayHeld h = dayIn (h .session) (h .buys) (h .sells)
 
--- an opening "touches no table": they hold anything
+-- an opening "touches no table": the tables may hold anything
 abbrev pub openedOn : Opened → List ℕ → List ℕ → Held
 openedOn o buys sells = record { session = o .session; buys = buys; sells = sells }
 
 -- ---- a call
 
--- what it is handed besides: an event, and a room for its reports that holds anything
+-- what a call is handed besides what is held: an event, and a room for its reports, which may hold anything
 pub record Call : Type 0 where
   pub event : Event
   pub room : List ℕ
 
--- the tables that are held and that room are long enough, so that 1 does not apply
+-- the tables that are held and the room are long enough, so that row 1 does not apply
 abbrev pub hasRoom : Held → Call → Bool
 hasRoom h c = roomy (h .buys) (h .sells) (c .room)
 
--- the reports that a call hands out: as many as its answer counts, none by a refusal; their records are the first in the room
+-- the reports that a call hands out: as many as its answer counts, none where it is refused; their records are the first in the room
 abbrev pub HandsOut : Answer → List ℕ → List Report → Type 0
 HandsOut a room rs = (answerCount a ≡ length rs) × (take (recordLength * answerCount a) room ≡ recordsOf rs)
 
--- the call is handed h, hands out rs and leaves h′
+-- a call on what h holds hands out rs and leaves h′
 pub record Called (h : Held) (c : Call) (rs : List Report) (h′ : Held) : Type 0 where
   pub answered : Applied
   pub room : List ℕ
@@ -88,12 +88,12 @@ numberAnswered k = answerCode (k .answered .answer)
 
 -- ---- a run
 
--- the events of a run: a call that refusal 1 stops, for want of room, counts for none
+-- the events of a run; a call that is refused with 1, because something lent is short, does not count
 abbrev pub counting : Bool → Event → List Event → List Event
 counting true e es = e ∷ es
 counting false e es = es
 
--- from what is held: the events that count, the reports handed out, and what is held at the end
+-- a run from what is held: the events that count, the reports handed out, and what is held at the end
 pub data Calling : Held → List Event → List Report → Held → Type 0 where
   ends : (h : Held) → Calling h [] [] h
   calls : (h h′ h″ : Held) (c : Call) (es : List Event) (rs rs′ : List Report) → Called h c rs h′ → Calling h′ es rs′ h″ →
@@ -101,8 +101,8 @@ pub data Calling : Held → List Event → List Report → Held → Type 0 where
 
 -- ---- a run from an opening
 
--- g is opened, by the contract of `begin`: "a refused one returns its number and one fixed session", and begins a run too. The tables hold
--- anything. Then come the calls.
+-- g is opened, by the contract of `begin`; a refused opening, which "returns its number and one fixed session", begins a run too. The tables
+-- may hold anything. Then come the calls.
 pub record RunFrom (g : Settings) (es : List Event) (rs : List Report) (h : Held) : Type 0 where
   pub opening : Opened
   pub contract : opening ≡ openingOf g
@@ -114,7 +114,7 @@ pub record RunFrom (g : Settings) (es : List Event) (rs : List Report) (h : Held
 abbrev pub numberOpened : {g : Settings} {es : List Event} {rs : List Report} {h : Held} → RunFrom g es rs h → ℕ
 numberOpened r = codeOf (r .opening .verdict)
 
--- cut at a call that is handed e and accepts it, by its own answer: the run up to it, the call, and the run that follows
+-- a run cut at a call that is handed e and answers that it accepts it: the run up to that call, the call, and the run that follows
 pub record CutAt (g : Settings) (before : List Event) (e : Event) (later : List Event) (rs own rest : List Report) (h : Held) : Type 0 where
   pub held : Held
   pub left : Held
@@ -125,45 +125,45 @@ pub record CutAt (g : Settings) (before : List Event) (e : Event) (later : List 
   pub accepted : numberAnswered called ≡ 0
   pub following : Calling left later rest h
 
--- ---- the promises, of any run of calls from an opening, whatever lies in the tables and in the rooms
+-- ---- the promises, for any run of calls from an opening, whatever lies in the tables and in the rooms
 
--- of its settings, its events, its reports and what is held at the end
+-- a property of every run: of its settings, its events, its reports and what is held at the end
 abbrev pub ForRuns : (Settings → List Event → List Report → Held → Type 0) → Type 0
 ForRuns P = (g : Settings) (es : List Event) (rs : List Report) (h : Held) → RunFrom g es rs h → P g es rs h
 
--- the same of the runs whose opening is not refused
+-- the same of every run whose opening is not refused
 abbrev pub ForOpenRuns : (Settings → List Event → List Report → Held → Type 0) → Type 0
 ForOpenRuns P = (g : Settings) (es : List Event) (rs : List Report) (h : Held) (r : RunFrom g es rs h) → numberOpened r ≡ 0 → P g es rs h
 
--- the day that an opening begins, refused or not: its session, and no order
+-- the day that an opening begins, refused or not: its session, without orders
 abbrev pub begins : Settings → Day
 begins g = record { session = openingOf g .session; buys = []; sells = [] }
 
--- a run tells and leaves what the definitions say of its events
+-- a run hands out and leaves what the definitions say of its events
 abbrev pub RunsAsDefined : Type 0
 RunsAsDefined = ForRuns (λ g es rs h. (rs ≡ told (begins g) es) × (dayHeld h ≡ after (begins g) es))
 
--- AFTER A REFUSED OPENING nothing was told, what was held is held still, and the next call is refused: by 1 where something lent to it is
--- short, else by 2
+-- AFTER A REFUSED OPENING nothing is reported, what is held stays as it was, and the next call is refused: with 1 where something lent to it
+-- is short, else with 2
 abbrev pub CallsAfterRefusal : Type 0
 CallsAfterRefusal =
     (g : Settings) (es : List Event) (rs : List Report) (h : Held) (r : RunFrom g es rs h) → (numberOpened r ≡ 0 → ⊥) →
     (rs ≡ []) × (h ≡ openedOn (r .opening) (r .buys) (r .sells))
     × ((c : Call) (rs′ : List Report) (h′ : Held) (k : Called h c rs′ h′) → numberAnswered k ≡ cond (hasRoom h c) 2 1)
 
--- the lots that the order with number id asked for in a run: the acceptance among the reports of a call gives it its number, the event of
--- that call its lots
+-- the lots asked for under number id in a run: the acceptance among the reports of a call gives the number, and the event of that call
+-- gives the lots
 unfoldable pub askedOver : ℕ → {h : Held} {es : List Event} {rs : List Report} {h′ : Held} → Calling h es rs h′ → ℕ
 askedOver id (ends h) = 0
 askedOver id (calls h h′ h″ c es rs rs′ k run) = askedBy id (c .event .act) rs + askedOver id run
 
--- every lot is accounted for: traded and cancelled by the reports, resting by the tables
+-- every lot is accounted for: traded and cancelled as the reports say, or resting in the tables
 abbrev pub CallsKeepLots : Type 0
 CallsKeepLots =
     (g : Settings) (es : List Event) (rs : List Report) (h : Held) (r : RunFrom g es rs h) (id : ℕ) →
     askedOver id (r .run) ≡ traded id rs + cancelled id rs + resting id (dayHeld h)
 
--- the same by what a caller sees: each side's orders are those whose numbers the view of it shows
+-- the same in terms of what a caller sees: a side's orders are those whose numbers its view shows
 abbrev pub ordersSeen : Side → Held → List Order
 ordersSeen side h =
     let numbers : List ℕ = viewCall side (h .session) (h .buys) (h .sells) in decode (length numbers / width) numbers
@@ -179,20 +179,20 @@ CallsKeepSeen =
     (g : Settings) (es : List Event) (rs : List Report) (h : Held) (r : RunFrom g es rs h) (id : ℕ) →
     askedOver id (r .run) ≡ traded id rs + cancelled id rs + restingSeen id h
 
--- an order of so many lots has the number that its call's one acceptance tells, and under it all reports of the run and the tables at its
--- end account for these lots
+-- an order of so many lots has the number that its call reports as accepted, and under that number the reports of the run and the tables at
+-- its end account for these lots
 pub record Accounted (lots : ℕ) (own all : List Report) (h : Held) : Type 0 where
   pub number : ℕ
   pub given : accepts own ≡ number ∷ []
   pub kept : lots ≡ traded number all + cancelled number all + resting number (dayHeld h)
 
--- and of every order that a call accepts
+-- every order that a call accepts is accounted for
 abbrev pub CallsKeepOrders : Type 0
 CallsKeepOrders =
     (g : Settings) (before later : List Event) (rs own rest : List Report) (h : Held) (t : ℕ) (n : Entry) →
     CutAt g before (eventAt t (Enter n)) later rs own rest h → Accounted (n .lots) own (rs ++ (own ++ rest)) h
 
--- every trade is inside what was told before it
+-- every trade is inside the band and the range that the reports before it give
 abbrev pub CallsTradeWithin : Type 0
 CallsTradeWithin =
     ForRuns (λ g es rs h. (before later : List Report) (t : ℕ) (deal : Deal) → rs ≡ before ++ (reportAt t (Trade deal) ∷ later) →
@@ -202,7 +202,7 @@ CallsTradeWithin =
 abbrev pub CallsStaySound : Type 0
 CallsStaySound = ForOpenRuns (λ g es rs h. sound (dayHeld h) ≡ true)
 
--- NO RUN MEETS REFUSAL 2: whatever call follows, it does not answer so
+-- NO RUN MEETS REFUSAL 2: no call that follows answers 2
 abbrev pub CallsNeverTwo : Type 0
 CallsNeverTwo = ForOpenRuns (λ g es rs h. (c : Call) (rs′ : List Report) (h′ : Held) (k : Called h c rs′ h′) → numberAnswered k ≡ 2 → ⊥)
 
@@ -210,22 +210,22 @@ CallsNeverTwo = ForOpenRuns (λ g es rs h. (c : Call) (rs′ : List Report) (h�
 abbrev pub CallsGiveInOrder : Type 0
 CallsGiveInOrder = ForRuns (λ g es rs h. accepts rs ≡ numbersTo (h .session .live .given))
 
--- time never goes back
+-- the session's time never goes back
 abbrev pub CallsGoForward : Type 0
 CallsGoForward = ForRuns (λ g es rs h. (before later : List Report) (r r′ : Report) → rs ≡ before ++ (r ∷ (r′ ∷ later)) → r .time ≤ r′ .time)
 
--- every report can be written
+-- the numbers of every report can be written
 abbrev pub CallsWritable : Type 0
 CallsWritable = ForRuns (λ g es rs h. AllWritable rs)
 
--- so `lines_writing_reports::write_report` writes it into any room of a line's length, and answers 0
+-- so `lines_writing_reports::write_report` writes its line into any room of a line's length, and answers 0
 abbrev pub CallsWritten : Type 0
 CallsWritten =
     ForRuns (λ g es rs h. (before later : List Report) (x : Report) (room room′ : List ℕ) (w : Wrote) → rs ≡ before ++ (x ∷ later) →
     lineRoom ≤ length room → Writes room (renderReport x) (reportNumbers x) w room′ → wroteCode w ≡ 0)
 
--- a slab report comes only after a trade at an end of the initial band; the band told before it was the initial one, and it tells the enhanced
--- one, which holds every price of the one before
+-- a slab report comes only after a trade at an end of the initial band; before it the band was the initial one, and it reports the enhanced
+-- one, which holds every price that the initial one does
 abbrev pub CallsWiden : Type 0
 CallsWiden =
     ForRuns (λ g es rs h. (before later : List Report) (t : ℕ) (band : Band) → rs ≡ before ++ (reportAt t (Slab band) ∷ later) →
@@ -237,13 +237,13 @@ abbrev pub CallsWidenOnce : Type 0
 CallsWidenOnce = ForRuns (λ g es rs h. slabsTold rs ≤ 1)
 
 -- TIME COMES FROM THE EVENTS: two runs with the same settings and events hand out the same reports, and leave the same session and the
--- same live orders, whatever lies in the tables and rooms of each: a clock behind the calls would tell them apart
+-- same live orders, whatever lies in the tables and rooms of each. With a clock of their own, the calls could differ
 abbrev pub SameRuns : Type 0
 SameRuns =
     (g : Settings) (es : List Event) (rs rs′ : List Report) (h h′ : Held) → RunFrom g es rs h → RunFrom g es rs′ h′ →
     (rs ≡ rs′) × (dayHeld h ≡ dayHeld h′)
 
--- A CLOCK LINE MAKES NO TRADE: two runs, with and without a clock event that its call accepts and that is not later than what follows,
+-- A CLOCK LINE CHANGES NO TRADE: two runs, with and without a clock event that its call accepts and that is not later than what follows,
 -- hand out the same reports but for slab and ref
 abbrev pub CallsClockLine : Type 0
 CallsClockLine =

@@ -1,4 +1,4 @@
--- WHAT A SESSION SHOWS IS WHAT ITS REPORTS SAID: the band and the range in force are those that the settings and the reports give.
+-- WHAT A SESSION SHOWS IS WHAT ITS REPORTS SAID: band, range and reference in force are those that the settings and the reports give.
 use Prim.Native.Nat.{_≤_}
 use mathlib.Core.Path.{_≡_}
 use mathlib.Core.List.{List}
@@ -22,11 +22,11 @@ pub record AsSaid (g : Settings) (rs : List Report) (st : Standing) : Type 0 whe
   pub range : st .range ≡ rangeEnds (rangeSaid g rs)
   pub reference : st .reference ≡ referenceSaid g rs
 
--- in any run from an opening
+-- after any events from an opening
 abbrev pub StandsSaid : Type 0
 StandsSaid = (g : Settings) (es : List Event) → AsSaid g (told (opened g) es) (standingNow (after (opened g) es .session))
 
--- after any run of calls whose opening answered 0, `engine::standings::standing` with tables that are long enough answers 0 and shows it
+-- after any run of calls whose opening answered 0, `engine::standings::standing`, if the tables are long enough, answers 0 and shows it
 abbrev pub CallsStand : Type 0
 CallsStand =
     ForOpenRuns (λ g es rs h. (r : Stood) → tableLength ≤ length (h .buys) → tableLength ≤ length (h .sells) →

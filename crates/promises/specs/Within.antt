@@ -15,7 +15,7 @@ use Rattle.state_law.specs.Day.{opened}
 use Rattle.acts_law.specs.Heard.{bandSaid, rangeSaid}
 use Rattle.engine_law.specs.Outcome.{told}
 
--- in any run from an opening, whatever was told before a trade and after it
+-- in any run from an opening, wherever the trade stands among the reports
 abbrev pub TradesWithin : Type 0
 TradesWithin =
     (g : Settings) (es : List Event) (before later : List Report) (t : ℕ) (deal : Deal) →

@@ -1,3 +1,3 @@
-// promises: what any run of the engine keeps, said in the words of the demand and proved of the definitions. It has no code.
-// It may use every crate of the engine. Each file of specs/ states one promise, short enough to read on one screen; the file of
-// proofs/ with the same subject proves it from the laws that stand in the definitions' own crates.
+// promises: what holds of any run of the engine, in the words of the demands, proved of the definitions. It has no code.
+// It may use terms, tables and every law up to feed_law. Each file of specs/ states the promises of one subject, on any events; Runs.antt
+// and Printed.antt state them for calls of which only the contracts are known. proofs/ proves them from the laws of the crates below.

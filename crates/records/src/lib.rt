@@ -1,5 +1,5 @@
-// records: reports told back from the numbers of a report room.
-// It may use terms. It promises, for any room and place: the report whose record stands there, or that no report's does.
+// records: reports read back from the numbers of a report room.
+// It may use terms, tables and records_law. It promises, for any room and place: the report whose record stands there, or that none does.
 
 use records_law::ReadRecord;
 use records_law::ReadWhy;
@@ -38,7 +38,7 @@ fn why_from(n: u64) -> ReadWhy
     ReadWhy::Nothing
 }
 
-// What is said, where the numbers that its kind leaves unused are zero.
+// The report, where the numbers that its kind leaves unused are zero.
 fn told_if(unused: bool, time: u64, said: Said) -> ReadRecord
     ensures { λ r. ⌜ r ≡ toldIf unused time said ⌝ }
 {
@@ -79,7 +79,7 @@ fn deal_from(a: u64, b: u64, c: u64, d: u64) -> Deal
     }
 }
 
-// By the kind.
+// The report that six numbers stand for, by their kind.
 fn report_from(kind: u64, time: u64, a: u64, b: u64, c: u64, d: u64) -> ReadRecord
     ensures { λ r. ⌜ r ≡ reportFrom kind time a b c d ⌝ }
 {

@@ -1,4 +1,4 @@
--- The computed answer is the right one: each report is told back from its record, and what is told has that record.
+-- `reportFrom` reads records as the contract asks: each report is read back from its record, and a report that is read has that record.
 use Prim.Native.Nat.{ℕ, _+_, _-_, _≤_, _<_}
 use native.Mathlib.Omega.{arith}
 use native.Mathlib.Numerals.{add-one}
@@ -23,7 +23,7 @@ use Rattle.records_law.specs.declared.ReadRecord.{ReadRecord}
 use Rattle.records_law.specs.declared.ReadWhy.{ReadWhy}
 use Rattle.records_law.specs.Back.{RecordRead, whyFrom, zeroTwo, zeroThree, toldIf, endedFrom, reportFrom, reportIn}
 
--- ---- a cascade of tests for a number, a `return` at a time: `search numbered`
+-- ---- a function that tests for one number after the other: `search numbered` answers each `return`
 
 pub here : {A : Type 0} (k n : ℕ) (o x y : A) → k ≡ n → o ≡ x → o ≡ cond (eqb k n) x y
 here k n o x y e h = rw (eq-eqb k n e) h
@@ -36,11 +36,11 @@ same o = refl
 
 pub ruleset numbered = (here, there, same)
 
--- six numbers
+-- six numbers as a list
 abbrev six : ℕ → ℕ → ℕ → ℕ → ℕ → ℕ → List ℕ
 six k t a b c d = k ∷ t ∷ a ∷ b ∷ c ∷ d ∷ []
 
--- ---- a report is told back from its record
+-- ---- a report is read back from its record
 
 told-why : (t : ℕ) (n l : ℕ) (w : Why) → endedFrom (whyFrom (whyOf w)) t n l 0 ≡ ReadRecord.Told (record { time = t; said = Cancel (record { number = n; lots = l; why = w }) })
 told-why t n l Asked = refl
@@ -62,9 +62,9 @@ told-said t (Close c) = refl
 pub told-back : (r : Report) → reportIn (recordOf r) ≡ ReadRecord.Told r
 told-back r = told-said (r .time) (r .said)
 
--- ---- what is told has that record
+-- ---- a report that is read has the given record
 
--- an answer is nothing, or a report with the record that was given
+-- nothing was read, or a report whose record the numbers are
 abbrev Only : List ℕ → ReadRecord → Type 0
 Only ns (ReadRecord.Told r) = ns ≡ recordOf r
 Only ns ReadRecord.Nothing = Unit
@@ -73,7 +73,7 @@ only-if : (ns : List ℕ) (unused : Bool) (t : ℕ) (s : Said) → (unused ≡ t
 only-if ns true t s f = f refl
 only-if ns false t s f = tt
 
--- a reason has its number
+-- nothing was read, or a reason with this number
 abbrev Meant : ℕ → ReadWhy → Type 0
 Meant c (ReadWhy.Reason w) = c ≡ whyOf w
 Meant c ReadWhy.Nothing = Unit
@@ -121,12 +121,12 @@ only k t a b c d =
     (λ e. only-if _ (zeroTwo c d) t (Close (record { price = a; base = b })) (λ z. let q = zero-two c d z in rw (eqb-true k 7 e, q .0, q .1)))
     (λ _. tt)))))))
 
--- ---- so
+-- ---- so the numbers have one right answer
 
 not-told : (r : Report) → ReadRecord.Nothing ≡ ReadRecord.Told r → ⊥
 not-told r p = let z : _≡_ {A = ℕ} 0 1 = cc in omega arith
 
--- the computed answer is the right one
+-- what `reportFrom` computes is right
 pub told-right : (k t a b c d : ℕ) → RecordRead (six k t a b c d) (reportFrom k t a b c d)
 told-right k t a b c d = go (reportFrom k t a b c d) refl (only k t a b c d)
   where
@@ -134,14 +134,14 @@ told-right k t a b c d = go (reportFrom k t a b c d) refl (only k t a b c d)
     go (ReadRecord.Told r) e h = h
     go ReadRecord.Nothing e h = λ r q. not-told r (sym e ∙ ap reportIn q ∙ told-back r)
 
--- and the only one
+-- and no other answer is
 pub told-only : (ns : List ℕ) (o q : ReadRecord) → RecordRead ns o → RecordRead ns q → o ≡ q
 told-only ns (ReadRecord.Told r) (ReadRecord.Told s) a b = sym (told-back r) ∙ ap reportIn (sym a ∙ b) ∙ told-back s
 told-only ns (ReadRecord.Told r) ReadRecord.Nothing a b = absurd (b r a)
 told-only ns ReadRecord.Nothing (ReadRecord.Told s) a b = absurd (a s b)
 told-only ns ReadRecord.Nothing ReadRecord.Nothing a b = refl
 
--- a record is told back as its report
+-- a record is read back as its report
 pub record-back : (r : Report) (o : ReadRecord) → RecordRead (recordOf r) o → o ≡ ReadRecord.Told r
 record-back r o a = told-only (recordOf r) o (ReadRecord.Told r) a refl
 
@@ -171,17 +171,17 @@ six-at s n h =
       next-at s (n + 5) (n + 6) (omega arith) (omega arith),
     )
 
--- what code tells of the six numbers there
+-- what the code reads from the six numbers at a place is right
 pub told-there : (s : List ℕ) (n : ℕ) (o : ReadRecord) → n ≤ length s → recordLength ≤ length s - n
     → o ≡ reportFrom (getD s n 0) (getD s (n + 1) 0) (getD s (n + 2) 0) (getD s (n + 3) 0) (getD s (n + 4) 0) (getD s (n + 5) 0)
     → RecordRead (take recordLength (drop n s)) o
 told-there s n o h k e = rw (e, six-at s n (omega arith)) (told-right _ _ _ _ _ _)
 
--- and what the first six of some numbers tell, however it was found
+-- any right answer for the first six of some numbers is what `reportIn` computes
 pub told-first : (ns : List ℕ) (o : ReadRecord) → recordLength ≤ length ns → RecordRead (take recordLength ns) o → o ≡ reportIn ns
 told-first ns o h k = told-only (take recordLength ns) o (reportIn ns) k (told-there ns 0 (reportIn ns) (omega arith) (omega arith) refl)
 
--- a report's record tells it, whatever follows
+-- a record is read back as its report, whatever follows it
 pub told-front : (r : Report) (l : List ℕ) → reportIn (recordOf r ++ l) ≡ ReadRecord.Told r
 told-front r l =
     let n = length-record r in

@@ -1,4 +1,4 @@
--- Document 01, "Book and report room": a report told back from the six numbers of its record.
+-- Document 01, "Book and report room": a report read back from the six numbers of its record.
 use Prim.Native.Nat.{ℕ}
 use mathlib.Core.Path.{_≡_}
 use mathlib.Core.Bool.{Bool, true, cond, _&&_}
@@ -14,12 +14,12 @@ use Rattle.tables.specs.Records.{recordOf}
 use Rattle.records_law.specs.declared.ReadRecord.{ReadRecord}
 use Rattle.records_law.specs.declared.ReadWhy.{ReadWhy}
 
--- the contract: the report whose record the numbers are, or that they are no report's
+-- the contract: the answer is the report whose record the numbers are, or says that no report has them
 abbrev pub RecordRead : List ℕ → ReadRecord → Type 0
 RecordRead numbers (ReadRecord.Told r) = numbers ≡ recordOf r
 RecordRead numbers ReadRecord.Nothing = (r : Report) → numbers ≡ recordOf r → ⊥
 
--- ---- the same computed
+-- ---- the same answer computed
 
 abbrev pub whyFrom : ℕ → ReadWhy
 whyFrom n =
@@ -36,7 +36,7 @@ zeroTwo c d = eqb c 0 && eqb d 0
 abbrev pub zeroThree : ℕ → ℕ → ℕ → Bool
 zeroThree b c d = eqb b 0 && eqb c 0 && eqb d 0
 
--- what is said, where the unused numbers are zero
+-- the report, where the numbers that its kind leaves unused are zero
 abbrev pub toldIf : Bool → ℕ → Said → ReadRecord
 toldIf unused time said = cond unused (ReadRecord.Told (record { time = time; said = said })) ReadRecord.Nothing
 
@@ -47,7 +47,7 @@ endedFrom ReadWhy.Nothing time a b d = ReadRecord.Nothing
 abbrev pub dealFrom : ℕ → ℕ → ℕ → ℕ → Deal
 dealFrom a b c d = record { buy = a; sell = b; lots = c; price = d }
 
--- by the kind
+-- the report that six numbers stand for, by their kind
 unfoldable pub reportFrom : ℕ → ℕ → ℕ → ℕ → ℕ → ℕ → ReadRecord
 reportFrom kind time a b c d =
     cond (eqb kind 1) (toldIf (zeroThree b c d) time (Accept a))
@@ -58,6 +58,6 @@ reportFrom kind time a b c d =
     (cond (eqb kind 6) (toldIf (zeroThree b c d) time (Ref a))
     (cond (eqb kind 7) (toldIf (zeroTwo c d) time (Close (record { price = a; base = b }))) ReadRecord.Nothing))))))
 
--- what the first six of some numbers tell
+-- the report that the first six of some numbers stand for
 abbrev pub reportIn : List ℕ → ReadRecord
 reportIn ns = reportFrom (getD ns 0 0) (getD ns 1 0) (getD ns 2 0) (getD ns 3 0) (getD ns 4 0) (getD ns 5 0)

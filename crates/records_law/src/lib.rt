@@ -1,16 +1,16 @@
-// records_law: the law of records read back: which report six numbers tell, or that they tell none.
-// It has no code and may use terms. It promises: a report's record tells that report, and no other.
+// records_law: records read back: which report six numbers stand for, or that they stand for none.
+// It has no code and may use terms and tables. It promises: a report's record is read back as that report, and no other answer is right.
 
 use terms::Report;
 use terms::Why;
 
-// A report, or numbers that are no report's.
+// A report, or that some numbers are no report's.
 pub enum ReadRecord {
     Told(Report),
     Nothing,
 }
 
-// A reason, or a number that is none.
+// A reason, or that a number is no reason's.
 pub enum ReadWhy {
     Reason(Why),
     Nothing,

@@ -64,7 +64,7 @@ fn entry_right(n: Entry) -> bool
     lots & priced
 }
 
-// The numbers of the event, but for its time.
+// Row 4 without the time: whether the other numbers of the event are in their ranges.
 fn numbers_right(act: Act) -> bool
     ensures { λ r. ⌜ r ≡ numbersRight act ⌝ }
 {
@@ -77,7 +77,7 @@ fn numbers_right(act: Act) -> bool
     }
 }
 
-// 4.
+// Row 4: whether every number of the event is in its range.
 fn event_right(e: Event) -> bool
     ensures { λ r. ⌜ r ≡ (isTime (e .time) ⊓ numbersRight (e .act)) ⌝ }
 {
@@ -87,7 +87,7 @@ fn event_right(e: Event) -> bool
     time & right
 }
 
-// 6.
+// Row 6: whether the close comes at the length or after it, and any other event before.
 fn in_hours(act: Act, t: u64, length: u64) -> bool
     ensures { λ r. ⌜ r ≡ inHours act t length ⌝ }
 {
@@ -100,7 +100,7 @@ fn in_hours(act: Act, t: u64, length: u64) -> bool
     }
 }
 
-// 7.
+// Row 7: whether a limit or settlement is a multiple of the tick.
 fn ticks_right(tick: u64, act: Act) -> bool
     requires { ⌜ 1 ≤ tick ⌝ }
     ensures { λ r. ⌜ r ≡ ticksRight tick act ⌝ }
@@ -117,7 +117,7 @@ fn ticks_right(tick: u64, act: Act) -> bool
     }
 }
 
-// 8, by the band after the clock steps.
+// Row 8: whether a limit lies in the band after the clock steps.
 fn band_right(s: Session, t: u64, act: Act) -> bool
     requires { ⌜ Clocked s ⌝ }
     ensures { λ r. ⌜ r ≡ bandRight (bandNow (clockStep s t)) act ⌝ }
@@ -135,7 +135,7 @@ fn band_right(s: Session, t: u64, act: Act) -> bool
     }
 }
 
-// 9.
+// Row 9: whether the order to cancel rests.
 fn finds_it(s: Session, act: Act, buys: &[u64], sells: &[u64]) -> bool
     requires { ⌜ Tabled s (now buys) (now sells) ⌝ }
     ensures { λ r. ⌜ r ≡ finds (dayIn s (now (buys .entry)) (now (sells .entry))) act ⌝ }
@@ -156,7 +156,7 @@ fn finds_it(s: Session, act: Act, buys: &[u64], sells: &[u64]) -> bool
     }
 }
 
-// The live orders of a side.
+// How many orders of a side are live.
 fn held(s: Session, side: Side) -> u64
     ensures { λ r. ⌜ r ≡ liveOn side s ⌝ }
 {
@@ -175,7 +175,7 @@ fn life_has_place(life: Life, held: u64) -> bool
     }
 }
 
-// 10.
+// Row 10: whether the side of a day order has a free place.
 fn has_place(s: Session, act: Act) -> bool
     ensures { λ r. ⌜ r ≡ placeFor s act ⌝ }
 {
@@ -192,7 +192,7 @@ fn has_place(s: Session, act: Act) -> bool
     }
 }
 
-// 11.
+// Row 11: whether an order can get a number, and its trades have room in the day.
 fn has_numbers(given: u64, trades: u64, act: Act) -> bool
     ensures { λ r. ⌜ r ≡ hasNumbers sizes given trades act ⌝ }
 {
@@ -205,7 +205,7 @@ fn has_numbers(given: u64, trades: u64, act: Act) -> bool
     }
 }
 
-// The rows that look at the book.
+// Rows 8 to 11, which look at the book.
 fn book_rows(s: Session, e: Event, buys: &[u64], sells: &[u64]) -> Verdict
     requires { ⌜ Clocked s × Tabled s (now buys) (now sells) ⌝ }
     ensures { λ r. ⌜ r ≡ firstFailed (bookRules sizes (dayIn s (now (buys .entry)) (now (sells .entry))) e) ⌝ }
@@ -226,7 +226,7 @@ fn book_rows(s: Session, e: Event, buys: &[u64], sells: &[u64]) -> Verdict
     Verdict::Fine
 }
 
-// The rows that look at the event and the clock, then those of the book.
+// Rows 3 to 7, which look at the event and the clock, then those of the book.
 fn event_rows(s: Session, e: Event, buys: &[u64], sells: &[u64]) -> Verdict
     requires { ⌜ Clocked s × Tabled s (now buys) (now sells) ⌝ }
     ensures { λ r. ⌜ r ≡ firstFailed (laterRules sizes (dayIn s (now (buys .entry)) (now (sells .entry))) e) ⌝ }

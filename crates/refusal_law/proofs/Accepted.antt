@@ -1,4 +1,4 @@
--- What an accepted event has passed: every row of the table.
+-- An accepted event has passed every row of the table: what each row says of it.
 use Prim.Native.Nat.{ℕ, _≤_, _<_}
 use native.Mathlib.Omega.{arith}
 use mathlib.Core.Path.{_≡_, refl}
@@ -28,7 +28,7 @@ use Rattle.soundness_law.specs.Sound.{sound}
 use Rattle.refusal_law.specs.Carried.{carries}
 use Rattle.refusal_law.specs.Refusals.{numbersRight, inHours, ticksRight, bandRight, finds, lifeHasPlace, hasPlace, hasNumbers, laterRules, rules, refusalOf}
 
--- what the row with that number tests
+-- what the row with that number asks for; true where there is no such row
 unfoldable rowOf : ℕ → List Rule → Bool
 rowOf n [] = true
 rowOf n (r ∷ rs) = cond (eqb (numberOf (r .refusal)) n) (r .holds) (rowOf n rs)
@@ -44,7 +44,7 @@ row-holds (r ∷ rs) e n =
     (λ h. by (λ (x : Bool). x ≡ true) (eqb (numberOf (r .refusal)) n) (r .holds) (rowOf n rs) (λ z. h) (λ z. row-holds rs (rw h at e) n))
     (λ h. not-fine (r .refusal) (rw h at e))
 
--- rows 2 to 11, none of which applies
+-- none of the rows 2 to 11 applies
 pub record Accepted (d : Day) (e : Event) : Type 0 where
   pub whole : sound d ≡ true
   pub running : not (d .session .clock .closed) ≡ true
@@ -96,19 +96,19 @@ module _ (d : Day) (e : Event) (k : Accepted d e) where
   pub number-right : (number : ℕ) → carries (e .act) .number ≡ some number → (1 ≤ number) × (number ≤ numbersMost)
   number-right number c = between-facts 1 number numbersMost (any-some isNumber (carries (e .act) .number) number (both right .1) c)
 
-  -- every event but the close is within the day
+  -- every event but the close comes before the day's length
   pub in-day : carries (e .act) .closes ≡ false → ltb (e .time) (d .session .settings .length) ≡ true
   unfolding inHours
   in-day c = rw c at (k .timely)
 
-  -- an order finds its number and room for its trades
+  -- for an order there is a number left, and room for its trades
   pub numbers-left : (n : Entry) → carries (e .act) .entry ≡ some n → (d .session .live .given < numbersMost) × (d .session .tape .trades ≤ tradesBefore)
   unfolding hasNumbers
   numbers-left n c =
       let q = both (any-some (λ (x : Entry). ltb (d .session .live .given) numbersMost ⊓ leb (d .session .tape .trades) tradesBefore) (carries (e .act) .entry) n (k .numbered) c) in
       (ltb-true (d .session .live .given) numbersMost (q .0), leb-true (d .session .tape .trades) tradesBefore (q .1))
 
-  -- a limit or settlement is a multiple of the tick, a limit is in the band after the clock steps
+  -- a limit or settlement is a multiple of the tick, and a limit lies in the band after the clock steps
   pub tick-right : (p : ℕ) → carries (e .act) .ticked ≡ some p → onTick (d .session .settings .tick) p ≡ true
   unfolding ticksRight
   tick-right p c = any-some (onTick (d .session .settings .tick)) (carries (e .act) .ticked) p (k .ticked) c
@@ -117,7 +117,7 @@ module _ (d : Day) (e : Event) (k : Accepted d e) where
   unfolding bandRight
   band-right p c = any-some (inBand (bandNow (clockStep (d .session) (e .time)))) (carries (e .act) .limit) p (k .banded) c
 
-  -- an order that is named rests, one that comes in finds a place
+  -- an order that is to be cancelled rests, and for one that comes in there is a place
   pub rests-right : (number : ℕ) → carries (e .act) .number ≡ some number → (rests number (d .buys) || rests number (d .sells)) ≡ true
   unfolding finds
   rests-right number c = any-some (λ n. rests n (d .buys) || rests n (d .sells)) (carries (e .act) .number) number (k .found) c
@@ -128,7 +128,7 @@ module _ (d : Day) (e : Event) (k : Accepted d e) where
 
 -- ---- rows 2 and 3
 
--- a row that stands in no rule of a list is not the list's answer
+-- a number that no rule of a list has is not what the list answers
 abbrev lacks : ℕ → List Rule → Bool
 lacks n [] = true
 lacks n (r ∷ rs) = not (eqb (numberOf (r .refusal)) n) && lacks n rs
@@ -142,17 +142,17 @@ not-among n (r ∷ rs) z o e =
     (λ h. not-among n rs z (q .1) (rw h at e))
     (λ h. eqb-false (numberOf (r .refusal)) n (not-true _ (q .0)) (rw h at e))
 
--- refusal 2 is of days that are not sound, and of no other
+-- only a day that is not sound is refused with 2
 pub sound-not-two : (d : Day) (e : Event) → sound d ≡ true → codeOf (refusalOf d e) ≡ 2 → ⊥
 unfolding refusalOf firstFailed
 sound-not-two d e h r = not-among 2 (laterRules sizes d e) (λ z. omega arith) refl (rw h at r)
 
--- and on a day that is not sound every event is refused 2
+-- on a day that is not sound every event is refused with 2
 pub unsound-refused : (d : Day) (e : Event) → sound d ≡ false → refusalOf d e ≡ Refused Unsound
 unfolding refusalOf firstFailed
 unsound-refused d e h = rw h
 
--- on a closed day every event is refused 3
+-- on a sound day that is closed every event is refused with 3
 pub closed-refused : (d : Day) (e : Event) → sound d ≡ true → d .session .clock .closed ≡ true → refusalOf d e ≡ Refused Closed
 unfolding refusalOf firstFailed
 closed-refused d e h c = rw (h, c)

@@ -1,4 +1,4 @@
--- Tests of what may be there.
+-- Tests of what an act may carry.
 use Prim.Native.Nat.{ℕ}
 use mathlib.Core.Path.{_≡_, refl, sym, _∙_}
 use mathlib.Core.Bool.{Bool, true, false, _&&_}
@@ -11,12 +11,12 @@ use Rattle.terms.specs.Numbers.{isLots, isPrice}
 use Rattle.terms.specs.Options.{ofAny}
 use Rattle.refusal_law.specs.Refusals.{ofLimit, numbersRight}
 
--- tests that answer alike answer alike for what may be there
+-- two tests that agree on every value agree on a value that may be missing
 pub any-same : {A : Type 0} (f g : A → Bool) → ((x : A) → f x ≡ g x) → (x : Option A) → ofAny f x ≡ ofAny g x
 any-same f g h none = refl
 any-same f g h (some x) = h x
 
--- row 4 of an act that carries a price alone
+-- row 4 for an act that carries a price and nothing else
 and-true : (b : Bool) → (b && true) ≡ b
 and-true true = refl
 and-true false = refl

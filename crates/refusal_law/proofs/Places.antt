@@ -1,4 +1,4 @@
--- Row 10 by the live counts: the orders that a table holds are as many as the session says.
+-- Row 10 may be judged by the live counts, since a table holds as many orders as they say.
 use mathlib.Core.Path.{_≡_, sym, ap, _∙_}
 use Prim.Native.Nat.{ℕ}
 use mathlib.Core.Bool.{Bool}

@@ -7,7 +7,7 @@ use Rattle.terms.specs.Refusals.{Rule, numberOf}
 use Rattle.state_law.specs.Day.{Day}
 use Rattle.refusal_law.specs.Refusals.{rules}
 
--- the numbers that rows answer
+-- the numbers of the refusals in a list of rules
 unfoldable pub answered : List Rule → List ℕ
 answered [] = []
 answered (r ∷ rs) = numberOf (r .refusal) ∷ answered rs

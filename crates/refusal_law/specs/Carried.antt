@@ -1,4 +1,4 @@
--- What an act carries, listed once: the rows of the table are tests of these.
+-- What an act carries, listed once: the rows of the table are tests of these parts.
 use Prim.Native.Nat.{ℕ}
 use mathlib.Core.Bool.{Bool, true, false}
 use mathlib.Core.Option.{Option, some, none}
@@ -8,7 +8,7 @@ use Rattle.terms.specs.declared.Entry.{Entry}
 use Rattle.terms.specs.declared.Kind.{Kind}
 use Rattle.terms.specs.declared.Kind.the-variants.{Limit, Market}
 
--- a market order has no limit
+-- the limit price of an order; a market order has none
 abbrev pub limitOf : Kind → Option ℕ
 limitOf (Limit price) = some price
 limitOf Market = none
@@ -16,15 +16,15 @@ limitOf Market = none
 pub record Carried : Type 0 where
   -- an order that comes in
   pub entry : Option Entry
-  -- the number of an order
+  -- the number of the order to cancel
   pub number : Option ℕ
   pub lots : Option ℕ
-  -- any price: a limit, a settlement, an underlying
+  -- any price: a limit, a settlement or an underlying
   pub price : Option ℕ
-  -- a limit or a settlement
+  -- a price that must be a multiple of the tick: a limit or a settlement
   pub ticked : Option ℕ
   pub limit : Option ℕ
-  -- it ends the day
+  -- whether it ends the day
   pub closes : Bool
 
 abbrev pub carries : Act → Carried

@@ -1,4 +1,4 @@
--- Document 01, "Refusal numbers, first that applies": 2 to 11, those of an event on a day.
+-- Document 01, "Refusal numbers, first that applies": rows 2 to 11, which judge an event on a day.
 use Prim.Native.Nat.{ℕ}
 use mathlib.Core.Bool.{Bool, true, cond, _||_, not}
 use mathlib.Core.List.{List, [], _∷_}
@@ -24,7 +24,7 @@ use Rattle.state_law.specs.Day.{Day, own, steppedDay}
 use Rattle.soundness_law.specs.Sound.{soundBy}
 use Rattle.refusal_law.specs.Carried.{limitOf, carries}
 
--- a test of the limit price; a market order has none
+-- the limit passes a test; a market order has none
 abbrev pub ofLimit : (ℕ → Bool) → Kind → Bool
 ofLimit test kind = ofAny test (limitOf kind)
 
@@ -79,11 +79,11 @@ laterRules z d e =
     ∷ unless OffTick (ticksRight (d .session .settings .tick) (e .act))
     ∷ bookRules z d e
 
--- the table's rows 2 to 11, in its order, by some sizes
+-- rows 2 to 11 of the table, in its order, by the given sizes
 abbrev pub rulesBy : Sizes → Day → Event → List Rule
 rulesBy z d e = unless Unsound (soundBy z d) ∷ laterRules z d e
 
--- and by those of the paper
+-- the same by the sizes of the paper
 abbrev pub rules : Day → Event → List Rule
 rules d e = rulesBy sizes d e
 

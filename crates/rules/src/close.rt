@@ -7,10 +7,10 @@ ghost use Prim.Native.Nat.{_*_, _≤_, _<_};
 ghost use Rattle.terms.specs.Sizes.{priceMost, lotsMost, tradesMost, lengthLeast, tickMost};
 ghost use Rattle.rules_law.specs.Close.{inHalfHour, tallied, tallyAll, noTally, halfAfter, remembered, tapeAfter, lastOf, lastOr, lastLots, average, closingOf, TallyFits, TenFits, TapeFits};
 
-// The last half hour of a session of this length.
+// The half hour before the close, in ms.
 const HALF_HOUR: u64 = 1_800_000;
 
-// Whether a trade at a time is in the half hour that the close looks at.
+// Whether a trade at a time is in the half hour that the close price is taken from.
 pub fn in_half_hour(length: u64, time: u64) -> bool
     requires { ⌜ lengthLeast ≤ length ⌝ }
     ensures { λ r. ⌜ r ≡ inHalfHour length time ⌝ }
@@ -18,7 +18,7 @@ pub fn in_half_hour(length: u64, time: u64) -> bool
     length - HALF_HOUR <= time
 }
 
-// What lots at a price come to.
+// Price times lots.
 fn worth(price: u64, lots: u64) -> u64
     requires { ⌜ (price ≤ priceMost) × (lots ≤ lotsMost) ⌝ }
     ensures { λ r. ⌜ (r ≡ price * lots) × (r ≤ priceMost * lots) ⌝ }
@@ -26,7 +26,7 @@ fn worth(price: u64, lots: u64) -> u64
     price * lots
 }
 
-// One trade more in a tally.
+// A tally with one more trade.
 fn tally_after(t: Tally, price: u64, lots: u64) -> Tally
     requires { ⌜ TallyFits t × (price ≤ priceMost) × (lots ≤ lotsMost) ⌝ }
     ensures { λ r. ⌜ r ≡ tallied t price lots ⌝ }
@@ -41,7 +41,7 @@ fn tally_after(t: Tally, price: u64, lots: u64) -> Tally
     }
 }
 
-// One number more of the last ten, of which n were there.
+// Ten remembered numbers, of which n are in use, with one more.
 fn pushed(old: [u64; 10], n: u64, x: u64) -> [u64; 10]
     ensures { λ r. ⌜ r ≡ remembered old n x ⌝ }
 {
@@ -76,7 +76,7 @@ fn half_after(half: Tally, late: bool, price: u64, lots: u64) -> Tally
     half
 }
 
-// A trade remembered; late says whether it is in the half hour.
+// The tape after a trade; late says whether the trade is in the half hour.
 pub fn tape_after(t: Tape, late: bool, price: u64, lots: u64) -> Tape
     requires { ⌜ (t .trades ≤ tradesMost) × TallyFits (t .half) × (price ≤ priceMost) × (lots ≤ lotsMost) ⌝ }
     ensures { λ r. ⌜ r ≡ tapeAfter t late price lots ⌝ }
@@ -97,7 +97,7 @@ pub fn tape_after(t: Tape, late: bool, price: u64, lots: u64) -> Tape
     }
 }
 
-// The newest of ten numbers that are remembered of so many trades, or the other before any trade.
+// The newest of the numbers that are remembered of so many trades, or `other` before any trade.
 fn last_of(other: u64, trades: u64, ten: [u64; 10]) -> u64
     ensures { λ r. ⌜ r ≡ lastOf other trades ten ⌝ }
 {
@@ -111,7 +111,7 @@ fn last_of(other: u64, trades: u64, ten: [u64; 10]) -> u64
     ten[at]
 }
 
-// The last trade's price, or the other before any trade.
+// The last trade's price, or `other` before any trade.
 pub fn last_or(other: u64, t: Tape) -> u64
     ensures { λ r. ⌜ r ≡ lastOr other t ⌝ }
 {
@@ -145,7 +145,7 @@ fn last_ten(prices: [u64; 10], sizes: [u64; 10]) -> Tally
     t
 }
 
-// A tick's worth of each lot.
+// One tick for each lot: the unit in which an average is rounded.
 fn spread(lots: u64, tick: u64) -> u64
     requires { ⌜ (1 ≤ lots) × (lots ≤ lotsMost * tradesMost) × (tick ≤ tickMost) ⌝ }
     ensures { λ r. ⌜ (r ≡ lots * tick) × (tick ≤ r) × (r ≤ lotsMost * tradesMost * tickMost) ⌝ }
@@ -153,7 +153,7 @@ fn spread(lots: u64, tick: u64) -> u64
     lots * tick
 }
 
-// Value by lots, to the nearest tick, halves up.
+// Value÷lots, to the nearest tick, halves up.
 fn nearest_tick(tick: u64, t: Tally) -> u64
     requires { ⌜ (1 ≤ tick) × (tick ≤ tickMost) × TallyFits t × (1 ≤ t .lots) ⌝ }
     ensures { λ r. ⌜ r ≡ average tick t ⌝ }

@@ -5,7 +5,7 @@ ghost use Rattle.terms.specs.Sizes.{priceMost, daysMost};
 ghost use Rattle.rules_law.specs.Growth.{growth, theoretical};
 ghost use Rattle.rules_law.specs.Reference.{referenceMost};
 
-// 1,000,000,000 times the growth over so many days.
+// For each day to maturity, 1,000,000,000 times the growth until then.
 const FACTORS: [u64; 367] = [
     1000000000,
     1000274010,
@@ -376,7 +376,7 @@ const FACTORS: [u64; 367] = [
     1105473746,
 ];
 
-// The factor of a day.
+// The growth factor for so many days to maturity.
 fn factor(days: usize) -> u64
     requires { ⌜ days ≤ daysMost ⌝ }
     ensures { λ r. ⌜ (r ≡ growth days) × (r ≤ 1106000000) ⌝ }

@@ -1,4 +1,4 @@
-// The reference price: at the opening, over the boundaries of minutes, and the range around it.
+// The reference price at the opening and at the boundaries of minutes, and the range around it.
 use rules_law::Minute;
 use rules_law::Range;
 use rules_law::Reckoning;
@@ -9,10 +9,10 @@ ghost use Prim.Native.Nat.{_≤_};
 ghost use Rattle.terms.specs.Sizes.{priceMost, daysMost};
 ghost use Rattle.rules_law.specs.Reference.{theoreticalOr, minuteAfter, quiet, reckoned, MinuteFits, RangeFits, rangeOf, inRange, rangeEnds};
 
-// The greatest reference: what a theoretical price can come to.
+// The greatest reference: no theoretical price is above it.
 pub const MOST: u64 = 110_600_000;
 
-// The theoretical price, or the other where no underlying is known.
+// The theoretical price, or `other` where no underlying is known.
 pub fn theoretical_or(other: u64, under: u64, days: u64) -> u64
     requires { ⌜ (under ≤ priceMost) × (days ≤ daysMost) ⌝ }
     ensures { λ r. ⌜ r ≡ theoreticalOr other under days ⌝ }
@@ -23,7 +23,7 @@ pub fn theoretical_or(other: u64, under: u64, days: u64) -> u64
     crate::growth::theoretical(under, days)
 }
 
-// The minute with one trade more.
+// The minute after one more trade.
 pub fn minute_after(m: Minute, price: u64) -> Minute
     requires { ⌜ MinuteFits m × (price ≤ priceMost) ⌝ }
     ensures { λ r. ⌜ r ≡ minuteAfter m price ⌝ }
@@ -36,7 +36,7 @@ pub fn minute_after(m: Minute, price: u64) -> Minute
     }
 }
 
-// A reference, and a minute that has just begun.
+// A reference at the start of a minute, before its first trade.
 pub fn begun(price: u64) -> Reckoning
     ensures { λ r. ⌜ r ≡ quiet price ⌝ }
 {
@@ -47,7 +47,7 @@ pub fn begun(price: u64) -> Reckoning
     }
 }
 
-// The reckoning after every boundary that lies after the one time, up to and including the other.
+// The reference and the minute after every boundary from one time, not included, to another, included.
 pub fn reckon(r: Reckoning, under: u64, days: u64, from: u64, to: u64) -> Reckoning
     requires { ⌜ (under ≤ priceMost) × (days ≤ daysMost) × (from ≤ to) ⌝ }
     ensures { λ r′. ⌜ r′ ≡ reckoned r under days from to ⌝ }
@@ -67,7 +67,7 @@ pub fn reckon(r: Reckoning, under: u64, days: u64, from: u64, to: u64) -> Reckon
     begun(theoretical_or(average, under, days))
 }
 
-// The range around a reference: by the initial percent, whatever the band's is now.
+// The range around a reference. It goes by the initial percent, whatever percent the band has now.
 pub fn range_of(slab: Row, reference: u64) -> Range
     ensures { λ r. ⌜ r ≡ rangeOf slab reference ⌝ }
 {

@@ -45,7 +45,7 @@ const SLABS: [Row; 8] = [
 // How long a cooling-off lasts.
 pub const COOLING: u64 = 900_000;
 
-// The row of a category. Each index is written out, so that no call makes the table anew.
+// The percents of a category. Each index is written out, so that no call builds the table anew.
 pub fn slab_of(c: Category) -> Row
     ensures { λ r. ⌜ (r ≡ slabOf c) × (r .initial + r .enhanced ≤ percentMost) ⌝ }
 {
@@ -62,7 +62,7 @@ pub fn slab_of(c: Category) -> Row
     }
 }
 
-// The percent in force after so many widenings.
+// The percent in force once the band has been widened so often.
 pub fn percent_of(slab: Row, widened: u64) -> u64
     requires { ⌜ slab .initial + slab .enhanced ≤ percentMost ⌝ }
     ensures { λ r. ⌜ (r ≡ percentOf slab widened) × (r ≤ percentMost) ⌝ }
@@ -110,7 +110,7 @@ pub fn in_band(b: Band, x: u64) -> bool
     (b.low <= x) & (x <= b.high)
 }
 
-// The end of the cooling-off after a trade at a price, 0 for none.
+// The time at which a cooling-off ends after a trade at a price; 0 where none runs.
 pub fn cooling_after(widened: u64, cooling: u64, time: u64, b: Band, price: u64) -> u64
     requires { ⌜ time ≤ timeMost ⌝ }
     ensures { λ r. ⌜ r ≡ coolingAfter widened cooling time b price ⌝ }
@@ -128,7 +128,7 @@ pub fn cooling_after(widened: u64, cooling: u64, time: u64, b: Band, price: u64)
     cooling
 }
 
-// A cooling-off has ended by a time.
+// Whether a cooling-off runs and has ended by a time.
 pub fn over_by(cooling: u64, t: u64) -> bool
     ensures { λ r. ⌜ r ≡ overBy cooling t ⌝ }
 {

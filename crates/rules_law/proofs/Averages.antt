@@ -1,4 +1,4 @@
--- The weighted average to the nearest tick means what document 01 says, and nothing wraps on the way.
+-- The weighted average to the nearest tick is the one that document 01 means, and computing it overflows nowhere.
 use Prim.Native.Nat.{ℕ, _+_, _-_, _*_, _/_, _≤_, _<_}
 use native.Mathlib.Omega.{arith}
 use native.Mathlib.Nat.{mul-le-mul, mul-le-mul-left, mul-assoc, mul-comm, mul-mod-left, add-mul, one-mul, le-trans, div-mul-le-self, lt-div-mul-add, div-eq-of-lt-le}
@@ -6,7 +6,7 @@ use mathlib.Core.Path.{_≡_, sym, ap}
 use Rattle.rules_law.specs.Close.{nearest}
 use Rattle.rules_law.specs.Meaning.{IsNearest}
 
--- q ticks times the lots, as so many units of lots×tick
+-- q ticks for each lot come to q times lots×tick
 units : (q tick lots : ℕ) → q * tick * lots ≡ q * (lots * tick)
 units q tick lots = omega (arith, mul-assoc q tick lots, ap (λ (n : ℕ). q * n) (mul-comm tick lots))
 
@@ -30,7 +30,7 @@ nearest-is tick value lots t l =
           (omega (arith, units k tick lots, twice k u, add-mul k 1 (2 * u), one-mul (2 * u)))));
     }
 
--- the average of the code fits where twice the value does
+-- the average that the code computes is at most twice the value plus one unit, so it fits where these do
 pub nearest-small : (value unit tick : ℕ) → tick ≤ unit → (2 * value + unit) / (2 * unit) * tick ≤ 2 * value + unit
 nearest-small value unit tick h =
     le-trans (mul-le-mul-left ((2 * value + unit) / (2 * unit)) (omega arith)) (div-mul-le-self (2 * value + unit) (2 * unit))

@@ -1,5 +1,5 @@
--- The ends of a band mean what document 01 says; both are inside, and so is the base; a greater percent gives a band that contains the
--- smaller one.
+-- The ends of a band are those that document 01 means; both are inside it, and so is the base; the band of a greater percent contains
+-- that of a smaller one.
 use Prim.Native.Nat.{ℕ, zero, suc, _+_, _-_, _*_, _/_, _%_, _≤_, _<_}
 use mathlib.Core.Path.{_≡_}
 use mathlib.Core.Bool.{true, false}
@@ -13,7 +13,7 @@ use Rattle.terms.proofs.Logic.{cases, between-facts, between-make}
 use Rattle.rules_law.specs.Slabs.{lowAt, highAt, bandAt, bandMost, inBand, Priced}
 use Rattle.rules_law.specs.Meaning.{IsLow, IsHigh}
 
--- ---- meaning
+-- ---- the ends are what document 01 means
 
 hundred : (q t : ℕ) → q * t * 100 ≡ q * (100 * t)
 hundred q t = omega (arith, mul-assoc q t 100, mul-comm t 100)
@@ -44,7 +44,7 @@ high-is base tick p pos =
       greatest = λ k h. mul-le-mul-right tick (le-div-iff-mul-le up .1 (omega (arith, hundred k tick)));
     }
 
--- ---- a band holds the prices from the one end to the other, and no others
+-- ---- a band holds the prices from one end to the other, and no others
 
 pub inside : (b : Band) (x : ℕ) → b .low ≤ x → x ≤ b .high → inBand b x ≡ true
 inside b x h k = between-make (b .low) x (b .high) h k
@@ -70,7 +70,7 @@ base-inside base tick p pos e =
     (rw w at (low-is base tick p pos .least (base / tick) below))
     (rw w at (high-is base tick p pos .greatest (base / tick) above))
 
--- ---- a greater percent
+-- ---- a greater percent gives a wider band
 
 pub div-mono : (a b k : ℕ) → a ≤ b → a / k ≤ b / k
 div-mono a b zero h = rw (div-zero a, div-zero b) (omega arith)
@@ -96,7 +96,7 @@ band-grows base tick p q x h e =
     (omega (arith, f, low-falls base tick p q h))
     (omega (arith, f, high-rises base tick p q h))
 
--- ---- what the code needs: no product wraps, and the ends are below 2^32
+-- ---- what the code needs: no product overflows, and the ends are below 2^32
 
 pub low-part : {base tick p : ℕ} → Priced base tick p → base * (100 - p) ≤ 5000000000
 low-part {p = p} h = mul-le-mul (h .base-small) (sub-le 100 p)

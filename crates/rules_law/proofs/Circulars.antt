@@ -49,7 +49,7 @@ printed =
     ∷ percents Other 6 3 9
     ∷ []
 
--- the row that the definitions give: the aggregate is the percent once the band is widened
+-- the row that our definitions give: the aggregate is the percent of the widened band
 abbrev pub defined : Category → Percents
 defined c = percents c (slabOf c .initial) (slabOf c .enhanced) (percentOf (slabOf c) 1)
 
@@ -93,7 +93,7 @@ pub entries : map growth (0 ∷ 73 ∷ 365 ∷ []) ≡ 1000000000 ∷ 1020201340
 unfolding growth terms term factorial
 entries = refl
 
--- the one entry that the term for k = 7 decides; that for k = 8 decides none
+-- the one entry that would be another without the term for k = 7; that for k = 8 changes none
 pub seventh-term : growth 268 ≡ 1076187451
 unfolding growth terms term factorial
 seventh-term = refl
@@ -103,7 +103,7 @@ pub two-percent-of-four : map (inRange (rangeOf (slabOf Broad) 10000)) (9799 ∷
 unfolding inRange
 two-percent-of-four = refl
 
--- of the initial limit, and in each category: "Enhancement doesn't widen it."
+-- the range goes by the initial limit, in each category: "Enhancement doesn't widen it."
 pub range-by-initial : (c : Category) (reference : ℕ) → rangeOf (slabOf c) reference .percent ≡ percentOf (slabOf c) 0
 unfolding percentOf
 range-by-initial c reference = refl
@@ -124,14 +124,14 @@ marked-down m x =
 
 -- ---- 000, paragraph 1: "all trades done during last half an hour of the trading day"
 
--- a trade is, just where half an hour after it the day is at its length or past it
+-- a trade is one of these exactly where half an hour after it the day is at its length or past it
 pub last-half-hour : (length time : ℕ) → inHalfHour length time ≡ leb length (time + minutes 30)
 last-half-hour length time =
     same (inHalfHour length time) (leb length (time + minutes 30))
     (λ e. le-leb length (time + minutes 30) (omega (arith, leb-true (length - 1800000) time e)))
     (λ e. le-leb (length - 1800000) time (omega (arith, leb-true length (time + minutes 30) e)))
 
--- in a day of two hours, of eight hours and a half, and of twenty-four
+-- just before the half hour begins and as it begins, in a day of two hours, of eight and a half, and of twenty-four
 pub half-hours :
     inHalfHour (hours 2) (minutes 90 - 1) ∷ inHalfHour (hours 2) (minutes 90)
     ∷ inHalfHour (minutes 510) (hours 8 - 1) ∷ inHalfHour (minutes 510) (hours 8)
@@ -140,9 +140,9 @@ pub half-hours :
     ≡ false ∷ true ∷ false ∷ true ∷ false ∷ true ∷ []
 half-hours = refl
 
--- ---- 000, paragraphs 1 and 2: the four cases of the close price and the base price, where lots differ
+-- ---- 000, paragraphs 1 and 2: the four cases of the close price and the base price, on trades of different lots
 
--- a tape with n trades more, each of these lots at this price; late: in the half hour
+-- the tape after n more trades of these lots at this price; `late` says whether they are in the half hour
 abbrev more : ℕ → Bool → ℕ → ℕ → Tape → Tape
 more zero late price lots t = t
 more (suc n) late price lots t = more n late price lots (tapeAfter t late price lots)

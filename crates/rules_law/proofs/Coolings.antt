@@ -1,4 +1,4 @@
--- The cooling-off: exactly what starts one, and from when on it is over.
+-- The cooling-off: exactly what starts one, and from what time on it is over.
 use Prim.Native.Nat.{ℕ, _+_, _≤_, _<_}
 use native.Mathlib.Omega.{arith}
 use mathlib.Core.Path.{_≡_, refl}
@@ -20,9 +20,9 @@ touches-high b = or-last (eqb (b .high) (b .low)) _ (λ e. eq-eqb (b .high) (b .
 pub touches-only : (b : Band) (x : ℕ) → (x ≡ b .low → ⊥) → (x ≡ b .high → ⊥) → touches b x ≡ false
 touches-only b x h k = rw (ne-eqb x (b .low) h, ne-eqb x (b .high) k)
 
--- ---- what starts one
+-- ---- what starts a cooling-off
 
--- the initial slab, no cooling-off that runs, a trade at either end
+-- the slab is the initial one, no cooling-off runs, and the trade is at either end of the band
 abbrev pub startsOne : ℕ → ℕ → Band → ℕ → Bool
 startsOne widened cooling b price = eqb widened 0 && (eqb cooling 0 && touches b price)
 
@@ -38,12 +38,12 @@ not-all true true false x y p = refl
 not-all true false c x y p = refl
 not-all false b c x y p = refl
 
--- these three together start one
+-- where all three hold, a cooling-off starts
 pub starts : (widened cooling time : ℕ) → (b : Band) → (price : ℕ) → startsOne widened cooling b price ≡ true → coolingAfter widened cooling time b price ≡ time + coolingLength
 unfolding coolingAfter
 starts widened cooling time b price = all-three (eqb widened 0) (eqb cooling 0) (touches b price) (time + coolingLength) cooling
 
--- nothing else starts one, or moves the end of one that runs
+-- where one fails, none starts, and one that runs keeps its end
 pub stays : (widened cooling time : ℕ) → (b : Band) → (price : ℕ) → startsOne widened cooling b price ≡ false → coolingAfter widened cooling time b price ≡ cooling
 unfolding coolingAfter
 stays widened cooling time b price = not-all (eqb widened 0) (eqb cooling 0) (touches b price) (time + coolingLength) cooling
@@ -56,6 +56,6 @@ over-from cooling t some h = rw (ne-eqb cooling 0 (λ e. omega arith), le-leb co
 pub over-before : (cooling t : ℕ) → t < cooling → overBy cooling t ≡ false
 over-before cooling t h = rw (ne-eqb cooling 0 (λ e. omega arith), lt-leb cooling t h)
 
--- where none runs, none is over
+-- a cooling-off that does not run is never over
 pub none-over : (t : ℕ) → overBy 0 t ≡ false
 none-over t = refl

@@ -1,5 +1,5 @@
--- The growth factors, computed from their definition and tested once, entry by entry: each lies from 1,000,000,000 to 1,106,000,000,
--- so a theoretical price is 1 to 110,600,000. Factor and price are rounded down.
+-- The growth factors are computed from their definition and tested once, entry by entry: each lies from 1,000,000,000 to 1,106,000,000,
+-- so a theoretical price is 1 to 110,600,000. Both factor and price are rounded down.
 use Prim.Native.Nat.{ℕ, zero, suc, _+_, _*_, _^_, _≤_, _<_}
 use native.Mathlib.Omega.{arith}
 use native.Mathlib.Nat.{mul-le-mul}
@@ -15,7 +15,7 @@ use Rattle.rules_law.specs.Growth.{factorial, term, terms, growth, theor
 use Rattle.rules_law.specs.Reference.{theoreticalOr, referenceMost}
 use Rattle.rules_law.proofs.Table.{at, both, both-left, both-right, every}
 
--- the definition's values at n places from i on: they are computed, and the source's table is held to them
+-- the values of the definition for n days from day i on; the table in the source must equal them
 values : ℕ → ℕ → List ℕ
 values i zero = []
 values i (suc n) = growth i ∷ values (suc i) n
@@ -29,7 +29,7 @@ pub record Factor (d x : ℕ) : Type 0 where
   pub least : 1000000000 ≤ x
   pub most : x ≤ 1106000000
 
--- the test: it is the factor of its place, and within its bounds
+-- the test of an entry: it is the growth of its day, and within the bounds
 right : ℕ → ℕ → Bool
 right d x = both (eqb x (growth d)) (both (leb 1000000000 x) (leb x 1106000000))
 
@@ -46,7 +46,7 @@ carried d x t =
       most = leb→le x 1106000000 (both-right b c r);
     }
 
--- THE TEST, computed over all 367 entries
+-- THE TEST passes at all 367 entries, by computation
 tested : T (every right 0 factors)
 unfolding factors values right growth terms term factorial
 tested = tt
@@ -55,7 +55,7 @@ counted : length factors ≡ 367
 unfolding factors values
 counted = refl
 
--- and carried to each entry
+-- so each entry is the growth of its day, and within the bounds
 pub factor-is : (d : ℕ) → d ≤ daysMost → Factor d (getD factors d 0)
 factor-is d h = carried d (getD factors d 0) (at right factors tested d (omega (arith, counted)))
 
@@ -70,7 +70,7 @@ theoretical-range u d a b h =
     let m : u * growth d ≤ 100000000 * 1106000000 = mul-le-mul b (g .1) in
     omega arith
 
--- and the bound on a reference is the greatest price times that on a factor
+-- the greatest reference is the greatest price times the bound on a factor
 pub reference-bound : referenceMost * 1000000000 ≡ priceMost * 1106000000
 reference-bound = refl
 
@@ -81,7 +81,7 @@ theoreticalOr-range r u d a b c h =
     (λ e. (a, b))
     (λ e. theoretical-range u d (let n : (u ≡ 0 → ⊥) = eqb-false u 0 e in omega arith) c h)
 
--- ---- "rounded down"
+-- ---- "rounded down": a factor, and a price
 
 pub growth-down : (d : ℕ) →
     (growth d * (3650 ^ 8 * factorial 8) ≤ 1000000000 * terms d 8) × (1000000000 * terms d 8 < (growth d + 1) * (3650 ^ 8 * factorial 8))

@@ -1,5 +1,5 @@
--- The boundaries of minutes: what one makes of the reference, that two steps of time are one, and that a second boundary without trades
--- settles it.
+-- What a minute's boundary makes of the reference; that two steps of time are one; and that after a second boundary further ones change
+-- nothing.
 use Prim.Native.Nat.{ℕ, zero, suc, _+_, _-_, _*_, _/_, _≤_, _<_}
 use native.Mathlib.Omega.{arith}
 use native.Mathlib.Nat.{zero-add, suc-add, add-mul, one-mul, div-mul-le-self, lt-div-mul-add}
@@ -26,13 +26,13 @@ average-down under days r some =
     rw (ne-eqb n 0 (λ e. omega arith))
     (record { not-above = div-mul-le-self s n; not-below = omega (arith, lt-div-mul-add {a = s} {b = n} some, add-mul (s / n) 1 n, one-mul n) })
 
--- "else, if an underlying is known, the theoretical price;
+-- "else, if an underlying is known, the theoretical price"
 pub known-theoretical : (under days : ℕ) (r : Reckoning) → r .minute .count ≡ 0 → 1 ≤ under →
     boundary under days r .reference ≡ theoretical under days
 unfolding theoreticalOr
 known-theoretical under days r e some = rw (eq-eqb (r .minute .count) 0 e, ne-eqb under 0 (λ z. omega arith))
 
--- else it stays"
+-- "else it stays"
 pub unknown-stays : (days : ℕ) (r : Reckoning) → r .minute .count ≡ 0 → boundary 0 days r .reference ≡ r .reference
 unfolding theoreticalOr
 unknown-stays days r e = rw (eq-eqb (r .minute .count) 0 e)
@@ -51,14 +51,14 @@ boundaries-add (suc j) k under days r = rw (suc-add j k) (boundaries-add j k und
 crossed-add : (s t u : ℕ) → s ≤ t → t ≤ u → crossed s t + crossed t u ≡ crossed s u
 crossed-add s t u h k = omega arith
 
--- TWO STEPS OF TIME ARE ONE: up to t and then up to u is up to u
+-- TWO STEPS OF TIME ARE ONE: to go to t and then to u is to go to u
 pub reckoned-twice : (r : Reckoning) (under days s t u : ℕ) → s ≤ t → t ≤ u → reckoned (reckoned r under days s t) under days t u ≡ reckoned r under days s u
 unfolding reckoned
 reckoned-twice r under days s t u h k =
     boundaries-add (crossed s t) (crossed t u) under days r
     ∙ ap (λ (n : ℕ). boundaries n under days r) (crossed-add s t u h k)
 
--- ---- for the code, which reckons at most two boundaries
+-- ---- for the code, which computes at most two boundaries
 
 or-settles : (x u d : ℕ) → theoreticalOr (theoreticalOr x u d) u d ≡ theoreticalOr x u d
 unfolding theoreticalOr
@@ -67,7 +67,7 @@ or-settles x u d = cases (eqb u 0) (λ e. rw e) (λ e. rw e)
 boundary-settles : (u d : ℕ) (r : Reckoning) → boundary u d (boundary u d (boundary u d r)) ≡ boundary u d (boundary u d r)
 boundary-settles u d r = ap quiet (or-settles (boundary u d r .reference) u d)
 
--- a second boundary is as good as any number of them
+-- two boundaries give the same as any greater number of them
 boundaries-settle : (k u d : ℕ) (r : Reckoning) → boundaries (suc (suc k)) u d r ≡ boundary u d (boundary u d r)
 unfolding boundaries
 boundaries-settle zero u d r = refl
@@ -92,7 +92,7 @@ busy-at zero u d r n m e = absurd (n refl)
 busy-at (suc zero) u d r n m e = absurd (m refl)
 busy-at (suc (suc k)) u d r n m e = boundaries-settle k u d r ∙ ap (boundary u d) (boundary-busy u d r e)
 
--- the four answers of the code
+-- each of the four returns of `reckon` is what the definition says
 module _ (r : Reckoning) (u d s t : ℕ) where
   pub reckon-none : crossed s t ≡ 0 → r ≡ reckoned r u d s t
   unfolding reckoned boundaries

@@ -1,5 +1,5 @@
--- The range on both sides of the reference; the range and the mark as code tests them, by whole paise: for any price, without a product
--- that could wrap.
+-- The range on both sides of the reference; and the code's tests of range and mark, which compare whole paise, for any price and without
+-- an overflow.
 use Prim.Native.Nat.{ℕ, _+_, _-_, _*_, _/_, _≤_, _<_}
 use native.Mathlib.Omega.{arith}
 use native.Mathlib.Nat.{mul-le-mul, mul-le-mul-right}
@@ -30,7 +30,7 @@ range-down r k h =
     let e : r .reference - k - r .reference + (r .reference - (r .reference - k)) ≡ k = omega arith in
     ap (λ (d : ℕ). leb (200 * d) (r .percent * r .reference)) e
 
--- a whole distance k is within the reach n/200 when 200×k is at most n
+-- a whole number k is at most n÷200, rounded down, exactly where 200×k is at most n
 reach : (k n : ℕ) → leb k (n / 200) ≡ leb (200 * k) n
 reach k n =
     same (leb k (n / 200)) (leb (200 * k) n)
@@ -52,14 +52,14 @@ range-above r x h =
 pub range-product : (r : Range) → RangeFits r → r .percent * r .reference ≤ 100 * referenceMost
 range-product r f = mul-le-mul (f .percent-small) (f .reference-small)
 
--- a price in range is not far above the reference, so a first trade's mark fits
+-- a price in range is not far above the reference, so the products for the mark do not overflow
 pub in-range-small : (r : Range) (x : ℕ) → RangeFits r → inRange r x ≡ true → x ≤ markMost
 unfolding inRange
 in-range-small r x f e = omega (arith, range-product r f, leb-true (200 * (x - r .reference + (r .reference - x))) (r .percent * r .reference) e)
 
 -- ---- the ends of the range
 
--- what a price in range is, without the rounding: at most the reach away, on either side
+-- a price in range is at most the reach away from the reference, on either side
 near : (r : Range) (x : ℕ) → inRange r x ≡ true → (r .reference ≤ x + reachOf r) × (x ≤ r .reference + reachOf r)
 unfolding inRange
 near r x e =
@@ -70,7 +70,7 @@ nearly : (r : Range) (x : ℕ) → r .reference ≤ x + reachOf r → x ≤ r .r
 unfolding inRange
 nearly r x low high = le-leb (200 * (x - r .reference + (r .reference - x))) (r .percent * r .reference) (omega arith)
 
--- a price is in range just where it lies between the ends
+-- a price is in range exactly where it lies between the ends
 pub range-between : (r : Range) (x : ℕ) → inRange r x ≡ inBand (rangeEnds r) x
 unfolding rangeLow rangeHigh
 range-between r x =
@@ -95,7 +95,7 @@ are-ends r =
       greatest = λ x e. in-ends r x e .1;
     }
 
--- what the code needs: the reach is at most half the reference
+-- what the code needs: the reach is at most the reference, so that the lower end is no less than 0
 pub reach-small : (r : Range) → RangeFits r → reachOf r ≤ r .reference
 reach-small r f = omega (arith, mul-le-mul-right (r .reference) (f .percent-small))
 

@@ -1,4 +1,4 @@
--- A rule of a table, proved at all of its entries by one test that is computed, one entry after the other.
+-- To prove a property of every entry of a table, compute one test over the whole table and read it off at each entry.
 use mathlib.Core.Path.{_∙_, subst, sym}
 use mathlib.Core.Bool.{Bool, true, false}
 use mathlib.Core.List.{List, [], _∷_}
@@ -19,7 +19,7 @@ pub both-right : (a b : Bool) → T (both a b) → T b
 both-right true b t = t
 both-right false b t = absurd t
 
--- the test f passes at each entry of the list and its place, counted from i
+-- the test f passes at each entry, given the entry's place; places are counted from i
 abbrev pub every : (ℕ → ℕ → Bool) → ℕ → List ℕ → Bool
 every f i [] = true
 every f i (x ∷ xs) = both (f i x) (every f (suc i) xs)

@@ -1,4 +1,4 @@
--- The tape: ten numbers as an array holds them, the last of them, and the last ten added up.
+-- The tape: how its arrays of ten numbers change with a trade, which of them is the last trade's, and the sum of the last ten trades.
 use Prim.Native.Nat.{ℕ, zero, suc, _+_, _-_, _*_, _≤_, _<_}
 use native.Mathlib.Omega.{arith}
 use native.Mathlib.Nat.{mul-le-mul-right, min-eq-left, min-eq-right}
@@ -16,9 +16,9 @@ use Rattle.rules_law.specs.declared.Tally.{Tally}
 use Rattle.rules_law.specs.declared.Tape.{Tape}
 use Rattle.rules_law.specs.Close.{tallied, tallyAll, kept, remembered, halfAfter, noTally, average, tapeAfter, lastOf, lastOr, lastLots, closePrice, nextBase, closingOf, TallyFits, TenFits}
 
--- ---- ten numbers of an array
+-- ---- the ten numbers of an array
 
--- n elements from place i on, read one by one
+-- n numbers from place i on, read one by one
 abbrev reads : ℕ → ℕ → List ℕ → List ℕ
 reads zero i a = []
 reads (suc n) i a = getD a i 0 ∷ reads n (suc i) a
@@ -29,7 +29,7 @@ reads-is (suc n) i a h =
     let k : i < length a = omega arith in
     rw (drop-cons a i 0 k) (ap (λ (l : List ℕ). getD a i 0 ∷ l) (reads-is n (suc i) a (omega arith)))
 
--- the oldest goes, the new one comes last
+-- with ten remembered, the oldest goes and the new one comes last
 pub shifted : (a : List ℕ) (n x : ℕ) → length a ≡ 10 → 10 ≤ n → reads 9 1 a ++ (x ∷ []) ≡ remembered a n x
 unfolding remembered
 shifted a n x l h =
@@ -47,7 +47,7 @@ last-of-few other n ten some h =
     let l : n ≤ 10 = omega arith in
     rw (ne-eqb n 0 some, min-eq-right l)
 
--- the newest trade is the last
+-- the newest trade becomes the last
 newest : (old : List ℕ) (n x : ℕ) → length old ≡ 10 → getD (remembered old n x) (kept (n + 1) - 1) 0 ≡ x
 newest old n x l =
     cases (ltb n 10)
@@ -68,7 +68,7 @@ lots-newest t late price lots l = rw (ne-eqb (t .trades + 1) 0 (λ e. omega arit
 
 -- ---- tallies
 
--- a trade in the half hour is added to its tally, and no other
+-- a trade in the half hour is added to the half hour's tally, an earlier one is not
 pub half-late : (half : Tally) (price lots : ℕ) → halfAfter half true price lots ≡ tallied half price lots
 half-late half price lots = refl
 
@@ -83,14 +83,14 @@ pub tally-turn : (t : Tally) (ps ns : List ℕ) (i : ℕ) → i < length ps → 
 unfolding tallyAll
 tally-turn t ps ns i h k = rw (add-one i, drop-cons ps i 0 h, drop-cons ns i 0 k)
 
--- the first i of ten trades are in a tally
+-- what the loop over the ten trades holds: the first i of them are in the tally
 pub record Tallying (ps ns : List ℕ) (t : Tally) (i : ℕ) : Type 0 where
   pub places : i ≤ 10
   pub counted : t .count ≡ i
   pub fits : TallyFits t
   pub rest : tallyAll noTally ps ns ≡ tallyAll t (drop i ps) (drop i ns)
 
--- one more
+-- a turn adds one more
 pub ten-turn : {ps ns : List ℕ} {t : Tally} {i : ℕ} (t′ : Tally) → TenFits ps ns → Tallying ps ns t i → length ps ≡ 10 → length ns ≡ 10 → i < 10 → t′ ≡ tallied t (getD ps i 0) (getD ns i 0) → Tallying ps ns t′ (i + 1)
 unfolding tallied
 ten-turn {ps} {ns} {t} {i} t′ f s lp ln h e =
@@ -101,12 +101,12 @@ ten-turn {ps} {ns} {t} {i} t′ f s lp ln h e =
       rest = s .rest ∙ tally-turn t ps ns i (omega arith) (omega arith);
     })
 
--- all ten
+-- at the end all ten are in it
 pub ten-end : {ps ns : List ℕ} {t : Tally} {i : ℕ} → Tallying ps ns t i → length ps ≡ 10 → 10 ≤ i → t ≡ tallyAll noTally ps ns
 unfolding tallyAll
 ten-end {ps} {ns} {t} {i} s lp h = let z : length ps ≤ i = omega arith in sym (s .rest ∙ rw (drop-of-length-le ps z))
 
--- ---- the close: the three answers of the code
+-- ---- the close: each of the code's three returns is what the definition says
 
 module _ (tick close settle : ℕ) (t : Tape) where
   pub by-half : (p : ℕ) → p ≡ average tick (t .half) → 10 ≤ t .half .count → record { price = p; base = p } ≡ closingOf tick close t settle

@@ -17,7 +17,7 @@ noTally = record { count = 0; lots = 0; value = 0 }
 unfoldable pub tallied : Tally → ℕ → ℕ → Tally
 tallied t price lots = record { count = t .count + 1; lots = t .lots + lots; value = t .value + price * lots }
 
--- a tally with all of these prices and lots
+-- the tally after trades at these prices, of these lots
 unfoldable pub tallyAll : Tally → List ℕ → List ℕ → Tally
 tallyAll t [] sizes = t
 tallyAll t (p ∷ ps) [] = t
@@ -41,7 +41,7 @@ inHalfHour length time = leb (length - 1800000) time
 abbrev pub kept : ℕ → ℕ
 kept trades = min 10 trades
 
--- one more of ten numbers, of which n were there: the newest last
+-- ten numbers of which n are in use, with one more: the newest stands last, and the oldest goes where all ten are in use
 unfoldable pub remembered : List ℕ → ℕ → ℕ → List ℕ
 remembered old n x = cond (ltb n 10) (set old n x) (drop 1 (take 10 old) ++ (x ∷ []))
 
@@ -57,7 +57,7 @@ halfAfter half late price lots =
 abbrev pub blankTape : Tape
 blankTape = record { trades = 0; prices = replicate 10 0; sizes = replicate 10 0; half = noTally }
 
--- a trade remembered; late: in the half hour
+-- the tape after a trade; `late` says whether the trade is in the half hour
 unfoldable pub tapeAfter : Tape → Bool → ℕ → ℕ → Tape
 tapeAfter t late price lots =
     record {
@@ -67,15 +67,15 @@ tapeAfter t late price lots =
       half = halfAfter (t .half) late price lots;
     }
 
--- of the last ten trades, one number each: the newest one's, or the other before any trade
+-- given one number of each of the last ten trades: that of the newest, or `other` before any trade
 abbrev pub lastOf : ℕ → ℕ → List ℕ → ℕ
 lastOf other trades ten = cond (eqb trades 0) other (getD ten (kept trades - 1) 0)
 
--- "the last trade": its price, or the other before any trade
+-- "the last trade": its price, or `other` before any trade
 unfoldable pub lastOr : ℕ → Tape → ℕ
 lastOr other t = lastOf other (t .trades) (t .prices)
 
--- and its lots, 0 before any trade
+-- the last trade's lots, 0 before any trade
 unfoldable pub lastLots : Tape → ℕ
 lastLots t = lastOf 0 (t .trades) (t .sizes)
 
@@ -100,7 +100,7 @@ nextBase tick close t settle = cond (leb 10 (t .half .count) || leb 10 (t .trade
 abbrev pub closingOf : ℕ → ℕ → Tape → ℕ → Closing
 closingOf tick close t settle = record { price = closePrice tick close t; base = nextBase tick close t settle }
 
--- ---- bounds, as facts for those who compute with them
+-- ---- bounds, as facts for proofs that compute with them
 
 -- "half-hour lots lie between the count and 10,000 times it, their price×lots sum .. lots×100,000,000"
 pub record TallyFits (t : Tally) : Type 0 where

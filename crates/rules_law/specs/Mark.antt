@@ -10,6 +10,6 @@ abbrev pub beyondMark : Side → ℕ → ℕ → Bool
 beyondMark Buy m price = ltb (102 * m) (100 * price)
 beyondMark Sell m price = ltb (100 * price) (98 * m)
 
--- a bound on first trades: every price in range is below it
+-- no price in range is above this, so neither is the price of a first trade
 abbrev pub markMost : ℕ
 markMost = 1000000000

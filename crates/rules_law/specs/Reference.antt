@@ -10,11 +10,11 @@ use Rattle.rules_law.specs.declared.Range.{Range}
 use Rattle.rules_law.specs.declared.Row.{Row}
 use Rattle.rules_law.specs.Growth.{theoretical}
 
--- "reference is 1 to 110,600,000": what a theoretical price can come to
+-- "reference is 1 to 110,600,000": no theoretical price is greater
 abbrev pub referenceMost : ℕ
 referenceMost = 110600000
 
--- the theoretical price, or the other where no underlying is known
+-- the theoretical price, or `other` where no underlying is known
 unfoldable pub theoreticalOr : ℕ → ℕ → ℕ → ℕ
 theoreticalOr other under days = cond (eqb under 0) other (theoretical under days)
 
@@ -37,7 +37,7 @@ pub record MinuteFits (m : Minute) : Type 0 where
 
 -- ---- the boundaries
 
--- a reference, and a minute that has just begun
+-- a reference at the start of a minute, before its first trade
 abbrev pub quiet : ℕ → Reckoning
 quiet price = record { reference = price; minute = noTrades }
 
@@ -51,7 +51,7 @@ unfoldable pub boundaries : ℕ → ℕ → ℕ → Reckoning → Reckoning
 boundaries zero under days r = r
 boundaries (suc k) under days r = boundaries k under days (boundary under days r)
 
--- "At each multiple of 60,000 ms after 0": how many lie after the one time, up to and including the other
+-- "At each multiple of 60,000 ms after 0": how many of them lie after one time, up to and including another
 abbrev pub crossed : ℕ → ℕ → ℕ
 crossed from to = to / 60000 - from / 60000
 
@@ -69,7 +69,7 @@ rangeOf slab reference = record { percent = slab .initial; reference = reference
 unfoldable pub inRange : Range → ℕ → Bool
 inRange r x = leb (200 * (x - r .reference + (r .reference - x))) (r .percent * r .reference)
 
--- how far from the reference a price may lie, in whole paise: 200×reach is at most initial percent×reference
+-- how far from the reference a price may lie, in whole paise: the greatest k for which 200×k is at most initial percent×reference
 abbrev pub reachOf : Range → ℕ
 reachOf r = r .percent * r .reference / 200
 
@@ -77,7 +77,7 @@ reachOf r = r .percent * r .reference / 200
 unfoldable pub rangeLow : Range → ℕ
 rangeLow r = r .reference - reachOf r
 
--- and the greatest
+-- and the greatest such price
 unfoldable pub rangeHigh : Range → ℕ
 rangeHigh r = r .reference + reachOf r
 

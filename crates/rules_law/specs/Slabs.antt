@@ -23,11 +23,11 @@ slabOf Precious = row 6 3
 slabOf Gems = row 3 3
 slabOf Other = row 6 3
 
--- the greatest percent that a band may have
+-- no band has a greater percent
 abbrev pub percentMost : ℕ
 percentMost = 30
 
--- "It starts at the initial percent. ... the percent becomes initial plus enhanced." By how often the band has been widened
+-- "It starts at the initial percent. ... the percent becomes initial plus enhanced." It goes by how often the band has been widened
 unfoldable pub percentOf : Row → ℕ → ℕ
 percentOf slab widened = cond (eqb widened 0) (slab .initial) (slab .initial + slab .enhanced)
 
@@ -45,14 +45,14 @@ highAt base tick p = base * (100 + p) / (100 * tick) * tick
 abbrev pub bandAt : ℕ → ℕ → ℕ → Band
 bandAt base tick p = record { low = lowAt base tick p; high = highAt base tick p }
 
--- no band reaches above it
+-- no band reaches higher
 abbrev pub bandMost : ℕ
 bandMost = 65000000
 
 abbrev pub inBand : Band → ℕ → Bool
 inBand b x = between (b .low) x (b .high)
 
--- what a band is computed from, within its bounds
+-- base, tick and percent of a band are within their bounds
 pub record Priced (base tick percent : ℕ) : Type 0 where
   pub base-small : base ≤ baseMost
   pub tick-some : 1 ≤ tick

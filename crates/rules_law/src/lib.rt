@@ -1,4 +1,4 @@
-// rules_law: the law of rules: what the circulars compute, as types, definitions (specs/) and the laws that hold of them (proofs/).
+// rules_law: what the circulars compute, as types, definitions (specs/) and the laws that hold of them (proofs/).
 // It has no code and may use terms. It promises: percents, cooling-off, range, mark and half hour are the circulars' numbers; the ends of a
 // band and all averages are rounded as document 01 says, and a greater percent gives a wider band; a growth factor is the paper's sum rounded
 // down, and a theoretical price is 1 to 110,600,000, whatever underlying is known and however many days are left; two steps of time are one.

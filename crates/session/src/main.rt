@@ -1,5 +1,5 @@
-// session: a day's lines from standard input, its report lines to standard output. Where one of them fails the program stops and says so
-// on standard error, in one line; it then prints nothing more.
+// session: reads a day's lines from standard input and prints its report lines to standard output. Where reading or printing fails the
+// program stops, says so on standard error in one line, and prints nothing more.
 use stream_law::Finish;
 
 fn main() {

@@ -1,6 +1,6 @@
-// soundness: whether a session that is handed in is sound, with the orders that its tables hold.
-// It may use book_sound, state and soundness_law, and what these use. It promises: the answer IS document 01's paragraph, of any numbers
-// whatever and of any tables that are long enough; nothing is written.
+// soundness: whether a session that is handed in is sound, together with the orders that its tables hold.
+// It may use book_sound, state and soundness_law, and what these use. It promises: the answer IS document 01's paragraph, for any numbers
+// whatever and for any tables that are long enough; nothing is written.
 
 pub mod numbers;
 
@@ -17,7 +17,7 @@ ghost use Rattle.terms.specs.code.Ticks.{factorOf};
 ghost use Rattle.state_law.specs.Now.{Clocked};
 ghost use Rattle.soundness_law.specs.Sound.{clockSound, tapeSound, sessionSound, sound, dayIn};
 
-// The settings are valid, the time, the counts, the slab and the single numbers within their bounds.
+// Whether the settings are valid, and the time, the counts, the slab and the other single numbers within their bounds.
 fn clock_sound(s: Session, factor: u64) -> bool
     requires { ⌜ factor ≡ factorOf (s .settings .tick) ⌝ }
     ensures { λ r. ⌜ r ≡ clockSound sizes s ⌝ }
@@ -38,7 +38,7 @@ fn clock_sound(s: Session, factor: u64) -> bool
     numbers::numbers_sound(s)
 }
 
-// What is remembered of trades is possible.
+// Whether what is remembered of trades is sound.
 fn tape_sound(s: Session, factor: u64) -> bool
     requires { ⌜ Clocked s × (factor ≡ factorOf (s .settings .tick)) ⌝ }
     ensures { λ r. ⌜ r ≡ tapeSound s ⌝ }
@@ -58,7 +58,7 @@ fn tape_sound(s: Session, factor: u64) -> bool
     numbers::remembered_sound(tick, factor, tape)
 }
 
-// The numbers of a session, but for its live orders.
+// Whether the numbers of a session are sound, without its live orders.
 fn session_sound(s: Session, factor: u64) -> bool
     requires { ⌜ factor ≡ factorOf (s .settings .tick) ⌝ }
     ensures { λ r. ⌜ r ≡ sessionSound sizes s ⌝ }
@@ -69,7 +69,7 @@ fn session_sound(s: Session, factor: u64) -> bool
     tape_sound(s, factor)
 }
 
-// The session and its orders, with one division for every test of a tick.
+// Whether a session is sound with its orders. One division serves every test of a tick.
 pub fn is_sound(s: Session, buys: &[u64], sells: &[u64]) -> bool
     requires { ⌜ (tableLength ≤ length (now buys)) × (tableLength ≤ length (now sells)) ⌝ }
     ensures { λ r. ⌜ r ≡ sound (dayIn s (now (buys .entry)) (now (sells .entry))) ⌝ }

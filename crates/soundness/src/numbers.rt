@@ -1,4 +1,4 @@
-// The numbers of a session, part by part, as the paragraph on soundness lists them.
+// The tests of a session's numbers, part by part as the paragraph on soundness lists them.
 use rules_law::Minute;
 use rules_law::Tally;
 use rules_law::Tape;
@@ -62,7 +62,7 @@ fn price_sound(tick: u64, factor: u64, x: u64) -> bool
     terms::ticks::on_tick(x, tick, factor)
 }
 
-// The first n of ten prices are sound.
+// Whether the first n of ten prices are sound.
 fn prices_sound(prices: [u64; 10], n: usize, tick: u64, factor: u64) -> bool
     requires { ⌜ (n ≤ 10) × Dividing tick factor ⌝ }
     ensures { λ r. ⌜ r ≡ every (priceSound tick) (take n prices) ⌝ }
@@ -77,7 +77,7 @@ fn prices_sound(prices: [u64; 10], n: usize, tick: u64, factor: u64) -> bool
     true
 }
 
-// The first n of ten sizes are sound.
+// Whether the first n of ten sizes are sound.
 fn sizes_sound(lots: [u64; 10], n: usize) -> bool
     requires { ⌜ n ≤ 10 ⌝ }
     ensures { λ r. ⌜ r ≡ every isLots (take n lots) ⌝ }
@@ -92,7 +92,7 @@ fn sizes_sound(lots: [u64; 10], n: usize) -> bool
     true
 }
 
-// How many trades are remembered.
+// How many trades are remembered: ten, or all if there are fewer.
 fn remembered(trades: u64) -> usize
     ensures { λ r. ⌜ (r ≡ kept trades) × (r ≤ 10) ⌝ }
 {
@@ -102,7 +102,7 @@ fn remembered(trades: u64) -> usize
     trades as usize
 }
 
-// Ten numbers are from 1 to the most. No way leads out of the loop, so that all ten are compared side by side.
+// Whether ten numbers are from 1 to `most`. The loop is never left early, so that all ten can be compared at once.
 fn ten_within(xs: [u64; 10], most: u64) -> bool
     ensures { λ r. ⌜ r ≡ every (λ x. between 1 x most) xs ⌝ }
 {
@@ -116,7 +116,7 @@ fn ten_within(xs: [u64; 10], most: u64) -> bool
     all
 }
 
-// Ten prices are multiples of the tick; again with no way out.
+// Whether ten prices are multiples of the tick; this loop is never left early either.
 fn ten_ticked(prices: [u64; 10], tick: u64, factor: u64) -> bool
     requires { ⌜ (every isPrice prices ≡ true) × Dividing tick factor ⌝ }
     ensures { λ r. ⌜ r ≡ every (onTick tick) prices ⌝ }
@@ -130,7 +130,7 @@ fn ten_ticked(prices: [u64; 10], tick: u64, factor: u64) -> bool
     all
 }
 
-// Ten trades are sound.
+// Whether ten remembered trades are sound.
 fn full_sound(prices: [u64; 10], lots: [u64; 10], tick: u64, factor: u64) -> bool
     requires { ⌜ Dividing tick factor ⌝ }
     ensures { λ r. ⌜ r ≡ (every (priceSound tick) prices ⊓ every isLots lots) ⌝ }
@@ -160,7 +160,7 @@ pub fn remembered_sound(tick: u64, factor: u64, t: Tape) -> bool
     sizes_sound(lots, n)
 }
 
-// Lots times a number that is not large.
+// The product of some lots and a number, both of them bounded.
 fn times(lots: u64, x: u64) -> u64
     requires { ⌜ (lots ≤ lotsMost * tradesMost) × (x ≤ priceMost) ⌝ }
     ensures { λ r. ⌜ r ≡ lots * x ⌝ }

@@ -1,4 +1,4 @@
--- The day that a session and two tables hold: its orders are as many as the session says.
+-- The day that a session and two tables hold: its orders are as many as the session's live counts say.
 use Prim.Native.Nat.{ℕ}
 use mathlib.Core.Path.{_≡_, sym}
 use mathlib.Core.Bool.{Bool, true, false, not}
@@ -20,7 +20,7 @@ pub counted-in : (s : Session) (buys sells : List ℕ) → counted (dayIn s buys
 unfolding counted
 counted-in s buys sells = make (eq-eqb _ _ (sym (length-decode (s .live .buys) buys))) (eq-eqb _ _ (sym (length-decode (s .live .sells) sells)))
 
--- the code's answers
+-- each return of the code: unsound numbers make the day unsound, otherwise the book decides
 module _ (s : Session) (buys sells : List ℕ) (found : Bool) (f : found ≡ sessionSound sizes s) where
   pub numbers-unsound : not found ≡ true → false ≡ sound (dayIn s buys sells)
   unfolding soundBy _⊓_
@@ -30,7 +30,7 @@ module _ (s : Session) (buys sells : List ℕ) (found : Bool) (f : found ≡ ses
   unfolding soundBy _⊓_
   book-decides band b e n h = rw (← f, not-false found e, counted-in s buys sells, ← n) h
 
--- a sound day is one of a sound session
+-- a sound day has a sound session
 pub sound-session : (d : Day) → sound d ≡ true → sessionSound sizes (d .session) ≡ true
 unfolding soundBy
 sound-session d e = both (both e .0) .0

@@ -1,4 +1,4 @@
--- The half hour's lots are bounded where its count is.
+-- If the half hour's count of trades is bounded, so are its lots.
 use Prim.Native.Nat.{ℕ, _*_, _≤_}
 use native.Mathlib.Omega.{arith}
 use mathlib.Core.Path.{_≡_}

@@ -1,4 +1,4 @@
--- A sound session as facts: what the engine's sums and products rely on.
+-- What follows from a sound session: the bounds that the engine's sums and products rely on.
 use Prim.Native.Nat.{ℕ, _*_, _≤_, _<_}
 use native.Mathlib.Omega.{arith}
 use native.Mathlib.Nat.{min-eq-left}
@@ -77,7 +77,7 @@ minute-fits trades m h e =
     let count = leb-true (m .count) trades (a .0) in
     omega arith
 
--- each of ten passes, where ten are remembered
+-- where ten trades are remembered, each of the ten passes the test
 of-ten : (test : ℕ → Bool) (trades : ℕ) (a : List ℕ) → 10 ≤ trades → length a ≡ 10 → every test (take (kept trades) a) ≡ true → (k : ℕ) → k < 10 → test (getD a k 0) ≡ true
 of-ten test trades a t l e k h =
     let f : every test (take 10 a) ≡ true = rw (min-eq-left t) at e in
@@ -95,7 +95,7 @@ ten-fits tick t lp ls e h =
       small = λ k i. between-facts 1 (getD (t .sizes) k 0) lotsMost (lots k i) .1;
     }
 
--- A SOUND SESSION IS STEADY
+-- A SOUND SESSION IS STEADY: what the code computes from it stays within its bounds
 pub steady : (s : Session) → length (s .tape .prices) ≡ 10 → length (s .tape .sizes) ≡ 10 → sessionSound sizes s ≡ true → Steady s
 unfolding sessionSound tapeSound
 steady s lp ls e =

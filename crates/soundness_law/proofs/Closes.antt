@@ -1,5 +1,5 @@
--- The closing prices of a sound session are small: an average is no greater than the greatest price, but for the tick to which it is
--- rounded. The session's array holds ten prices, and a trade leaves it so.
+-- The closing prices of a sound session are small: an average exceeds the greatest price by at most the tick to which it is rounded.
+-- The session's array of prices has ten places, and still has them after a trade.
 use Prim.Native.Nat.{ℕ, zero, suc, _+_, _-_, _*_, _≤_}
 use native.Mathlib.Omega.{arith}
 use native.Mathlib.Nat.{zero-mul, div-zero, add-mul, mul-comm, mul-le-mul-right, le-of-mul-le-mul-right, min-eq-left}
@@ -27,7 +27,7 @@ closingMost = priceMost + tickMost
 
 -- ---- averages
 
--- lots at prices up to the greatest
+-- the value of a tally is at most its lots at the greatest price
 pub record Worth (t : Tally) : Type 0 where
   pub most : t .value ≤ priceMost * t .lots
 

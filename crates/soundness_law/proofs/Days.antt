@@ -1,4 +1,4 @@
--- A sound day taken apart and put together: the numbers of its session, the live counts, the book.
+-- A sound day taken apart and put together again: the numbers of its session, the live counts and the book.
 use Prim.Native.Nat.{ℕ, _+_, _-_, _*_, _≤_}
 use native.Mathlib.Omega.{arith}
 use native.Mathlib.Nat.{mul-le-mul}
@@ -39,7 +39,7 @@ use Rattle.soundness_law.specs.Sound.{every, clockSound, sessionSound, c
 use Rattle.soundness_law.proofs.Parts.{Parts, parts-of, parts-made}
 use Rattle.soundness_law.proofs.Kept.{Tradable, counted-kept}
 
--- ---- taken apart
+-- ---- a sound day taken apart
 
 abbrev pub BookOf : Session → List Order → List Order → Type 0
 BookOf s buys sells = bookSound (s .live .given) (s .settings .tick) (bandNow s) buys sells ≡ true
@@ -63,9 +63,9 @@ sound-day d h =
       book = whole .1;
     }
 
--- ---- put together: a session with a side's own orders and those across
+-- ---- and put together, from a session, a side's own orders and those across
 
--- the book of these orders, with the session's numbers given, tick and band
+-- the book of these orders is sound, by the session's numbers given, its tick and its band
 abbrev pub BookWith : Side → Session → List Order → List Order → Type 0
 BookWith side s own across = BookOf s (onSide side own across) (onSide (otherSide side) own across)
 
@@ -83,7 +83,7 @@ pub day-sound : (side : Side) (s : Session) (own across : List Order) → Parts 
 day-sound Buy s own across p b = counted-with s own across p b
 day-sound Sell s own across p b = counted-with s across own p b
 
--- ---- an order of a sound book can trade
+-- ---- an order of a sound book can be traded
 
 percent-small : (slab : Row) (widened : ℕ) → slab .initial + slab .enhanced ≤ percentMost → percentOf slab widened ≤ percentMost
 unfolding percentOf
@@ -96,7 +96,7 @@ low-some base tick p b t h =
     let product : 1 * 1 ≤ base * (100 - p) = mul-le-mul b less in
     omega (arith, low-is base tick p t .reaches)
 
--- what a session's band is computed from is within its bounds
+-- base, tick and percent of a session's band are within their bounds
 pub now-priced : (s : Session) → Valid (s .settings) → Priced (s .settings .base) (s .settings .tick) (percentNow s)
 now-priced s v =
     record {
@@ -158,20 +158,20 @@ opened-parts g h =
       remembered = record { priced = refl; sized = refl };
     }
 
--- AN OPENED SESSION IS SOUND, whatever settings 12 and 13 let pass
+-- AN OPENED SESSION IS SOUND, for any settings that 12 and 13 let pass
 pub opened-sound : (g : Settings) → settingsVerdict g ≡ Fine → sound (opened g) ≡ true
 unfolding openedSession
 opened-sound g h =
     day-sound Buy (openedSession g) [] [] (opened-parts g (fine-settings g h)) (empty-sound 0 (g .tick) (bandNow (openedSession g)))
 
--- and a sound day has settings that they let pass,
+-- a sound day has settings that they let pass,
 pub sound-settings : (d : Day) → sound d ≡ true → settingsVerdict (d .session .settings) ≡ Fine
 unfolding settingsVerdict settingsValid firstFailed
 sound-settings d h =
     let v = both (sound-day d h .parts .valid) in
     rw (v .0, v .1)
 
--- so it is no day of settings that one of them refuses
+-- so a day of settings that one of them refuses is not sound
 pub refused-unsound : (g : Settings) (r : Refusal) → settingsVerdict g ≡ Refused r → sound (opened g) ≡ false
 unfolding openedSession
 refused-unsound g r e =

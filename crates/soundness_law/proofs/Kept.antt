@@ -1,4 +1,4 @@
--- Clock steps, trades and the setting of a field keep the numbers of a session sound.
+-- The numbers of a session stay sound under clock steps, trades and the setting of a field.
 use Prim.Native.Nat.{ℕ, zero, suc, _+_, _-_, _*_, _/_, _%_, _≤_, _<_, min}
 use native.Mathlib.Omega.{arith}
 use native.Mathlib.Nat.{mul-le-mul-right, le-div-iff-mul-le, div-le-of-le-mul, mod-eq-of-lt, zero-mod}
@@ -29,14 +29,14 @@ use Rattle.state_law.specs.Trades.{withTrade, withTrades}
 use Rattle.soundness_law.specs.Sound.{every, priceSound}
 use Rattle.soundness_law.proofs.Parts.{Timed, Halved, Minuted, Parts}
 
--- ---- the reference and the minute over boundaries
+-- ---- the reference and the minute at boundaries
 
 record Reckoned (trades : ℕ) (r : Reckoning) : Type 0 where
   some : 1 ≤ r .reference
   small : r .reference ≤ referenceMost
   minuted : Minuted trades (r .minute)
 
--- an average of prices is a price
+-- an average of prices is within the bounds of a reference
 average-range : (n sum : ℕ) → (n ≡ 0 → ⊥) → n ≤ sum → sum ≤ priceMost * n → (1 ≤ sum / n) × (sum / n ≤ referenceMost)
 average-range n sum z a b =
     let p : 0 < n = omega arith in
@@ -59,7 +59,7 @@ module _ (trades under days : ℕ) (u : under ≤ priceMost) (d : days ≤ daysM
 
 -- ---- the clock steps
 
--- where a cooling-off runs, the band has not been widened
+-- while a cooling-off runs, the band has not been widened
 pub not-widened : (widened cooling : ℕ) → (eqb widened 0 || eqb cooling 0) ≡ true → eqb cooling 0 ≡ false → widened ≡ 0
 not-widened widened cooling h e =
     cases (eqb widened 0)
@@ -103,7 +103,7 @@ clock-kept s t h m u p =
 
 -- ---- a trade
 
--- a trade that can be: a positive tick price, and lots
+-- a possible trade: a positive tick price, and lots within their range
 pub record Tradable (tick : ℕ) (f : Order) : Type 0 where
   pub price-some : 1 ≤ f .price
   pub price-small : f .price ≤ priceMost
@@ -118,7 +118,7 @@ tick-below tick p h e =
     (λ l. let z : p % tick ≡ 0 = eqb-true (p % tick) 0 e in let y : p % tick ≡ p = mod-eq-of-lt (ltb-true p tick l) in absurd (omega arith))
     (λ l. ltb-false p tick l)
 
--- a test that the remembered numbers pass, and the newest passes
+-- the remembered numbers still pass a test after a new one that passes it
 module _ (test : ℕ → Bool) where
   every-set : (n x : ℕ) (xs : List ℕ) → test x ≡ true → every test (take n xs) ≡ true → every test (take (suc n) (set xs n x)) ≡ true
   unfolding every
@@ -163,7 +163,7 @@ unfolding tallied
 half-late tick trades p l true h a b c d k = omega (arith, mul-le-mul-right l a, mul-le-mul-right l b)
 half-late tick trades p l false h a b c d k = omega arith
 
--- a cooling-off that starts here ends its length from here, in the initial slab
+-- a trade leaves the times sound: a cooling-off that it starts is in the initial slab and ends 900,000 ms later
 timed-trade : (length time : ℕ) (closed : Bool) (widened cooling : ℕ) (b : Band) (price : ℕ) → Timed length time closed widened cooling →
     Timed length time closed widened (coolingAfter widened cooling time b price)
 unfolding coolingAfter
@@ -261,7 +261,7 @@ closed-kept s t h m p =
       remembered = p .remembered;
     }
 
--- the live counts are not among the parts
+-- the live counts are no part of `Parts`, so setting them changes nothing there
 pub counted-kept : (s : Session) (a b : ℕ) → Parts s → Parts (setSells (setBuys s a) b)
 counted-kept s a b p =
     record { valid = p .valid; timed = p .timed; numbered = p .numbered; halved = p .halved; minuted = p .minuted; remembered = p .remembered }

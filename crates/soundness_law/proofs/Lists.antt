@@ -1,4 +1,4 @@
--- A test of the numbers of an array, as loops make it: of the first n, left where one fails; of all, with no way out.
+-- Two ways in which loops test the numbers of an array: the first n, ending where one fails; or all ten, without leaving the loop.
 use Prim.Native.Nat.{ℕ, zero, suc, _+_, _≤_, _<_}
 use native.Mathlib.Omega.{arith}
 use native.Mathlib.Numerals.{add-one}
@@ -15,7 +15,7 @@ use Rattle.rules_law.specs.declared.Tape.{Tape}
 use Rattle.rules_law.specs.Close.{kept}
 use Rattle.soundness_law.specs.Sound.{every, priceSound, rememberedSound}
 
--- the next of the first n
+-- the next of the first n numbers
 next : (a : List ℕ) (n i : ℕ) → i < n → n ≤ length a → drop i (take n a) ≡ getD a i 0 ∷ drop (i + 1) (take n a)
 next a n i h k =
     let l : i < length (take n a) = simp length-take (omega arith) in
@@ -36,14 +36,14 @@ module _ (test : ℕ → Bool) (a : List ℕ) (n i : ℕ) (e : every test (take 
   unfolding every _⊓_
   one-passes found f t h k = e ∙ rw (next a n i h k, sym f ∙ not-false found t)
 
--- what passes all passes at each place
+-- if all numbers pass a test, each of them does
 pub at-place : (test : ℕ → Bool) (xs : List ℕ) → every test xs ≡ true → (k : ℕ) → k < length xs → test (getD xs k 0) ≡ true
 unfolding every
 at-place test [] e k h = absurd (omega arith)
 at-place test (x ∷ xs) e zero h = both e .0
 at-place test (x ∷ xs) e (suc k) h = at-place test xs (both e .1) k (omega arith)
 
--- ---- all, with no way out
+-- ---- all numbers, without leaving the loop
 
 and-true : (b : Bool) → (b ⊓ true) ≡ b
 unfolding _⊓_
@@ -64,7 +64,7 @@ module _ (test : ℕ → Bool) (a : List ℕ) (i : ℕ) (all : Bool) (e : all �
   pub all-tested : length a ≤ i → all ≡ every test a
   all-tested h = e ∙ rw (take-all i a h)
 
--- two tests of each are one test and then the other
+-- testing each number for both is testing all for the one and all for the other
 pub both-tests : (f g : ℕ → Bool) (a : List ℕ) → every (λ x. f x ⊓ g x) a ≡ (every f a ⊓ every g a)
 unfolding every _⊓_
 both-tests f g [] = refl
@@ -80,7 +80,7 @@ both-tests f g (x ∷ xs) = rw (both-tests f g xs) (swap (f x) (g x) (every f xs
 pub prices-decide : (tick : ℕ) (prices : List ℕ) (rest r : Bool) → r ≡ (every isPrice prices ⊓ every (onTick tick) prices ⊓ rest) → r ≡ (every (priceSound tick) prices ⊓ rest)
 prices-decide tick prices rest r e = rw (both-tests isPrice (onTick tick) prices) e
 
--- ---- a tape that is full
+-- ---- a tape with ten trades
 
 pub full-tape : (tick : ℕ) (t : Tape) (n : ℕ) (r : Bool) → length (t .prices) ≡ 10 → length (t .sizes) ≡ 10 → n ≡ kept (t .trades) → n ≡ 10 →
     r ≡ (every (priceSound tick) (t .prices) ⊓ every isLots (t .sizes)) → r ≡ rememberedSound tick t

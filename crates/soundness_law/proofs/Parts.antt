@@ -1,5 +1,5 @@
--- The numbers of a sound session as facts, taken from the tests and made into them again. Each part speaks of the plain values that it
--- is about, so that a change of other fields leaves it as it is.
+-- The numbers of a sound session as facts: the tests give the facts, and the facts give the tests. Each part speaks of the plain values
+-- that it is about, so that setting other fields leaves it as it is.
 use Prim.Native.Nat.{ℕ, _+_, _*_, _≤_}
 use mathlib.Core.Path.{_≡_}
 use mathlib.Core.Bool.{Bool, true, _||_}
@@ -51,7 +51,7 @@ pub record Remembered (tick trades : ℕ) (prices sizes : List ℕ) : Type 0 whe
   pub priced : every (priceSound tick) (take (kept trades) prices) ≡ true
   pub sized : every isLots (take (kept trades) sizes) ≡ true
 
--- all of them: the numbers of a session, but for its live counts
+-- all parts: the numbers of a session except its live counts
 pub record Parts (s : Session) : Type 0 where
   pub valid : settingsValid (s .settings) ≡ true
   pub timed : Timed (s .settings .length) (s .clock .time) (s .clock .closed) (s .clock .widened) (s .clock .cooling)
@@ -60,7 +60,7 @@ pub record Parts (s : Session) : Type 0 where
   pub minuted : Minuted (s .tape .trades) (s .reckoning .minute)
   pub remembered : Remembered (s .settings .tick) (s .tape .trades) (s .tape .prices) (s .tape .sizes)
 
--- ---- from the tests
+-- ---- the tests give the parts
 
 clock-timed : (s : Session) → timeSound s ≡ true → slabSound s ≡ true → Timed (s .settings .length) (s .clock .time) (s .clock .closed) (s .clock .widened) (s .clock .cooling)
 unfolding timeSound slabSound
@@ -133,7 +133,7 @@ parts-of s h =
       remembered = record { priced = remembered .0; sized = remembered .1 };
     }
 
--- ---- and into them
+-- ---- the parts give the tests
 
 clock-made : (s : Session) → Parts s → s .live .buys ≤ slots → s .live .sells ≤ slots → clockSound sizes s ≡ true
 unfolding clockSound timeSound countsSound slabSound numbersSound

@@ -1,4 +1,4 @@
--- Document 01, "A session is sound when". A part of the paragraph a definition.
+-- Document 01, "A session is sound when": one definition for each part of that paragraph.
 use Prim.Native.Nat.{ℕ, _+_, _*_}
 use mathlib.Core.Bool.{Bool, true, _||_}
 use mathlib.Core.List.{List, [], _∷_}
@@ -40,7 +40,7 @@ numbersSound z s =
     ⊓ leb (s .live .given) (z .numbers)
     ⊓ leb (s .tape .trades) (z .trades)
 
--- each passes a test
+-- each number passes the test
 unfoldable pub every : (ℕ → Bool) → List ℕ → Bool
 every test [] = true
 every test (x ∷ xs) = test x ⊓ every test xs
@@ -66,37 +66,37 @@ halfSound tick most trades h =
 unfoldable pub minuteSound : ℕ → Minute → Bool
 minuteSound trades m = leb (m .count) trades ⊓ between (m .count) (m .sum) (priceMost * m .count)
 
--- the numbers of a session that are no trades
+-- the numbers of a session apart from what it remembers of trades
 unfoldable pub clockSound : Sizes → Session → Bool
 clockSound z s = settingsValid (s .settings) ⊓ timeSound s ⊓ countsSound z s ⊓ slabSound s ⊓ numbersSound z s
 
--- what it remembers of trades
+-- what a session remembers of trades
 unfoldable pub tapeSound : Session → Bool
 tapeSound s =
     halfSound (s .settings .tick) priceMost (s .tape .trades) (s .tape .half)
     ⊓ minuteSound (s .tape .trades) (s .reckoning .minute)
     ⊓ rememberedSound (s .settings .tick) (s .tape)
 
--- the numbers of a session, but for its live orders
+-- all numbers of a session, without its live orders
 unfoldable pub sessionSound : Sizes → Session → Bool
 sessionSound z s = clockSound z s ⊓ tapeSound s
 
--- the live counts are those of the orders
+-- the live counts are the numbers of orders
 unfoldable pub counted : Day → Bool
 counted d = eqb (d .session .live .buys) (length (d .buys)) ⊓ eqb (d .session .live .sells) (length (d .sells))
 
--- A SESSION IS SOUND, with its orders, by some sizes
+-- A SESSION IS SOUND, with its orders, by the given sizes
 unfoldable pub soundBy : Sizes → Day → Bool
 soundBy z d =
     sessionSound z (d .session)
     ⊓ counted d
     ⊓ bookSound (d .session .live .given) (d .session .settings .tick) (bandNow (d .session)) (d .buys) (d .sells)
 
--- and by those of the paper
+-- the same by the sizes of the paper
 abbrev pub sound : Day → Bool
 sound d = soundBy sizes d
 
--- ---- the day that a session and two tables hold: as many orders of each table as the session has live
+-- ---- the day that a session and two tables hold: as many orders from each table as the session's live counts say
 
 abbrev pub dayIn : Session → List ℕ → List ℕ → Day
 dayIn s buys sells = record { session = s; buys = decode (s .live .buys) buys; sells = decode (s .live .sells) sells }

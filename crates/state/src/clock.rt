@@ -1,4 +1,4 @@
-// The clock steps that an event makes before it acts: the slab, then the reference. Time is the event's.
+// The clock steps that an event makes before it acts: first the slab, then the reference. The time is the event's.
 use rules::reference;
 use rules::slabs;
 use state_law::Session;
@@ -29,7 +29,7 @@ fn cooling_by(cooling: u64, t: u64) -> u64
     cooling
 }
 
-// The session at the time of an event that is not before it.
+// The session at the time of an event; that time must not be before the session's.
 pub fn step(s: Session, t: u64) -> Session
     requires { ⌜ Clocked s × (s .clock .time ≤ t) ⌝ }
     ensures { λ r. ⌜ r ≡ clockStep s t ⌝ }

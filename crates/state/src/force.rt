@@ -11,7 +11,7 @@ ghost use Rattle.rules_law.specs.Slabs.{slabOf, percentMost, bandMost};
 ghost use Rattle.rules_law.specs.Reference.{rangeEnds};
 ghost use Rattle.state_law.specs.Now.{Clocked, percentNow, bandNow, rangeNow};
 
-// The percents of the session's category.
+// The two percents of the session's category.
 fn slab_in(s: Session) -> Row
     ensures { λ r. ⌜ (r ≡ slabOf (s .settings .category)) × (r .initial + r .enhanced ≤ percentMost) ⌝ }
 {
@@ -38,7 +38,7 @@ pub fn percent_now(s: Session) -> u64
     slabs::percent_of(slab, s.clock.widened)
 }
 
-// The range that trades must be in.
+// The range in which trades must be.
 pub fn range_now(s: Session) -> Range
     ensures { λ r. ⌜ r ≡ rangeNow s ⌝ }
 {

@@ -1,4 +1,4 @@
-// A trade in the session: what it adds to the cooling-off, the minute and the tape.
+// A trade in the session: what it changes in the cooling-off, the minute and the tape.
 use rules::close;
 use rules::reference;
 use rules::slabs;
@@ -11,7 +11,7 @@ ghost use Rattle.terms.specs.Sizes.{priceMost, lotsMost};
 ghost use Rattle.state_law.specs.Now.{bandNow};
 ghost use Rattle.state_law.specs.Trades.{withTrade, TradesFit};
 
-// The session after a trade of some lots at a price; band is the band in force.
+// The session after a trade of some lots at a price; `band` is the band in force.
 pub fn with_trade(s: Session, band: Band, price: u64, lots: u64) -> Session
     requires { ⌜ TradesFit s 1 × (band ≡ bandNow s) × (price ≤ priceMost) × (lots ≤ lotsMost) ⌝ }
     ensures { λ r. ⌜ r ≡ withTrade s price lots ⌝ }

@@ -1,4 +1,4 @@
--- What a day begins with: the promises of a run start from it; and what a refused opening leaves.
+-- What a day begins with, from which the promises of a run start; and what a refused opening returns.
 use Prim.Native.Nat.{ℕ}
 use mathlib.Core.Path.{_≡_, refl}
 use mathlib.Core.Bool.{false}
@@ -19,9 +19,9 @@ use Rattle.state_law.specs.Now.{bandNow}
 use Rattle.state_law.specs.Opening.{openedSession, fixedSession, openedBy, openingOf}
 
 pub record Begun (s : Session) : Type 0 where
-  -- so the first order has number 1
+  -- no number has been given, so the first order gets number 1
   pub none-given : s .live .given ≡ 0
-  -- so no band is widened before a trade begins a cooling-off
+  -- no cooling-off runs, so no band is widened before a trade starts one
   pub not-cooling : s .clock .cooling ≡ 0
   -- "It starts at the initial percent."
   pub initial : bandNow s ≡ bandAt (s .settings .base) (s .settings .tick) (slabOf (s .settings .category) .initial)

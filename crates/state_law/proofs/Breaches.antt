@@ -1,5 +1,5 @@
 -- 001, paragraphs 6.3 and 7.2: "Once the initial slab limit is breached in any contract, then, after a cooling-off period of 15 minutes, this
--- limit shall be increased further by enhanced slab". A session that trades at an end of its band, and the clock steps after it.
+-- limit shall be increased further by enhanced slab". What follows where a session trades at an end of its band and the clock then steps on.
 use Prim.Native.Nat.{ℕ, _+_, _*_, _≤_, _<_}
 use native.Mathlib.Omega.{arith}
 use mathlib.Core.Path.{_≡_}
@@ -19,18 +19,18 @@ fifteenMinutes = 15 * 60 * 1000
 -- ---- the clock steps of a session in the initial slab
 
 module _ (s : Session) (t : ℕ) (initial : s .clock .widened ≡ 0) where
-  -- where a cooling-off is over, "the percent becomes initial plus enhanced", and none runs any more
+  -- once a cooling-off is over, "the percent becomes initial plus enhanced", and no cooling-off runs any more
   pub over-widens : overBy (s .clock .cooling) t ≡ true →
       (percentNow (clockStep s t) ≡ slabOf (s .settings .category) .initial + slabOf (s .settings .category) .enhanced) × (clockStep s t .clock .cooling ≡ 0)
   unfolding clockStep widenedBy coolingBy percentOf
   over-widens e = (rw (e, initial), rw e)
 
-  -- else it stays
+  -- otherwise the percent stays the initial one
   pub not-over-stays : overBy (s .clock .cooling) t ≡ false → percentNow (clockStep s t) ≡ slabOf (s .settings .category) .initial
   unfolding clockStep widenedBy percentOf
   not-over-stays e = rw (e, initial)
 
--- ---- a breach: in the initial slab, with no cooling-off running, a trade of any lots at either end of the band
+-- ---- a breach: a trade of any lots at either end of the band, in the initial slab with no cooling-off running
 
 module _ (s : Session) (price lots : ℕ) (initial : s .clock .widened ≡ 0) (none : s .clock .cooling ≡ 0) (breach : touches (bandNow s) price ≡ true) where
   -- it starts a cooling-off of fifteen minutes,
@@ -40,7 +40,7 @@ module _ (s : Session) (price lots : ℕ) (initial : s .clock .widened ≡ 0) (n
       starts (s .clock .widened) (s .clock .cooling) (s .clock .time) (bandNow s) price
       (join _ _ (eq-eqb (s .clock .widened) 0 initial) (join _ _ (eq-eqb (s .clock .cooling) 0 none) breach))
 
-  -- at whose end, or at the first event after it, the band is widened,
+  -- the band is widened at its end, or at the first event after it,
   pub breach-widens : (t : ℕ) → s .clock .time + fifteenMinutes ≤ t →
       percentNow (clockStep (withTrade s price lots) t) ≡ slabOf (s .settings .category) .initial + slabOf (s .settings .category) .enhanced
   unfolding withTrade

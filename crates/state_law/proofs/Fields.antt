@@ -1,5 +1,5 @@
--- A session with one field changed: that field, and no other. A day: its live counts, a side's own orders and those across. What is in force:
--- the range.
+-- Setting one field of a session changes that field and no other. The live counts of a day, and its orders by side. The range that is in
+-- force.
 use mathlib.Core.Path.{_≡_, refl}
 use mathlib.Core.List.{List}
 use lib.ListN.{length}
@@ -14,7 +14,7 @@ use Rattle.state_law.specs.Day.{Day, dayOf, own, across, dayWith}
 
 -- ---- fields
 
--- what is set is there, and to set what is there changes nothing
+-- reading the field after setting it gives what was set, and setting it to what it holds changes nothing
 pub record SetsOne {A : Type 0} (get : Session → A) (change : Session → A → Session) : Type 0 where
   pub there : (s : Session) (v : A) → get (change s v) ≡ v
   pub else-same : (s : Session) → change s (get s) ≡ s
@@ -39,22 +39,22 @@ sets-given = record { there = λ s v. refl; else-same = λ s. refl }
 
 -- ---- days
 
--- the live counts are those of the orders
+-- the live counts are the numbers of orders
 pub live-counts : (s : Session) (buys sells : List Order) →
     (dayOf s buys sells .session .live .buys ≡ length buys) × (dayOf s buys sells .session .live .sells ≡ length sells)
 live-counts s buys sells = (refl, refl)
 
--- the buys are a buy's own, the sells are across from it; and the other way round
+-- the buys are a buy's own orders and the sells are across from it; for a sell it is the other way round
 pub sides : (d : Day) → (own Buy d ≡ d .buys) × (across Buy d ≡ d .sells) × (own Sell d ≡ d .sells) × (across Sell d ≡ d .buys)
 sides d = (refl, refl, refl, refl)
 
--- a day made of a side's own orders and those across has them there
+-- a day made of a side's own orders and those across gives them back
 pub sides-back : (side : Side) (s : Session) (mine theirs : List Order) →
     (own side (dayWith side s mine theirs) ≡ mine) × (across side (dayWith side s mine theirs) ≡ theirs)
 sides-back Buy s mine theirs = (refl, refl)
 sides-back Sell s mine theirs = (refl, refl)
 
--- ---- the range in force: by the initial percent and the reference, whatever the band
+-- ---- the range in force goes by the initial percent and the reference, whatever the band is
 
 pub range-in-force : (s : Session) →
     (rangeNow s .percent ≡ slabOf (s .settings .category) .initial) × (rangeNow s .reference ≡ s .reckoning .reference)

@@ -1,4 +1,4 @@
--- A trade leaves room for one trade less, and the band as it was. The range of a session within bounds is within its own.
+-- After a trade there is room for one trade less, and the band is as it was. A session within bounds has a range within bounds.
 use Prim.Native.Nat.{ℕ, _+_, _*_, _≤_}
 use native.Mathlib.Omega.{arith}
 use native.Mathlib.Nat.{mul-le-mul-right}
@@ -33,7 +33,7 @@ pub band-kept : (s : Session) (price lots : ℕ) → bandNow (withTrade s price 
 unfolding withTrade
 band-kept s price lots = refl
 
--- the tick of such a session is at least 1, so that code may divide by it
+-- the tick of such a session is at least 1, so that the code may divide by it
 pub tick-some : (s : Session) → Clocked s → 1 ≤ s .settings .tick
 tick-some s c = c .valid .in-range .tick-some
 

@@ -1,4 +1,4 @@
--- What the clock steps and trades leave as it was.
+-- What the clock steps leave as it was, and what trades leave as it was.
 use Prim.Native.Nat.{ℕ, _+_}
 use borrow.Author.Tests.{eq-eqb, not-true}
 use mathlib.Core.Path.{_≡_, refl}
@@ -13,7 +13,7 @@ use Rattle.state_law.specs.Now.{percentNow}
 use Rattle.state_law.specs.Clock.{widenedBy, clockStep}
 use Rattle.state_law.specs.Trades.{withTrade, withTrades}
 
--- ---- the clock steps: they move the time, the slab and the reference, and leave all else
+-- ---- the clock steps change the time, the slab and the reference, and nothing else
 
 pub record Stepped (s : Session) (t : ℕ) (s′ : Session) : Type 0 where
   pub time : s′ .clock .time ≡ t
@@ -43,7 +43,7 @@ percent-changes s t h =
     (λ e. let z : not (eqb p p) ≡ true = rw (widened-same (s .clock .widened) (s .clock .cooling) t e) at h in
     no-both (eqb p p) (eq-eqb p p refl) (not-true _ z))
 
--- ---- trades: all but the cooling-off, the minute and the tape
+-- ---- trades leave the settings, the time, the slab, the reference and the numbers given
 
 pub record Untouched (s s′ : Session) : Type 0 where
   pub settings : s′ .settings ≡ s .settings

@@ -1,4 +1,4 @@
--- The clock steps: two are one, and none of them narrows the band.
+-- Clock steps: two of them in a row are one, and none narrows the band.
 use Prim.Native.Nat.{ℕ, _+_, _≤_}
 use native.Mathlib.Omega.{arith}
 use mathlib.Core.Path.{_≡_}
@@ -34,7 +34,7 @@ cooling-twice c t u h =
     (λ e. rw (e, over-stays c t u h e))
     (λ e. rw e)
 
--- a session by the four things that a clock step sets
+-- a session with the four things that a clock step sets
 abbrev ticked : Session → ℕ → ℕ → ℕ → Reckoning → Session
 ticked s t widened cooling reckoning =
     record {
@@ -45,7 +45,7 @@ ticked s t widened cooling reckoning =
       tape = s .tape;
     }
 
--- TWO STEPS OF TIME ARE ONE
+-- TWO STEPS OF TIME ARE ONE: to go to t and then to u is to go to u
 pub clock-twice : (s : Session) (t u : ℕ) → s .clock .time ≤ t → t ≤ u → clockStep (clockStep s t) u ≡ clockStep s u
 unfolding clockStep
 clock-twice s t u h k =

@@ -1,4 +1,4 @@
--- The clock steps: the slab, then the reference.
+-- The steps of the clock: first the slab, then the reference.
 use Prim.Native.Nat.{ℕ, _+_}
 use mathlib.Core.Bool.{cond}
 use Rattle.rules_law.specs.Slabs.{overBy}
@@ -10,7 +10,7 @@ use Rattle.state_law.specs.declared.Session.{Session}
 unfoldable pub widenedBy : ℕ → ℕ → ℕ → ℕ
 widenedBy widened cooling t = cond (overBy cooling t) (widened + 1) widened
 
--- and no cooling-off runs any more
+-- the cooling-off that is over runs no more
 unfoldable pub coolingBy : ℕ → ℕ → ℕ
 coolingBy cooling t = cond (overBy cooling t) 0 cooling
 
@@ -25,7 +25,7 @@ clockAt c t =
       under = c .under;
     }
 
--- the session at time t: the slab, then "every boundary up to and including its time"
+-- the session at time t: first the slab steps, then "every boundary up to and including its time"
 unfoldable pub clockStep : Session → ℕ → Session
 clockStep s t =
     record {

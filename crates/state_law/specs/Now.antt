@@ -24,7 +24,7 @@ bandNow s = bandAt (baseNow s) (s .settings .tick) (percentNow s)
 abbrev pub rangeNow : Session → Range
 rangeNow s = rangeOf (slabOf (s .settings .category)) (s .reckoning .reference)
 
--- what code relies on in the numbers of a session: every sum and product that it makes stays within a word
+-- the bounds that the code relies on, so that no sum or product of a session's numbers overflows
 pub record Clocked (s : Session) : Type 0 where
   pub valid : Valid (s .settings)
   pub time-small : s .clock .time ≤ timeMost
@@ -38,7 +38,7 @@ pub record Clocked (s : Session) : Type 0 where
   pub given-small : s .live .given ≤ numbersMost
   pub trades-small : s .tape .trades ≤ tradesMost
 
--- and in what it remembers of trades
+-- the same, with the bounds of what the session remembers of trades
 pub record Steady (s : Session) : Type 0 where
   pub clocked : Clocked s
   pub minute-fits : MinuteFits (s .reckoning .minute)

@@ -1,4 +1,4 @@
--- The opening of a session, and the session of a refused one.
+-- The opening of a session, and the session that a refused opening returns.
 use mathlib.Core.Bool.{false}
 use Rattle.terms.specs.declared.Settings.{Settings}
 use Rattle.terms.specs.declared.Category.the-variants.{Broad}

@@ -1,4 +1,4 @@
--- A trade in the session: cooling-off, minute, tape.
+-- What a trade changes in the session: the cooling-off, the minute and the tape.
 use Prim.Native.Nat.{ℕ, _+_, _≤_}
 use mathlib.Core.List.{List, [], _∷_}
 use Rattle.terms.specs.declared.Order.{Order}
@@ -20,12 +20,12 @@ withTrade s price lots =
       tape = tapeAfter (s .tape) (inHalfHour (s .settings .length) (s .clock .time)) price lots;
     }
 
--- one fill after the other
+-- the session after all of these fills
 unfoldable pub withTrades : Session → List Order → Session
 withTrades s [] = s
 withTrades s (f ∷ fs) = withTrades (withTrade s (f .price) (f .lots)) fs
 
--- so many more trades fit into a session
+-- a session can take so many more trades without an overflow
 pub record TradesFit (s : Session) (more : ℕ) : Type 0 where
   pub long : lengthLeast ≤ s .settings .length
   pub time-small : s .clock .time ≤ timeMost

@@ -1,4 +1,4 @@
--- Loops that write a run number by number: how they begin, a turn, and their end.
+-- Loops that write a run number by number: what holds before the first turn, after each turn, and at the end.
 use Prim.Native.Nat.{ℕ, zero, suc, _+_, _-_, _≤_, _<_}
 use native.Mathlib.Omega.{arith}
 use native.Mathlib.Nat.{add-suc, add-zero, not-suc-le-zero, le-refl}
@@ -10,7 +10,7 @@ use lib.Seq.{take-suc, drop-cons, length-take-le, getD-take, getD-drop, take-tak
 use Rattle.tables.specs.Put.{put}
 use Rattle.tables.proofs.Puts.{put-none, put-cons, put-snoc, getD-put-above, getD-put-below}
 
--- ---- the numbers s written at `at`, from the front and from the end
+-- ---- the numbers s written at `at`, from the front on and from the back on
 
 module _ (t : List ℕ) (at : ℕ) (s : List ℕ) (j : ℕ) (h : at + j < length t) (g : j < length s) where
   one-more : set (put t at (take j s)) (at + j) (getD s j 0) ≡ put t at (take (j + 1) s)
@@ -21,7 +21,7 @@ module _ (t : List ℕ) (at : ℕ) (s : List ℕ) (j : ℕ) (h : at + j < length
   one-less : set (put t (at + suc j) (drop (suc j) s)) (at + j) (getD s j 0) ≡ put t (at + j) (drop j s)
   one-less = rw (add-suc, drop-cons s j 0 g) (put-cons t (at + j) (getD s j 0) (drop (suc j) s) h)
 
--- ---- the part that a shift moves
+-- ---- the numbers that a shift moves
 
 length-part : (t : List ℕ) (from count : ℕ) → from + count ≤ length t → length (take count (drop from t)) ≡ count
 length-part t from count h = simp (length-take, length-drop) (omega arith)
@@ -29,7 +29,7 @@ length-part t from count h = simp (length-take, length-drop) (omega arith)
 getD-part : (t : List ℕ) (from count j : ℕ) → j < count → getD (take count (drop from t)) j 0 ≡ getD t (from + j) 0
 getD-part t from count j h = getD-take count (drop from t) j 0 h ∙ getD-drop from t j 0
 
--- ---- shift_down: the first j numbers of the part are written
+-- ---- shift_down: after j turns the first j of the numbers are written
 
 pub written-none : (t : List ℕ) (at : ℕ) → t ≡ put t at []
 written-none t at = sym (put-none t at)
@@ -49,7 +49,7 @@ down-all t₀ t at s count j e h g =
     let d : j ≡ count = omega arith in
     rw (take-take count count s (le-refl count)) at (rw d at e)
 
--- ---- shift_up: all but the first j numbers of the part are written
+-- ---- shift_up: all of the numbers but the first j are written
 
 pub up-none : (t : List ℕ) (at count : ℕ) (s : List ℕ) → t ≡ put t at (drop count (take count s))
 up-none t at count s = sym (rw slice-empty (put-none t at))
@@ -70,7 +70,7 @@ up-all t₀ t at s j e h =
     let d : j ≡ 0 = omega arith in
     rw add-zero at (rw d at e)
 
--- ---- clear: the first j zeros are written
+-- ---- clear: after j turns the first j zeros are written
 
 pub clear-turn : (t₀ t : List ℕ) (at count j : ℕ) → at + count ≤ length t₀ → j < count
     → t ≡ put t₀ at (take j (replicate count 0))

@@ -1,4 +1,4 @@
--- The paper's lengths of lent numbers: a table of 256 orders of three numbers a side, a room of 520 reports of six.
+-- The lengths of lent numbers are the paper's: a side's table has 256 orders of three numbers, and the room 520 reports of six.
 use Prim.Native.Nat.{_*_}
 use mathlib.Core.Path.{_≡_, refl}
 use mathlib.Core.List.{[], _∷_}

@@ -1,4 +1,4 @@
--- The laws of `put`, a run of numbers written over a part of a list.
+-- The laws of `put`, which writes a run of numbers over a part of a list.
 use Prim.Native.Nat.{ℕ, zero, suc, _+_, _≤_, _<_}
 use native.Mathlib.Omega.{arith}
 use native.Mathlib.Nat.{zero-add, suc-add, not-suc-le-zero, le-of-suc-le-suc}
@@ -16,17 +16,17 @@ pub length-put : (t : List ℕ) (at : ℕ) (vs : List ℕ) → at + length vs �
 unfolding put
 length-put t at vs h = simp (length-append, length-take, length-drop) (omega arith)
 
--- a run in a list that is cut at the run's ends
+-- a run written over the middle one of three parts
 pub put-at : (p m s vs : List ℕ) (at : ℕ) → length p ≡ at → length m ≡ length vs → put (p ++ (m ++ s)) at vs ≡ p ++ (vs ++ s)
 unfolding put
 put-at p m s vs at e f = rw (take-at p (m ++ s) at e, drop-at p (m ++ s) at e, drop-at m s (length vs) f)
 
--- a run of stores
+-- storing numbers one by one is writing a run
 pub sets-put : (vs t : List ℕ) (at : ℕ) → at + length vs ≤ length t → sets t at vs ≡ put t at vs
 unfolding put
 sets-put vs t at h = rw (sets-eq vs t at h, append-assoc, drop-drop)
 
--- ---- one store more, before a run and behind it
+-- ---- one more number stored, in front of a run and behind it
 
 pub put-cons : (t : List ℕ) (at a : ℕ) (vs : List ℕ) → at < length t → set (put t (suc at) vs) at a ≡ put t at (a ∷ vs)
 unfolding put
@@ -46,7 +46,7 @@ put-snoc [] at a vs h = absurd (not-suc-le-zero h)
 put-snoc (x ∷ t) zero a vs h = rw zero-add (snoc-front (x ∷ t) a vs (omega arith))
 put-snoc (x ∷ t) (suc at) a vs h = rw suc-add (ap (λ (l : List ℕ). x ∷ l) (put-snoc t at a vs (omega arith)))
 
--- ---- what is read past a run and before it is as it was
+-- ---- a number past a run, or before it, reads as it did
 
 above-front : (t vs : List ℕ) (k : ℕ) → length vs ≤ k → k < length t → getD (put t 0 vs) k 0 ≡ getD t k 0
 unfolding put

@@ -1,4 +1,4 @@
--- How long records are.
+-- A record has six numbers, and so many records have six times as many.
 use Prim.Native.Nat.{_*_}
 use native.Mathlib.Omega.{arith}
 use mathlib.Core.Path.{_≡_, refl}

@@ -1,4 +1,4 @@
--- Orders as numbers and back.
+-- Orders written as numbers and read back.
 use Prim.Native.Nat.{ℕ, zero, suc, _+_, _*_, _≤_, _<_}
 use native.Mathlib.Omega.{arith}
 use native.Mathlib.Nat.{not-suc-le-zero, le-of-suc-le-suc}
@@ -46,7 +46,7 @@ encode-decode (suc n) t h =
     let e : width * suc n ≡ width + width * n = omega arith in
     rw (e, take-add width (width * n) t, ← slot-read t (omega arith), encode-decode n (drop width t) (simp length-drop (omega arith)))
 
--- ---- the orders from slot i on, as a loop over a table meets them
+-- ---- the orders from slot i on, as a loop over a table comes to them
 
 next-slot : (t : List ℕ) (i : ℕ) → orderAt (drop width t) i ≡ orderAt t (suc i)
 next-slot t i =
@@ -61,13 +61,13 @@ getD-decode zero t i d h = absurd (not-suc-le-zero h)
 getD-decode (suc n) t zero d h = refl
 getD-decode (suc n) t (suc i) d h = getD-decode n (drop width t) i d (le-of-suc-le-suc h) ∙ next-slot t i
 
--- they begin with the order o that was read in slot i
+-- the first of them is the order o that was read in slot i
 pub decode-read : (n : ℕ) (t : List ℕ) (i : ℕ) (o : Order) → i < n → o ≡ orderAt t i → drop i (decode n t) ≡ o ∷ drop (i + 1) (decode n t)
 decode-read n t i o h e =
     let l : length (decode n t) ≡ n = length-decode n t in
     rw (e, add-one i, drop-cons (decode n t) i (orderAt t i) (omega arith), getD-decode n t i (orderAt t i) h)
 
--- there are none from slot n on
+-- from slot n on there are none
 pub decode-end : (n : ℕ) (t : List ℕ) (i : ℕ) → n ≤ i → drop i (decode n t) ≡ []
 unfolding decode
 decode-end zero t zero h = refl

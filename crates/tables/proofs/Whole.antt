@@ -1,4 +1,4 @@
--- A side's whole table: what `tableOf` keeps, and orders taken out, put in and changed.
+-- A side's whole table: what `tableOf` leaves as it was, and how orders are taken out, put in and changed.
 use Prim.Native.Nat.{ℕ, _+_, _-_, _*_, _≤_, _<_}
 use native.Mathlib.Omega.{arith}
 use native.Mathlib.Nat.{add-zero}
@@ -15,11 +15,11 @@ use Rattle.tables.specs.Tables.{numbersOf, decode, encode, tableOf, Hold
 use Rattle.tables.proofs.Puts.{put-at, put-put, put-put-before}
 use Rattle.tables.proofs.Slots.{length-encode, encode-append, length-decode, decode-encode, encode-decode}
 
--- the zeros behind k orders, and what lies past the table
+-- what lies behind k orders: zeros up to the table's end, and the old numbers past it
 spare : ℕ → List ℕ → List ℕ
 spare k t = replicate (tableLength - width * k) 0 ++ drop tableLength t
 
--- ---- what tableOf keeps
+-- ---- what tableOf leaves as it was
 
 pub length-tableOf : (os : List Order) (t : List ℕ) → length os ≤ slots → tableLength ≤ length t → length (tableOf os t) ≡ length t
 unfolding tableOf
@@ -31,7 +31,7 @@ decode-tableOf : (os : List Order) (t : List ℕ) → decode (length os) (tableO
 unfolding tableOf spare
 decode-tableOf os t = decode-encode os (spare (length os) t)
 
--- nothing but what lies past the table's length is kept of the old one
+-- of the old numbers only those past the table's end are left
 pub tableOf-tableOf : (xs os : List Order) (t : List ℕ) → length os ≤ slots → tableOf xs (tableOf os t) ≡ tableOf xs t
 unfolding tableOf
 tableOf-tableOf xs os t h =
@@ -60,7 +60,7 @@ after n os t u e l h g = rw (e, ← l) (record {
   same-length = length-tableOf os t (omega arith) g;
 })
 
--- ---- the flat moves: c over b, with z behind it; and vs before c, over g
+-- ---- the same on plain lists: c moves over b, with z behind it; and c makes way for vs, over g
 
 cut-flat : (a b c z r : List ℕ) (at : ℕ) → length a ≡ at → length z ≡ length b → put (put (a ++ ((b ++ c) ++ r)) at c) (at + length c) z ≡ a ++ ((c ++ z) ++ r)
 cut-flat a b c z r at e f =
@@ -72,14 +72,14 @@ grow-flat a c g vs r at e f =
     let l : at + length vs ≤ length (a ++ ((c ++ g) ++ r)) = simp length-append (omega arith) in
     rw (put-put-before (a ++ ((c ++ g) ++ r)) at vs c l) (put-at a (c ++ g) r (vs ++ c) at e (simp length-append (omega arith)))
 
--- ---- a table in parts
+-- ---- a table cut into its parts
 
--- three runs of orders, and the rest
+-- three runs of orders, and what lies behind them
 in-parts : (xs ys zs : List Order) (t : List ℕ) → tableOf (xs ++ (ys ++ zs)) t ≡ encode xs ++ ((encode ys ++ encode zs) ++ spare (length (xs ++ (ys ++ zs))) t)
 unfolding tableOf spare
 in-parts xs ys zs t = rw (encode-append xs (ys ++ zs), encode-append ys zs, append-assoc (encode xs) (encode ys ++ encode zs))
 
--- two runs of orders, k empty slots, and the rest
+-- two runs of orders, k empty slots, and what lies behind them
 spare-parts : (xs zs : List Order) (t : List ℕ) (k m : ℕ) → length (xs ++ zs) + k ≡ m → m ≤ slots
     → encode xs ++ ((encode zs ++ replicate (width * k) 0) ++ spare m t) ≡ tableOf (xs ++ zs) t
 unfolding tableOf spare
@@ -131,7 +131,7 @@ module _ (t : List ℕ) (i k m : ℕ) where
       rw (in-parts xs (o ∷ []) zs t, put-at (encode xs) (numbersOf o) (encode zs ++ spare (length (xs ++ (o ∷ zs))) t) (numbersOf u) (width * i) la refl)
       (sym (rw f at (in-parts xs (u ∷ []) zs t)))
 
--- ---- the answers of the calls on a table that holds n orders
+-- ---- what the calls leave of a table that holds n orders
 
 three-parts : (os : List Order) (i k : ℕ) → take i os ++ (take k (drop i os) ++ drop (i + k) os) ≡ os
 three-parts os i k = rw (← drop-drop k i os, take-append-drop k (drop i os)) (take-append-drop i os)
@@ -170,7 +170,7 @@ swap-done n t h v i o e g =
     cc (rw (one-part os i o (omega arith), ← h .shape) at
     (swap-parts t i 0 0 (take i os) (drop (i + 1) os) (getD os i o) o (simp length-take (omega arith))))
 
--- ---- zeros written over all that lies past n orders, whatever it was
+-- ---- zeros written over everything behind n orders, whatever stood there
 
 pub tail-cleared : (n : ℕ) (t u : List ℕ) → n ≤ slots → tableLength ≤ length t → u ≡ put t (width * n) (replicate (tableLength - width * n) 0) → u ≡ tableOf (decode n t) t
 unfolding put tableOf

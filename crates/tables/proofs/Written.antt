@@ -1,4 +1,4 @@
--- Reports as records: written one behind the other, and six numbers written in two runs.
+-- Reports as records: one record written behind another, and the six numbers of a record written as two runs of three.
 use Prim.Native.Nat.{ℕ, _+_, _*_, _≤_}
 use native.Mathlib.Omega.{arith}
 use mathlib.Core.Path.{_≡_, refl, sym}
@@ -20,14 +20,14 @@ unfolding recordsOf
 records-append [] ss = refl
 records-append (r ∷ rs) ss = rw (records-append rs ss) (sym (append-assoc (recordOf r) (recordsOf rs) (recordsOf ss)))
 
--- reports written behind reports
+-- reports written behind others
 pub put-records : (room : List ℕ) (at : ℕ) (rs ss : List Report) → at + recordLength * length rs ≤ length room
     → put (put room at (recordsOf rs)) (at + recordLength * length rs) (recordsOf ss) ≡ put room at (recordsOf (rs ++ ss))
 put-records room at rs ss h =
     let l : length (recordsOf rs) ≡ recordLength * length rs = length-records rs in
     rw (records-append rs ss, ← l) (put-put room at (recordsOf rs) (recordsOf ss) (omega arith))
 
--- kind, time and the first field, then the other three fields, are the record
+-- kind, time and first field, then the other three fields: together they are the record
 pub record-done : (t u v : List ℕ) (at : ℕ) (r : Report) (f : Four) (s : Said) (k : ℕ) → r .said ≡ s → listed f ≡ fieldsOf s → k ≡ kindOf s
     → u ≡ put t at (k ∷ r .time ∷ f .first ∷ []) → v ≡ put u (at + 3) (f .second ∷ f .third ∷ f .fourth ∷ []) → at + recordLength ≤ length t
     → v ≡ put t at (recordOf r)

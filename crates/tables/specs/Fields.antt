@@ -1,4 +1,4 @@
--- The four fields of a report, as code carries them.
+-- The four fields of a report, as the code passes them around.
 use Prim.Native.Nat.{ℕ}
 use mathlib.Core.List.{List, [], _∷_}
 use Rattle.tables.specs.declared.room.Four.{Four}

@@ -1,5 +1,5 @@
 -- Document 01, "Book and report room": "Each side has a lent table of .. 64-bit numbers, .. orders of number, price and lots left,
--- best first. After acceptance the rest of the .. is zero and everything past it is untouched." How many: `terms`, Sizes.
+-- best first. After acceptance the rest of the .. is zero and everything past it is untouched." The sizes stand in terms/specs/Sizes.antt.
 use Prim.Native.Nat.{ℕ, zero, suc, _+_, _-_, _*_, _≤_}
 use mathlib.Core.Path.{_≡_}
 use mathlib.Core.List.{List, [], _∷_, _++_}
@@ -30,7 +30,7 @@ encode (o ∷ os) = numbersOf o ++ encode os
 unfoldable pub tableOf : List Order → List ℕ → List ℕ
 tableOf os t = encode os ++ (replicate (tableLength - width * length os) 0 ++ drop tableLength t)
 
--- t is the table of n orders
+-- t has its full length, holds n orders, and is zero behind them
 pub record Holds (n : ℕ) (t : List ℕ) : Type 0 where
   pub few : n ≤ slots
   pub long : tableLength ≤ length t

@@ -1,11 +1,11 @@
-// Runs of numbers moved and written, wherever they lie.
+// Runs of numbers moved and written, at any place of a slice.
 ghost use mathlib.Core.Path.{_≡_};
 ghost use mathlib.Core.List.{[], _∷_};
 ghost use Prim.Native.Nat.{_+_, _≤_};
 ghost use lib.ListN.{length, take, drop, replicate};
 ghost use Rattle.tables.specs.Put.{put};
 
-// The numbers t[from..from + count] go to t[to..], the first of them first.
+// Moves t[from..from + count] to t[to..], the first number first.
 pub fn shift_down(t: &mut [u64], to: usize, from: usize, count: usize)
     requires { ⌜ (to ≤ from) × (from + count ≤ length (now t)) ⌝ }
     ensures { λ _. ⌜ now (t .exit) ≡ put (now (t .entry)) to (take count (drop from (now (t .entry)))) ⌝ }
@@ -17,7 +17,7 @@ pub fn shift_down(t: &mut [u64], to: usize, from: usize, count: usize)
     }
 }
 
-// The numbers t[from..from + count] go to t[to..], the last of them first.
+// Moves t[from..from + count] to t[to..], the last number first.
 pub fn shift_up(t: &mut [u64], to: usize, from: usize, count: usize)
     requires { ⌜ (from ≤ to) × (to + count ≤ length (now t)) ⌝ }
     ensures { λ _. ⌜ now (t .exit) ≡ put (now (t .entry)) to (take count (drop from (now (t .entry)))) ⌝ }
@@ -40,7 +40,7 @@ pub fn clear(t: &mut [u64], at: usize, count: usize)
     }
 }
 
-// Three numbers from `at` on.
+// Writes three numbers from `at` on.
 pub fn store3(t: &mut [u64], at: usize, a: u64, b: u64, c: u64)
     requires { ⌜ at + 3 ≤ length (now t) ⌝ }
     ensures { λ _. ⌜ now (t .exit) ≡ put (now (t .entry)) at (a ∷ b ∷ c ∷ []) ⌝ }

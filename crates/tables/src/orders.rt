@@ -1,4 +1,4 @@
-// Orders in a side's table: read, stored, taken out, put in, changed; and the part past the live orders cleared.
+// Orders in a side's table: read, stored, taken out, put in and changed; and the part behind the live orders cleared.
 use crate::flat;
 use crate::lengths;
 use terms::Order;
@@ -24,7 +24,7 @@ pub fn order_at(t: &[u64], i: usize) -> Order
     }
 }
 
-// An order's numbers, from `at` on.
+// Writes an order's numbers from `at` on.
 pub fn store(t: &mut [u64], at: usize, o: Order)
     requires { ⌜ at + width ≤ length (now t) ⌝ }
     ensures { λ _. ⌜ now (t .exit) ≡ put (now (t .entry)) at (numbersOf o) ⌝ }
@@ -32,7 +32,7 @@ pub fn store(t: &mut [u64], at: usize, o: Order)
     flat::store3(t, at, o.number, o.price, o.lots);
 }
 
-// k orders from slot i on are taken out.
+// Takes out k orders from slot i on.
 pub fn cut(t: &mut [u64], n: usize, i: usize, k: usize)
     requires { ⌜ Holds n (now t) × (i + k ≤ n) ⌝ }
     ensures { λ _. ⌜ now (t .exit) ≡ tableOf (take i (decode n (now (t .entry))) ++ drop (i + k) (decode n (now (t .entry)))) (now (t .entry)) ⌝ }
@@ -46,7 +46,7 @@ pub fn cut(t: &mut [u64], n: usize, i: usize, k: usize)
     flat::clear(t, lengths::WIDTH * (n - k), lengths::WIDTH * k);
 }
 
-// The first k orders are taken out.
+// Takes out the first k orders.
 pub fn remove_first(t: &mut [u64], n: usize, k: usize)
     requires { ⌜ Holds n (now t) × (k ≤ n) ⌝ }
     ensures { λ _. ⌜ now (t .exit) ≡ tableOf (drop k (decode n (now (t .entry)))) (now (t .entry)) ⌝ }
@@ -54,7 +54,7 @@ pub fn remove_first(t: &mut [u64], n: usize, k: usize)
     cut(t, n, 0, k);
 }
 
-// An order goes in at slot i.
+// Puts an order in at slot i.
 pub fn put_in(t: &mut [u64], n: usize, i: usize, o: Order)
     requires { ⌜ Holds n (now t) × (i ≤ n) × (n < slots) ⌝ }
     ensures { λ _. ⌜ now (t .exit) ≡ tableOf (take i (decode n (now (t .entry))) ++ (o ∷ drop i (decode n (now (t .entry))))) (now (t .entry)) ⌝ }
@@ -64,7 +64,7 @@ pub fn put_in(t: &mut [u64], n: usize, i: usize, o: Order)
     store(t, at, o);
 }
 
-// The order in slot i becomes o.
+// Replaces the order in slot i by o.
 pub fn change(t: &mut [u64], n: usize, i: usize, o: Order)
     requires { ⌜ Holds n (now t) × (i < n) ⌝ }
     ensures { λ _. ⌜ now (t .exit) ≡ tableOf (take i (decode n (now (t .entry))) ++ (o ∷ drop (i + 1) (decode n (now (t .entry))))) (now (t .entry)) ⌝ }
@@ -72,7 +72,7 @@ pub fn change(t: &mut [u64], n: usize, i: usize, o: Order)
     store(t, lengths::WIDTH * i, o);
 }
 
-// Whatever lies past the n live orders becomes zero, to the end of the table.
+// Writes zeros over all that lies behind the n live orders, up to the end of the table.
 pub fn clear_tail(t: &mut [u64], n: usize)
     requires { ⌜ (n ≤ slots) × (tableLength ≤ length (now t)) ⌝ }
     ensures { λ _. ⌜ now (t .exit) ≡ tableOf (decode n (now (t .entry))) (now (t .entry)) ⌝ }

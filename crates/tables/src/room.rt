@@ -47,7 +47,7 @@ pub fn fields(s: Said) -> Four
     }
 }
 
-// A report's record, from `at` on.
+// Writes a report's record from `at` on.
 pub fn put_record(room: &mut [u64], at: usize, r: Report)
     requires { ⌜ at + recordLength ≤ length (now room) ⌝ }
     ensures { λ _. ⌜ now (room .exit) ≡ put (now (room .entry)) at (recordOf r) ⌝ }

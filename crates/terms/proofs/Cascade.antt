@@ -1,4 +1,4 @@
--- A cascade of refusals, a `return` at a time: `search cascade depth 14` answers each.
+-- A function that tries refusals one after the other returns the first that applies: `search cascade depth 14` answers each `return`.
 use Prim.Native.Nat.{ℕ}
 use native.Mathlib.Omega.{arith}
 use mathlib.Core.Path.{_≡_, refl}
@@ -10,7 +10,7 @@ use Rattle.terms.specs.declared.Verdict.{Verdict}
 use Rattle.terms.specs.declared.Verdict.the-variants.{Fine, Refused}
 use Rattle.terms.specs.Refusals.{Rule, unless, firstFailed}
 
--- code tests `found`, which is what must hold, and answers the refusal where it does not
+-- `found` is the outcome of the code's test of what must hold; where it is false, the code returns the refusal
 pub stops-here : (n : Refusal) (found h : Bool) (rs : List Rule) → found ≡ h → not found ≡ true → Refused n ≡ firstFailed (unless n h ∷ rs)
 unfolding firstFailed
 stops-here n found h rs s e = rw (← s, not-true found e)
@@ -27,7 +27,7 @@ pub ruleset cascade = (stops-here, goes-on, none-applies)
 
 -- ---- what a verdict says of its rules
 
--- where nothing applies, the first rule holds and nothing of the others applies
+-- where no rule applies, the first rule holds and none of the others applies
 pub fine-first : (n : Refusal) (h : Bool) (rs : List Rule) → firstFailed (unless n h ∷ rs) ≡ Fine → (h ≡ true) × (firstFailed rs ≡ Fine)
 unfolding firstFailed
 fine-first n true rs e = (refl, e)

@@ -1,4 +1,4 @@
--- Laws of tests that every crate uses.
+-- Laws of booleans and conditions that every crate uses.
 use Prim.Native.Nat.{ℕ, _≤_}
 use mathlib.Core.Path.{_≡_, refl, sym}
 use mathlib.Core.Bool.{Bool, true, false, cond, _&&_, _||_, not, false≢true, true≢false}
@@ -6,12 +6,12 @@ use borrow.Author.Tests.{leb-true, le-leb, not-true, not-false}
 use lib.Dec.{leb}
 use Rattle.terms.specs.Truth.{_⊓_, between}
 
--- a choice by its two cases, with what the test showed
+-- to prove something of a choice, prove it of each branch, knowing how the test came out
 pub by : {A : Type 0} (P : A → Type 0) (b : Bool) (x y : A) → (b ≡ true → P x) → (b ≡ false → P y) → P (cond b x y)
 by P true x y f g = f refl
 by P false x y f g = g refl
 
--- a proof by the two cases of a test
+-- a proof by the two outcomes of a test
 pub cases : {P : Type 0} (b : Bool) → (b ≡ true → P) → (b ≡ false → P) → P
 cases true f g = f refl
 cases false f g = g refl
@@ -22,13 +22,13 @@ cond-true b x y e = rw e
 pub cond-false : {A : Type 0} (b : Bool) (x y : A) → b ≡ false → cond b x y ≡ y
 cond-false b x y e = rw e
 
--- two tests that pass together are one
+-- two tests of which each passes where the other does are equal
 pub same : (p q : Bool) → (p ≡ true → q ≡ true) → (q ≡ true → p ≡ true) → p ≡ q
 same true q f g = sym (f refl)
 same false true f g = g refl
 same false false f g = refl
 
--- ---- conjunctions, apart and together
+-- ---- conjunctions, taken apart and put together
 
 pub split : (a b : Bool) → (a && b) ≡ true → (a ≡ true) × (b ≡ true)
 split true b e = (refl, e)
@@ -51,7 +51,7 @@ between-facts a x b h = let p = split (leb a x) (leb x b) h in (leb-true a x (p 
 pub between-make : (a x b : ℕ) → a ≤ x → x ≤ b → between a x b ≡ true
 between-make a x b h k = join (leb a x) (leb x b) (le-leb a x h) (le-leb x b k)
 
--- ---- a list of conditions, a `return` at a time: `search conditions` answers each. Code tests `found`, which is what must hold
+-- ---- a function that tests conditions one by one: `search conditions` answers each `return`. `found` is the outcome of the code's test
 
 pub fails : (found h rest : Bool) → found ≡ h → not found ≡ true → false ≡ (h ⊓ rest)
 unfolding _⊓_
@@ -81,7 +81,7 @@ pub or-last : (p q : Bool) → (p ≡ false → q ≡ true) → p || q ≡ true
 or-last true q f = refl
 or-last false q f = f refl
 
--- a test is not both
+-- a test does not come out both ways
 pub no-both : {P : Type 0} (b : Bool) → b ≡ true → b ≡ false → P
 no-both true e f = absurd (true≢false f)
 no-both false e f = absurd (false≢true e)

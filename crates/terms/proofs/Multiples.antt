@@ -1,4 +1,4 @@
--- A price is a multiple of the tick just where the product with the factor, over the scale, comes back to it.
+-- A price is a multiple of the tick exactly where price×factor÷scale, rounded down, times the tick gives the price back.
 use Prim.Native.Nat.{ℕ, _+_, _-_, _*_, _/_, _%_, _≤_, _<_}
 use native.Mathlib.Omega.{arith}
 use native.Mathlib.Nat.{mul-le-mul, mul-le-mul-left, mul-mod-left, div-le-self, div-add-mod', mod-lt, add-mul, one-mul, mul-assoc, mul-comm, mul-add}
@@ -40,7 +40,7 @@ module _ (price tick factor : ℕ) (p : price < scale) (d : Dividing tick factor
   pub back-fits : Fits w64 (price * factor / scale * tick)
   back-fits = let l : price * factor / scale ≤ 4294967295 = omega (arith, wide) in omega (arith, mul-le-mul l small)
 
-  -- k times the tick, times the factor, is k times the scale and less than a scale more
+  -- k×tick×factor is at least k×scale, and exceeds it by less than one scale
   exact : (k : ℕ) → price ≡ k * tick → price * factor / scale ≡ k
   exact k f =
       let a : below / tick * tick + below % tick ≡ below = div-add-mod' below tick in

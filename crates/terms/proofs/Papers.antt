@@ -1,5 +1,5 @@
 -- The paper's tables of numbers: report kinds, reasons, refusals, categories and sizes. Each lists every case once, in the paper's order,
--- against the numbers that stand there.
+-- beside the number that the paper gives it.
 use Prim.Native.Nat.{ℕ, _-_, _*_}
 use mathlib.Core.Path.{_≡_, refl}
 use mathlib.Core.List.{List, [], _∷_, map}
@@ -21,14 +21,14 @@ use Rattle.terms.specs.Categories.{rowOf}
 use Rattle.terms.specs.Refusals.{numberOf}
 use Rattle.terms.specs.Reports.{kindOf, whyOf}
 
--- ---- "Kinds: 1 accept, 2 trade, 3 convert, 4 cancel, 5 slab, 6 ref, 7 close", whatever they tell
+-- ---- "Kinds: 1 accept, 2 trade, 3 convert, 4 cancel, 5 slab, 6 ref, 7 close", whatever the report tells
 
 pub kinds : (number : ℕ) (deal : Deal) (order : Order) (ended : Ended) (band : Band) (price : ℕ) (closing : Closing) →
     map kindOf (Accept number ∷ Trade deal ∷ Convert order ∷ Cancel ended ∷ Slab band ∷ Ref price ∷ Close closing ∷ [])
     ≡ 1 ∷ 2 ∷ 3 ∷ 4 ∷ 5 ∷ 6 ∷ 7 ∷ []
 kinds number deal order ended band price closing = refl
 
--- ---- reasons: asked for, "ioc is cancelled, why 2", "out of range .. why 3", "outside the band .. why 4", the close "why 5"
+-- ---- reasons: why 1 where it was asked for, "ioc is cancelled, why 2", "out of range .. why 3", "outside the band .. why 4", the close "why 5"
 
 abbrev pub allWhys : List Why
 allWhys = Asked ∷ Immediate ∷ OutOfRange ∷ Outside ∷ DayEnd ∷ []
@@ -36,7 +36,7 @@ allWhys = Asked ∷ Immediate ∷ OutOfRange ∷ Outside ∷ DayEnd ∷ []
 pub whys : map whyOf allWhys ≡ 1 ∷ 2 ∷ 3 ∷ 4 ∷ 5 ∷ []
 whys = refl
 
--- there is no other, and each stands at its number
+-- there is no other reason, and each stands in the list at its number
 pub why-listed : (w : Why) → getD allWhys (whyOf w - 1) Asked ≡ w
 why-listed Asked = refl
 why-listed Immediate = refl
@@ -121,8 +121,8 @@ pub greatest :
     ≡ 100000000 ∷ 10000 ∷ 60000 ∷ 59744 ∷ 60000 ∷ 999999999 ∷ []
 greatest = refl
 
--- a day has 24 hours of 60 minutes of 60,000 ms, and a session at least one of them; "base 1 to 50,000,000; .. tick 1 to 10,000; .. days to
--- maturity 0 to 366"
+-- a day has 24 hours of 60 minutes of 60,000 ms, and a session lasts at least one hour; "base 1 to 50,000,000; .. tick 1 to 10,000; .. days
+-- to maturity 0 to 366"
 pub settings-greatest :
     timeMost ∷ lengthLeast ∷ baseMost ∷ tickMost ∷ daysMost ∷ []
     ≡ 24 * (60 * 60000) ∷ 60 * 60000 ∷ 50000000 ∷ 10000 ∷ 366 ∷ []

@@ -8,7 +8,7 @@ use Rattle.terms.specs.declared.Verdict.{Verdict}
 use Rattle.terms.specs.declared.Verdict.the-variants.{Fine, Refused}
 use Rattle.terms.specs.Refusals.{numberOf, codeOf}
 
--- from 1 to 17
+-- the numbers of refusals run from 1 to 17
 pub refusal-number : (r : Refusal) → (1 ≤ numberOf r) × (numberOf r ≤ 17)
 refusal-number SmallRoom = (omega arith, omega arith)
 refusal-number Unsound = (omega arith, omega arith)

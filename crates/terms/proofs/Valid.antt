@@ -1,4 +1,4 @@
--- Settings judged: what passes 12 and 13, and that 12 comes before 13.
+-- How settings are judged: what 12 and 13 let pass, and that 12 comes before 13.
 use Prim.Native.Nat.{ℕ}
 use native.Mathlib.Omega.{arith}
 use mathlib.Core.Path.{_≡_}
@@ -41,7 +41,7 @@ ranged g h =
       under-small = leb-true _ _ (under .1);
     }
 
--- and all that are within their ranges pass 12
+-- and settings whose numbers are all within their ranges pass 12
 pub ranged-pass : (g : Settings) → Ranged g → settingsRanged g ≡ true
 unfolding settingsRanged
 ranged-pass g r =
@@ -63,7 +63,7 @@ facts g h k =
 
 -- ---- "first that applies": 12, then 13
 
--- a number out of its range is answered 12, whatever else is wrong,
+-- settings with a number out of its range are answered 12, whatever else is wrong with them,
 pub twelve-first : (g : Settings) → settingsRanged g ≡ false → codeOf (settingsVerdict g) ≡ 12
 unfolding settingsVerdict firstFailed
 twelve-first g e = rw e
@@ -80,7 +80,7 @@ thirteen-in-range g h =
 
 -- ---- valid settings
 
--- settings with no refusal are valid
+-- settings that no refusal applies to are valid
 pub fine-valid : (g : Settings) → settingsVerdict g ≡ Fine → Valid g
 unfolding settingsVerdict
 fine-valid g e =

@@ -1,4 +1,4 @@
--- Document 01, "Slabs": the categories in the order of their list.
+-- Document 01, "Slabs": the categories, in the order in which it lists them.
 use Prim.Native.Nat.{ℕ}
 use Rattle.terms.specs.declared.Category.{Category}
 use Rattle.terms.specs.declared.Category.the-variants.{Broad, Narrow, Sensitive, Energy, Metals, Precious, Gems, Other}

@@ -1,4 +1,4 @@
--- Document 01, "Numbers": the ranges.
+-- Document 01, "Numbers": the range of each kind of number.
 use Prim.Native.Nat.{ℕ, _%_, _≤_}
 use mathlib.Core.Bool.{Bool}
 use mathlib.Core.List.{List, [], _∷_}
@@ -26,7 +26,7 @@ isNumber x = between 1 x numbersMost
 abbrev pub onTick : ℕ → ℕ → Bool
 onTick tick x = eqb (x % tick) 0
 
--- numbers that can be written: none is "above 999,999,999"
+-- the numbers that a line can hold: none of them is "above 999,999,999"
 abbrev pub Writable : List ℕ → Type 0
 Writable [] = Unit {0}
 Writable (n ∷ ns) = (n ≤ writtenMost) × Writable ns

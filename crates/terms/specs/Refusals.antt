@@ -7,7 +7,7 @@ use Rattle.terms.specs.declared.Refusal.the-variants.{SmallRoom, Unsound
 use Rattle.terms.specs.declared.Verdict.{Verdict}
 use Rattle.terms.specs.declared.Verdict.the-variants.{Fine, Refused}
 
--- the table's rows
+-- the rows of the paper's table
 abbrev pub numberOf : Refusal → ℕ
 numberOf SmallRoom = 1  -- a table under 768 numbers, or report room under 3,120
 numberOf Unsound = 2  -- session not sound
@@ -40,7 +40,7 @@ unfoldable pub firstFailed : List Rule → Verdict
 firstFailed [] = Fine
 firstFailed (r ∷ rs) = cond (r .holds) (firstFailed rs) (Refused (r .refusal))
 
--- the paper's number of a verdict, 0 where nothing applies
+-- the paper's number of a verdict; 0 where no refusal applies
 abbrev pub codeOf : Verdict → ℕ
 codeOf Fine = 0
 codeOf (Refused r) = numberOf r

@@ -1,4 +1,4 @@
--- Document 01, "Numbers", its second paragraph: the settings, and refusals 12 and 13.
+-- Document 01, the second paragraph of "Numbers": what settings may be, and refusals 12 and 13.
 use Prim.Native.Nat.{_≤_}
 use mathlib.Core.Path.{_≡_}
 use mathlib.Core.Bool.{Bool, true}
@@ -32,11 +32,11 @@ settingsTicked g = onTick (g .tick) (g .base) ⊓ onTick (g .tick) (g .close) �
 unfoldable pub settingsValid : Settings → Bool
 settingsValid g = settingsRanged g ⊓ settingsTicked g
 
--- 12, then 13
+-- 12 is judged first, then 13
 unfoldable pub settingsVerdict : Settings → Verdict
 settingsVerdict g = firstFailed (unless SettingsRange (settingsRanged g) ∷ unless SettingsOffTick (settingsTicked g) ∷ [])
 
--- what settings that 12 lets pass are, as facts
+-- what is known of settings that 12 lets pass
 pub record Ranged (g : Settings) : Type 0 where
   pub base-some : 1 ≤ g .base
   pub base-small : g .base ≤ baseMost
@@ -51,7 +51,7 @@ pub record Ranged (g : Settings) : Type 0 where
   pub days-small : g .days ≤ daysMost
   pub under-small : g .under ≤ priceMost
 
--- what settings that 12 and 13 let pass are, as facts for those who compute with them
+-- what is known of settings that 12 and 13 let pass, for proofs that compute with them
 pub record Valid (g : Settings) : Type 0 where
   pub in-range : Ranged g
   pub base-ticked : onTick (g .tick) (g .base) ≡ true

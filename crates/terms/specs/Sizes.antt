@@ -14,11 +14,11 @@ lineRoom = 128
 abbrev pub numbersMost : ℕ
 numbersMost = 60000
 
--- "over 59,744 trades made": with so many an order may still come
+-- "over 59,744 trades made": with this many, an order may still come in
 abbrev pub tradesBefore : ℕ
 tradesBefore = 59744
 
--- "trades at most 60,000": such an order can meet every counter order
+-- "trades at most 60,000": an order that comes in then can still meet every counter order
 abbrev pub tradesMost : ℕ
 tradesMost = tradesBefore + slots
 
@@ -49,16 +49,15 @@ daysMost = 366
 abbrev pub writtenMost : ℕ
 writtenMost = 999999999
 
--- the sizes that soundness and the rows of the table ask about, together: both are defined of any, so that what is said of a day by one set of
--- sizes can be said of it by another
+-- the sizes that soundness and the refusals ask about. Both are defined for any sizes, so that one day can be judged by two sets of them
 pub record Sizes : Type 0 where
-  -- orders a side
+  -- orders on a side
   pub side : ℕ
-  -- order numbers
+  -- order numbers in a day
   pub numbers : ℕ
-  -- trades with which an order may still come
+  -- the most trades after which an order may still come in
   pub before : ℕ
-  -- trades in all
+  -- the most trades in a day
   pub trades : ℕ
 
 abbrev pub sizes : Sizes

@@ -1,4 +1,4 @@
-// Settings judged: 12 out of range, then 13 off the tick, for any numbers whatever.
+// Whether settings are refused: 12 if a number is out of range, then 13 if a price is off the tick, for any numbers whatever.
 use crate::Refusal;
 use crate::Settings;
 use crate::Verdict;
@@ -33,7 +33,7 @@ fn ticked(g: Settings, factor: u64) -> bool
     base & close & settle
 }
 
-// The first refusal of settings that applies.
+// The first refusal that applies to some settings.
 pub fn check(g: Settings) -> Verdict
     ensures { λ r. ⌜ r ≡ settingsVerdict g ⌝ }
 {
@@ -46,7 +46,7 @@ pub fn check(g: Settings) -> Verdict
     Verdict::Fine
 }
 
-// Whether settings are valid: neither refusal applies. The factor is the tick's.
+// Whether settings are valid, that is, neither refusal applies. `factor` is that of their tick.
 pub fn is_valid(g: Settings, factor: u64) -> bool
     requires { ⌜ factor ≡ factorOf (g .tick) ⌝ }
     ensures { λ r. ⌜ r ≡ settingsValid g ⌝ }

@@ -1,13 +1,13 @@
-// terms: the paper's words as types. Every crate above speaks in them.
-// It may use nothing. It promises: each enum has the paper's number, by a definition in specs/ and a function proved
-// equal to it; settings are judged by 12 and then 13, for any 64-bit numbers whatever.
+// terms: the paper's words as types, in which every crate above speaks.
+// It may use nothing. It promises: refusals, report kinds, reasons and categories have the paper's numbers, each by a definition in specs/
+// and a function proved equal to it; settings are judged by 12 and then 13, for any 64-bit numbers whatever.
 
 pub mod judge;
 pub mod numbers;
 pub mod sizes;
 pub mod ticks;
 
-// What a contract is on (document 01, "Slabs"). The words are those of session lines.
+// What the contract is on (document 01, "Slabs"), in the words of session lines.
 pub enum Category {
     Broad,
     Narrow,
@@ -56,7 +56,7 @@ pub struct Entry {
     pub lots: u64,
 }
 
-// What an event does: buy or sell, cancel an order number, a new underlying, clock, close with today's settlement.
+// What an event does: buy or sell, cancel an order by its number, set the underlying, let time pass, or close with today's settlement.
 pub enum Act {
     Enter(Entry),
     Withdraw(u64),
@@ -70,14 +70,14 @@ pub struct Event {
     pub act: Act,
 }
 
-// An order that rests, with the lots it has left. Also a part of one: what it traded, or what became of it.
+// An order that rests, with the lots that it has left; or a part of an order, that traded or was cancelled.
 pub struct Order {
     pub number: u64,
     pub price: u64,
     pub lots: u64,
 }
 
-// The lowest and the highest price that a limit may have.
+// The lowest and the highest price of the band: a limit outside it is refused.
 pub struct Band {
     pub low: u64,
     pub high: u64,
@@ -148,7 +148,7 @@ pub enum Refusal {
     NumberLong,
 }
 
-// What a judge says: nothing against it, or the first refusal that applies.
+// A judgement: nothing applies, or the first refusal that does.
 pub enum Verdict {
     Fine,
     Refused(Refusal),

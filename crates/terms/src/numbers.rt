@@ -101,7 +101,7 @@ pub fn is_number(x: u64) -> bool
     (1 <= x) & (x <= sizes::NUMBERS)
 }
 
-// A multiple of the tick.
+// Whether x is a multiple of the tick.
 pub fn on_tick(tick: u64, x: u64) -> bool
     requires { ⌜ 0 < tick ⌝ }
     ensures { λ r. ⌜ r ≡ onTick tick x ⌝ }

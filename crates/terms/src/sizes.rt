@@ -1,12 +1,12 @@
 // The sizes of the base, each named once for code; specs/Sizes.antt names each once for definitions.
 
-// Orders a side.
+// How many orders a side can hold.
 pub const SLOTS: usize = 256;
 
 // The bytes that a line room must have.
 pub const LINE: usize = 128;
 
-// Order numbers in a day, and the trades after which no further order is taken.
+// How many order numbers a day has, and how many trades may have been made when an order comes in.
 pub const NUMBERS: u64 = 60_000;
 
 pub const TRADES: u64 = 59_744;
@@ -18,7 +18,7 @@ pub const LOTS: u64 = 10_000;
 
 pub const TIME: u64 = 86_400_000;
 
-// The ranges that settings alone have.
+// The ends of the ranges that only settings have.
 pub const BASE: u64 = 50_000_000;
 
 pub const TICK: u64 = 10_000;

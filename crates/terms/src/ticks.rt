@@ -1,4 +1,4 @@
-// Whether a price is a multiple of the tick, by a product and a shift where a division would take longest.
+// Whether a price is a multiple of the tick, found by a multiplication and a shift, since a division would take longest.
 ghost use mathlib.Core.Path.{_≡_};
 ghost use Prim.Native.Nat.{_<_};
 ghost use Rattle.terms.specs.Numbers.{onTick};
@@ -6,10 +6,10 @@ ghost use Rattle.terms.specs.code.Ticks.{scale, factorOf, Dividing};
 
 const SCALE: u64 = 4_294_967_296;
 
-// The greatest number of 32 bits, so that the division is a short one.
+// The greatest 32-bit number, so that the division is a short one.
 const BELOW: u64 = 4_294_967_295;
 
-// A price times this, over SCALE, is the price over the tick, where it is a multiple. It is reckoned once a call.
+// For a multiple of the tick, price×factor÷SCALE is price÷tick. The factor is computed once a call.
 pub fn factor(tick: u64) -> u64
     ensures { λ r. ⌜ r ≡ factorOf tick ⌝ }
 {

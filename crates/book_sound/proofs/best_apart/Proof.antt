@@ -1,4 +1,4 @@
--- A side with no orders, or the first order of each.
+-- A side has no order, or the first order of each is its best.
 use borrow.Author.Needs.{needs}
 use Rattle.book_sound_law.proofs.Books.{no-buys, no-sells, bests}
 use Rattle.book_sound.proofs.best_apart.Statement.{statement}

@@ -1,4 +1,4 @@
--- The two best prices, then both passes.
+-- The two best prices are compared first; if they are apart, the passes decide.
 use borrow.Author.Needs.{needs}
 use Rattle.book_sound_law.proofs.Books.{book-crossed, limits-fit, tables-are}
 use Rattle.book_sound.proofs.book_sound.Statement.{statement}

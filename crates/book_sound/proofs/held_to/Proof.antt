@@ -1,4 +1,4 @@
--- Field by field.
+-- Each field is the definition's.
 use Rattle.book_sound.proofs.held_to.Statement.{statement}
 use Rattle.book_sound.proofs.held_to.Tie as tie
 

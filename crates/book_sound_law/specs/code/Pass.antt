@@ -1,4 +1,4 @@
--- The pass over a side, as the code makes it: each order sound, its key above the key before it, the low bits of its number not marked yet.
+-- The pass over a side, as the code makes it: each order is sound, its key is above the last one, and the low bits of its number are not marked.
 use Prim.Native.Nat.{ℕ, _+_, _-_, _*_, _≤_, _<_}
 use mathlib.Core.Bool.{Bool, true, _&&_, _||_, not, cond}
 use mathlib.Core.List.{List, [], _∷_, _++_}
@@ -40,23 +40,23 @@ bandOf l = record { low = l .low; high = l .high }
 abbrev pub fine : Limits → Order → Bool
 fine l o = orderSound (l .given) (l .tick) (bandOf l) o
 
--- what a fine order's key is computed from
+-- what the key of an order needs: a number that was given, and a price in the band
 pub record Keyed (l : Limits) (o : Order) : Type 0 where
   pub number-some : 1 ≤ o .number
   pub number-given : o .number ≤ l .given
   pub above : l .low ≤ o .price
   pub below : o .price ≤ l .high
 
--- order numbers are below it
+-- every order number is below it
 abbrev pub keyStep : ℕ
 keyStep = 65536
 
--- the priority of a fine order as one number: the less, the sooner
+-- the priority of a fine order as one number: the lower it is, the better
 abbrev pub keyOf : Side → Limits → Order → ℕ
 keyOf Buy l o = (l .high - o .price) * keyStep + o .number
 keyOf Sell l o = (o .price - l .low) * keyStep + o .number
 
--- the low bits of the orders' numbers
+-- the low bits of each order's number
 unfoldable pub lowBits : ℕ → List Order → List ℕ
 lowBits mask [] = []
 lowBits mask (o ∷ os) = bitAnd (o .number) mask ∷ lowBits mask os
@@ -71,18 +71,18 @@ passOf s l mask key m (o ∷ os) =
 
 -- ---- both sides
 
--- every order sound and ahead of the next
+-- every order is sound and goes ahead of the next
 abbrev pub sideSound : Side → Limits → List Order → Bool
 sideSound s l os = eachSound (l .given) (l .tick) (bandOf l) os && sorted s os
 
 unfoldable pub sidesSound : Limits → List Order → List Order → Bool
 sidesSound l buys sells = sideSound Buy l buys && (sideSound Sell l sells && distinct (buys ++ sells))
 
--- the same with the numbers' low bits for the numbers
+-- the same, but that only the low bits of the numbers have to be distinct
 unfoldable pub sidesBy : ℕ → Limits → List Order → List Order → Bool
 sidesBy mask l buys sells = sideSound Buy l buys && (sideSound Sell l sells && apart (lowBits mask buys ++ lowBits mask sells))
 
--- the least mask by which so many live orders are told apart: numbers are at most `given`, or a clash is rare among so few
+-- the least mask that serves: it covers every number given, or so few orders are live that equal low bits are rare
 abbrev pub leastMask : ℕ → ℕ → ℕ
 leastMask given live =
     cond (leb given 1023 || leb live 16) 1023 (cond (leb given 4095 || leb live 48) 4095 (cond (leb given 16383) 16383 65535))

@@ -1,4 +1,4 @@
--- The places up to the last field.
+-- The loop stays within the list of fields.
 use Prim.Native.Nat.{_≤_, _-_}
 use borrow.Author.Needs.{needs}
 use Rattle.cases_settings.proofs.main.Statement.{statement}

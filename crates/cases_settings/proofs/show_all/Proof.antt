@@ -1,4 +1,4 @@
--- The places up to the last value.
+-- The loop stays within the list of values.
 use Prim.Native.Nat.{_≤_, _-_}
 use borrow.Author.Needs.{needs}
 use Rattle.cases_settings.proofs.show_all.Statement.{statement}

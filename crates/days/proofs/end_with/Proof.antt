@@ -1,4 +1,4 @@
--- The ending's bytes before i stand behind the path.
+-- After i turns the first i bytes of the ending stand behind the path.
 use borrow.Author.Needs.{needs}
 use Prim.Native.Nat.{_≤_, _-_}
 use mathlib.Core.Path.{_≡_}

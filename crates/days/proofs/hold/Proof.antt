@@ -1,3 +1,4 @@
+-- The expected output that was read lies within the room, so it can be compared.
 use Rattle.descriptors.proofs.Parts.{load-there}
 use borrow.Author.Needs.{needs}
 use Rattle.days.proofs.hold.Statement.{statement}

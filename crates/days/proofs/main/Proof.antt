@@ -1,4 +1,4 @@
--- The arguments that are left fall.
+-- At each turn fewer arguments are left.
 use borrow.Author.Needs.{needs}
 use Prim.Native.Nat.{_-_}
 use Rattle.days.proofs.main.Statement.{statement}

@@ -1,4 +1,4 @@
--- Every code is below 256.
+-- The number of every refusal is below 256, so the sum does not overflow.
 use Rattle.desk_packing_law.proofs.Codes.{code-below}
 use borrow.Author.Needs.{needs}
 use Rattle.desk_answers.proofs.refused.Statement.{statement}

@@ -1,4 +1,4 @@
--- Both tests.
+-- The code makes the definition's two tests: of the stage, and of the session's numbers.
 use Rattle.desk_packing_law.proofs.StagePacks.{run-tested}
 use borrow.Author.Needs.{needs}
 use Rattle.desk_runs.proofs.is_run.Statement.{statement}

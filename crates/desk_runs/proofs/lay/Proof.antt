@@ -1,4 +1,4 @@
--- The stage, and the session behind it.
+-- The stage is written to the front, and the session's numbers behind it.
 use Rattle.desk_packing_law.proofs.StagePacks.{run-laid}
 use borrow.Author.Needs.{needs}
 use Rattle.desk_runs.proofs.lay.Statement.{statement}

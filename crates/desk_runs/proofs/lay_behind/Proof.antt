@@ -1,4 +1,4 @@
--- The numbers in the part behind the first, then the first.
+-- The numbers are written into the part behind the first place, and then the first number.
 use Rattle.desk_packing_law.proofs.StagePacks.{laid-behind}
 use borrow.Author.Needs.{needs}
 use Rattle.desk_runs.proofs.lay_behind.Statement.{statement}

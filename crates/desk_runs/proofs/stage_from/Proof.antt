@@ -1,4 +1,4 @@
--- A number at a time.
+-- The code tests for the numbers of stages in the definition's order.
 use Rattle.records_law.proofs.Told.{numbered}
 use Rattle.desk_runs.proofs.stage_from.Statement.{statement}
 use Rattle.desk_runs.proofs.stage_from.Tie as tie

@@ -1,4 +1,4 @@
--- By the test.
+-- Each return is one case: the numbers are a run's, or not.
 use Rattle.desk_packing_law.proofs.StagePacks.{no-run, a-run}
 use borrow.Author.Needs.{needs}
 use Rattle.desk_runs.proofs.unpack.Statement.{statement}

@@ -1,4 +1,4 @@
--- The reader is handed the part from the place on, or none of the bytes: what it answers there is the answer at the place.
+-- The reader is handed the bytes from the place on, or none where the place is past the end: its answer is the answer at the place.
 use borrow.Author.Needs.{needs}
 use Rattle.journal.proofs.Places.{read-there, read-past}
 use Rattle.journal.proofs.event_at.Statement.{statement}

@@ -1,4 +1,4 @@
--- `journal::line_at` meets its contract: a walk of its MIR, by hand. A walker is made, moved to the place, and asked for its line.
+-- `journal::line_at` meets its contract, shown by hand over its MIR. A walker is made, moved to the place, and asked for its line.
 use mathlib.Core.Path.{_≡_, refl, ap, _∙_}
 use Prim.Native.Nat.{ℕ, _<_, _^_}
 use mathlib.Core.List.{List, [], _∷_}
@@ -82,7 +82,7 @@ module _ {M : Type 1} (𝓤 : URA M) (H : Heap 𝓤) (A : Atoms 𝓤) (mem : Mem
   Step = tripleOf 𝓤 H A step.signature (step.spec 𝓤 H A mem run)
 
 module _ {M : Type 1} (𝓤 : URA M) (H : Heap 𝓤) (A : Atoms 𝓤) (W : Given 𝓤 H A) (mem : Memory → SProp 𝓤) (run : Routine → Fun 𝓤) (κ : Lft) (q : Share) (s : RefT (List ℕ)) (n : ℕ) (ok : n < 2 ^ 64) where
-  -- the machine value that s has
+  -- the machine value of s
   abbrev v : Val
   v = sliceVal (s .ptr) (length (s .now))
 

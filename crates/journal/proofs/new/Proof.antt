@@ -1,5 +1,5 @@
--- `journal::new` meets its contract: a walk of its MIR, by hand. A `Walker` is made of the slice passed and 0, in the result's local.
--- A `&[u8]` is Copy, so what it owns is had twice: once for the bytes at exit, and once inside the result, beside the facts of the place.
+-- `journal::new` meets its contract, shown by hand over its MIR. A `Walker` is made of the slice passed and 0, in the result's local.
+-- A `&[u8]` is Copy, so what it owns can be used twice: for the bytes at exit, and inside the result, beside the facts of the place.
 use mathlib.Core.Path.{refl}
 use Prim.Native.Nat.{ℕ}
 use mathlib.Core.List.{List, [], _∷_}
@@ -49,7 +49,7 @@ module _ {M : Type 1} (𝓤 : URA M) (H : Heap 𝓤) (A : Atoms 𝓤) (W : Given
   abbrev α : NamedLft
   α = namedLft 1 0 tt (κ, tt)
 
-  -- the machine value that s has
+  -- the machine value of s
   abbrev v : Val
   v = sliceVal (s .ptr) (length (s .now))
 
@@ -70,7 +70,7 @@ module _ {M : Type 1} (𝓤 : URA M) (H : Heap 𝓤) (A : Atoms 𝓤) (W : Given
       qed W ((‵ (flft κ q) ⊛ ‵ ftrue) ∷ ‵ (owns (ShrSlice (named 0) κ u8 ∷ []) (s, tt) at) ∷ []) ∵
       suffices ! _ (ends-at 𝓤 H A new.ended stayed (new.clauses 𝓤 H A mem run) W (((κ, tt), (q, tt), tt, (s, tt), at), tt) (T′.lowered made) made (tt, tt) (tt, tt)) $ says ! (refl, refl) $
       frame ! $ fsplit ! $ use1 W (‵ Own ⊛ ‵ Own) (shr-slice-copy 𝓤 H A W (named 0) κ u8 .twice s (v ∷ [])) $ split ! $ move ! (0 ∷ 2 ∷ []) $ fjoin ! $ frame ! $
-      -- [what the bytes own]: what the fields own together, of it and of the place's facts, is what the struct owns
+      -- [what the bytes own]: this and the facts of the place are what the fields own together, and that is what the struct owns
       nothing ! $ owned ! usize (Is usize) (uint-makes 𝓤 H A W w64) 0 _ (refl, lit< tt) $ fjoin ! $ move ! (1 ∷ 0 ∷ []) $ fjoin ! $ by ! (own-shut 𝓤 H A W (T.the-type α) (T′.the-laws α) (s, (0, tt)))
 
   module _ (C : Calls 𝓤 H) (Λ : Loops 𝓤 H) where

@@ -1,4 +1,4 @@
--- What matching leaves in the lent numbers: `sweep` of the counter orders, its trades as records in the room, and the answer.
+-- What matching leaves in the lent numbers: the counter orders after `sweep`, its trades as records in the room, and the answer.
 use Prim.Native.Nat.{ℕ, _+_, _-_, _*_, _≤_}
 use mathlib.Core.Path.{_≡_}
 use mathlib.Core.Bool.{Bool, _&&_, not}
@@ -18,7 +18,7 @@ use Rattle.matching_law.specs.declared.AtPrice.{AtPrice}
 use Rattle.matching_law.specs.declared.Passed.{Passed}
 use Rattle.matching_law.specs.declared.Matched.{Matched}
 
--- ---- the whole of a sweep
+-- ---- a whole sweep
 
 abbrev pub takerOf : Incoming → Taker
 takerOf x = taker (x .side) (x .kind) (x .range)
@@ -27,11 +27,11 @@ takerOf x = taker (x .side) (x .kind) (x .range)
 abbrev pub sweptOf : Incoming → List Order → Swept
 sweptOf x os = sweep (takerOf x) 0 (x .lots) os
 
--- the reports of these fills, as they stand in the room
+-- the trade reports of these fills, as they stand in the room
 abbrev pub recordsFor : Incoming → List Order → List ℕ
 recordsFor x fills = recordsOf (tradeReports (x .time) (x .side) (x .number) fills)
 
--- the answer, of a sweep whose reports begin at a place
+-- what is answered for a sweep whose reports begin at a place of the room
 abbrev pub matchedOf : Incoming → ℕ → Swept → Matched
 matchedOf x at w =
     record {
@@ -43,7 +43,7 @@ matchedOf x at w =
       out = w .out;
     }
 
--- table t of the counter orders os and the room become t′ and room′, and r is the answer
+-- a sweep of the counter orders os turns their table t into t′ and the room into room′, and answers r
 pub record SweptInto (x : Incoming) (os : List Order) (t room : List ℕ) (at : ℕ) (t′ room′ : List ℕ) (r : Matched) : Type 0 where
   pub book : t′ ≡ tableOf (sweptOf x os .rest) t
   pub told : room′ ≡ put room at (recordsFor x (sweptOf x os .fills))
@@ -51,8 +51,8 @@ pub record SweptInto (x : Incoming) (os : List Order) (t room : List ℕ) (at : 
 
 -- ---- one counter price
 
--- the incoming order trades there if the price fits, is in range and not beyond the mark; it stops for want of range if the price fits
--- and is not in range
+-- the order trades there if the price fits, is in range and is not beyond the mark; its remainder is cancelled as out of range if the price
+-- fits and is not in range
 abbrev pub atPriceOf : Taker → ℕ → ℕ → AtPrice
 atPriceOf q first price =
     record {
@@ -60,13 +60,13 @@ atPriceOf q first price =
       out = fits (q .side) (q .kind) price && not (inRange (q .range) price);
     }
 
--- ---- a sweep on its way
+-- ---- a sweep at some point of its loop
 
--- the report of a fill
+-- the trade report of a fill
 abbrev pub fillReport : Incoming → Order → Report
 fillReport x f = reportAt (x .time) (Trade (dealOf (x .side) (x .number) f))
 
--- the first order has lost some lots
+-- orders of which the first has lost some lots
 unfoldable pub trim : ℕ → List Order → List Order
 trim lots [] = []
 trim lots (o ∷ os) = part o (o .lots - lots) ∷ os
@@ -75,7 +75,7 @@ unfoldable pub headLots : List Order → ℕ
 headLots [] = 0
 headLots (o ∷ os) = o .lots
 
--- all that a sweep leaves
+-- all that a sweep leaves behind
 pub record End : Type 0 where
   pub rest : List Order
   pub left : ℕ
@@ -84,7 +84,7 @@ pub record End : Type 0 where
   pub out : Bool
   pub room : List ℕ
 
--- what w leaves, after `done` trades, the last of them at this price, whose reports stand in the room from `at` on
+-- what a sweep that comes to w leaves, where `done` trades were made before it, the last at `last`, and their reports stand from `at` on
 abbrev pub endOf : Incoming → ℕ → ℕ → ℕ → List ℕ → Swept → End
 endOf x at done last room w =
     record {
@@ -96,16 +96,16 @@ endOf x at done last room w =
       room = put room (at + recordLength * done) (recordsFor x (w .fills));
     }
 
--- what a sweep leaves from a state on its way: `done` trades, the first and the last of them at these prices, and so many lots left
--- before the orders os
+-- what a sweep leaves that has come to this point: `done` trades, the first and the last at these prices, and so many lots left with the
+-- orders os ahead
 unfoldable pub finish : Incoming → ℕ → ℕ → ℕ → ℕ → ℕ → List Order → List ℕ → End
 finish x at done first last lots os room = endOf x at done last room (sweep (takerOf x) first lots os)
 
--- what the loop says when it stops before slot i
+-- the loop's answer when it stops before slot i
 abbrev pub passedWhole : ℕ → ℕ → ℕ → Bool → Passed
 passedWhole i left last out = record { whole = i; part = 0; left = left; trades = i; last = last; out = out }
 
--- the loop's answer, over n orders, is how the sweep ends
+-- the loop's answer, over a table of n orders, says how the sweep ends
 pub record Passes (n : ℕ) (os : List Order) (end : End) (room : List ℕ) (r : Passed) : Type 0 where
   pub within : r .whole ≤ n
   pub few : r .trades ≤ n

@@ -1,4 +1,4 @@
--- By the reason.
+-- Each arm is a case of the definition: a reason, or a number that is none.
 use borrow.Author.Needs.{needs}
 use Rattle.records.proofs.ended_from.Statement.{statement}
 use Rattle.records.proofs.ended_from.Tie as tie

@@ -1,4 +1,4 @@
--- Six numbers stand there, or too few.
+-- Six numbers stand there and are read, or there are too few.
 use Rattle.records_law.proofs.Told.{too-few, past-end, told-there}
 use borrow.Author.Needs.{needs}
 use Rattle.records.proofs.read_record.Statement.{statement}

@@ -1,4 +1,4 @@
--- By the kind.
+-- Kind by kind: each return is answered by the test of its kind.
 use Rattle.records_law.proofs.Told.{numbered}
 use Rattle.records_law.specs.Back.{reportFrom}
 use borrow.Author.Needs.{needs}

@@ -1,4 +1,4 @@
--- By the tests, in their order.
+-- The code tests for the numbers of reasons in the definition's order.
 use Rattle.records_law.proofs.Told.{numbered}
 use Rattle.records.proofs.why_from.Statement.{statement}
 use Rattle.records.proofs.why_from.Tie as tie

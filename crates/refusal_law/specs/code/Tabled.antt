@@ -1,4 +1,4 @@
--- What code knows of a session and the tables that are lent with it, before it looks into them.
+-- What the code knows of a session and its lent tables before it reads them.
 use Prim.Native.Nat.{ℕ, _≤_}
 use mathlib.Core.Bool.{Bool}
 use mathlib.Core.List.{List}
@@ -13,7 +13,7 @@ use Rattle.state_law.specs.declared.Session.{Session}
 use Rattle.refusal_law.specs.Carried.{carries}
 use Rattle.refusal_law.specs.Refusals.{lifeHasPlace}
 
--- the tables are long enough, and the live counts are no more than they have slots for
+-- the tables are long enough, and the live counts are no more than the slots of a table
 pub record Tabled (s : Session) (buys sells : List ℕ) : Type 0 where
   pub buys-few : s .live .buys ≤ slots
   pub sells-few : s .live .sells ≤ slots
@@ -25,6 +25,6 @@ abbrev pub liveOn : Side → Session → ℕ
 liveOn Buy s = s .live .buys
 liveOn Sell s = s .live .sells
 
--- row 10, by the live counts
+-- row 10, judged by the live counts
 unfoldable pub placeFor : Session → Act → Bool
 placeFor s a = ofAny (λ n. lifeHasPlace sizes (n .life) (liveOn (n .side) s)) (carries a .entry)

@@ -1,4 +1,4 @@
--- The slab is tested only where the time is found to be small.
+-- Each return is answered by its test; the slab is tested only where the time is small.
 use borrow.Author.Needs.{needs}
 use Rattle.terms.proofs.Logic.{conditions}
 use Rattle.soundness_law.specs.Sound.{clockSound}

@@ -1,4 +1,4 @@
--- The book is looked at only where the session's numbers are sound.
+-- The book is judged only where the session's numbers are sound.
 use borrow.Author.Needs.{needs}
 use native.Mathlib.Omega.{arith}
 use Rattle.soundness_law.proofs.Clocked.{clocked-found, dividing-found}

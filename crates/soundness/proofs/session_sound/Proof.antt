@@ -1,4 +1,4 @@
--- What is remembered is tested only where the single numbers are within bounds.
+-- What is remembered of trades is tested only where the other numbers are within their bounds.
 use borrow.Author.Needs.{needs}
 use Rattle.terms.proofs.Logic.{conditions}
 use Rattle.soundness_law.specs.Sound.{sessionSound}

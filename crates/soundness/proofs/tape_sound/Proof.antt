@@ -1,4 +1,4 @@
--- The tests of the definition, in its order.
+-- The code makes the definition's tests in the same order.
 use borrow.Author.Needs.{needs}
 use Rattle.terms.proofs.Logic.{conditions}
 use Rattle.soundness_law.specs.Sound.{tapeSound}

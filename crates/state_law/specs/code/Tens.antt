@@ -1,4 +1,4 @@
--- What is true of every session that code holds, since its two arrays have ten places: so have the lists that stand for them.
+-- A session in code has two arrays of ten numbers; in the definitions these are lists, of which this says that they have ten.
 use mathlib.Core.Path.{_≡_}
 use lib.ListN.{length}
 use Rattle.state_law.specs.declared.Session.{Session}

@@ -1,4 +1,4 @@
--- None of the orders before slot i has the number, so the first that does is counted from there.
+-- No order before slot i has the number, so the search goes on from there.
 use borrow.Author.Needs.{needs}
 use Prim.Native.Nat.{_+_, _-_, _≤_}
 use mathlib.Core.Path.{_≡_}

@@ -1,4 +1,4 @@
--- Each test of the code is a test of the definition.
+-- Each test of the code is one of the definition's.
 use Rattle.book_law.specs.Priority.{ahead}
 use borrow.Author.Needs.{needs}
 use Rattle.book.proofs.side.is_ahead.Statement.{statement}

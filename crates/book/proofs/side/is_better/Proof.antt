@@ -1,4 +1,4 @@
--- An arm for each side.
+-- One arm for each side, each with the definition's comparison.
 use borrow.Author.Needs.{needs}
 use Rattle.book.proofs.side.is_better.Statement.{statement}
 use Rattle.book.proofs.side.is_better.Tie as tie

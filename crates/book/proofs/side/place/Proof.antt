@@ -1,4 +1,4 @@
--- None of the orders before slot i passes the test, so the first that does is counted from there.
+-- The new order goes behind every order in the slots below i, so the search goes on from there.
 use borrow.Author.Needs.{needs}
 use Prim.Native.Nat.{_+_, _-_, _≤_}
 use mathlib.Core.Path.{_≡_}

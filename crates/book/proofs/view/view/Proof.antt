@@ -1,4 +1,4 @@
--- The tests of the lengths in the definition's order, then an arm for each side.
+-- The lengths are tested in the definition's order, then each arm returns the live part of its side.
 use borrow.Author.Tests.{lt-ltb, le-ltb}
 use Rattle.book_law.specs.View.{viewOf}
 use borrow.Author.Needs.{needs}

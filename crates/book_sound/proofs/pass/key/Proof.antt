@@ -1,4 +1,4 @@
--- An arm for each side.
+-- One arm for each side, each with the definition's key.
 use borrow.Author.Needs.{needs}
 use Rattle.book_sound_law.proofs.Turns.{key-buy, key-sell}
 use Rattle.book_sound.proofs.pass.key.Statement.{statement}

@@ -1,4 +1,4 @@
--- Each return by the test before it, the last by both.
+-- If the bounds fail, the order is not fine; if they hold, the test of the tick decides.
 use borrow.Author.Needs.{needs}
 use Rattle.book_sound_law.proofs.Turns.{fine-bounds, bounded-small, fine-tick}
 use Rattle.book_sound.proofs.pass.order_fine.Statement.{statement}

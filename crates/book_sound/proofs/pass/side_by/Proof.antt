@@ -1,4 +1,4 @@
--- The whole pass is what is left of it from the present key and map on; so are the marks.
+-- At each turn the rest of the pass, from the present key and map on, comes to what the whole pass does; so do the marks.
 use Prim.Native.Nat.{_-_, _≤_}
 use mathlib.Core.Path.{_≡_}
 use lib.ListN.{length, drop}

@@ -1,4 +1,4 @@
--- A smaller map that finds no clash is believed; otherwise the large map answers.
+-- A small map that finds no equal low bits has shown the numbers distinct; otherwise the large map decides.
 use borrow.Author.Needs.{needs}
 use Rattle.book_sound_law.proofs.LowBits.{no-clash, all-numbers}
 use Rattle.book_sound.proofs.pass.sides.Statement.{statement}

@@ -1,4 +1,4 @@
--- Each return is by the mask that its tests choose.
+-- Each return uses the mask that the tests before it choose.
 use borrow.Author.Needs.{needs}
 use Rattle.book_sound_law.proofs.Both.{by-medium, by-largest}
 use Rattle.book_sound.proofs.pass.sides_least.Statement.{statement}

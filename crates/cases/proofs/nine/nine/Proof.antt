@@ -1,4 +1,4 @@
--- Each number begins where the last one ended.
+-- Each number begins where the last one ended, so the place never leaves the text.
 use borrow.Author.Needs.{needs}
 use Prim.Native.Nat.{_-_, _≤_}
 use lib.ListN.{length}

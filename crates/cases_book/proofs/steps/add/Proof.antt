@@ -1,4 +1,4 @@
--- The tail is cleared, so the table holds its orders, and there is a slot more.
+-- The tail is cleared, so the table holds its orders, and there is a free slot.
 use Rattle.tables.proofs.Whole.{cleared-holds}
 use borrow.Author.Needs.{needs}
 use Rattle.cases_book.proofs.steps.add.Statement.{statement}

@@ -1,4 +1,4 @@
--- Counts and lengths stay what the steps need.
+-- At each turn the counts and lengths stay within what the steps ask for.
 use mathlib.Core.Path.{_≡_}
 use borrow.Author.Needs.{needs}
 use Prim.Native.Nat.{_-_, _≤_}

@@ -1,4 +1,4 @@
--- The tail is cleared, so the table holds its orders, and the room has place for a report of each.
+-- The tail is cleared, so the table holds its orders, and the room is long enough for a report of each.
 use Rattle.tables.proofs.Whole.{cleared-holds}
 use borrow.Author.Needs.{needs}
 use Rattle.cases_book.proofs.steps.sweep.Statement.{statement}

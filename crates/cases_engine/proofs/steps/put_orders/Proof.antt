@@ -1,4 +1,4 @@
--- A store keeps the length, and no more orders are put than there are numbers behind the place.
+-- A store keeps the table's length, and no more orders are put in than fit behind the place.
 use borrow.Author.Needs.{needs}
 use Prim.Native.Nat.{_-_, _≤_}
 use lib.ListN.{length}

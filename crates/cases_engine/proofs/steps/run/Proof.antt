@@ -1,4 +1,4 @@
--- The place goes up at each turn, and the lengths stay.
+-- The place goes up at each turn, and the tables and the room keep their lengths.
 use borrow.Author.Needs.{needs}
 use Prim.Native.Nat.{_-_, _≤_}
 use lib.ListN.{length}

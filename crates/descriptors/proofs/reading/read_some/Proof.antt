@@ -1,4 +1,4 @@
--- The buffer keeps its length; the turns that are left fall.
+-- The buffer keeps its length, and at each turn fewer turns are left.
 use borrow.Author.Needs.{needs}
 use mathlib.Core.Path.{_≡_}
 use lib.ListN.{length}

@@ -1,4 +1,4 @@
--- The turns that are left fall.
+-- At each turn fewer turns are left.
 use borrow.Author.Needs.{needs}
 use Rattle.descriptors.proofs.writing.write_some.Statement.{statement}
 use Rattle.descriptors.proofs.writing.write_some.Tie as tie

@@ -1,4 +1,4 @@
--- By the verdict.
+-- Each arm is a case of the definition: no refusal, or one.
 use borrow.Author.Needs.{needs}
 use Rattle.desk.proofs.calls.answer_to.Statement.{statement}
 use Rattle.desk.proofs.calls.answer_to.Tie as tie

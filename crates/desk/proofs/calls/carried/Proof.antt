@@ -1,4 +1,4 @@
--- What the call of the engine came to.
+-- Each arm leaves what the definition says of the engine's answer: reports, or a refusal.
 use Rattle.desk_law.proofs.Applying.{that-session, apply-few, apply-done, apply-refused}
 use borrow.Author.Needs.{needs}
 use Rattle.desk.proofs.calls.carried.Statement.{statement}

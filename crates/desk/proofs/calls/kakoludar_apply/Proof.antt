@@ -1,4 +1,4 @@
--- Two short runs, numbers that are no session's, and a session.
+-- Two slices may be too short; then the first is no session's, or it is one and the engine is called.
 use Rattle.desk_law.proofs.Applying.{apply-no-session, apply-no-event, told-session, apply-strange}
 use borrow.Author.Needs.{needs}
 use Rattle.desk.proofs.calls.kakoludar_apply.Statement.{statement}

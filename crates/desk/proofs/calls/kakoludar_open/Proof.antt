@@ -1,4 +1,4 @@
--- Two short runs, and the opening.
+-- Two slices may be too short; otherwise the session is opened.
 use Rattle.desk_law.proofs.Opens.{open-no-settings, open-no-session, open-done}
 use borrow.Author.Needs.{needs}
 use Rattle.desk.proofs.calls.kakoludar_open.Statement.{statement}

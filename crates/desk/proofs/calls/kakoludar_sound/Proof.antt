@@ -1,4 +1,4 @@
--- The tests of the lengths in the definition's order, then the session.
+-- The lengths are tested in the definition's order, then the session.
 use borrow.Author.Tests.{lt-ltb, le-ltb}
 use Rattle.desk_law.specs.Calls.{soundOn}
 use borrow.Author.Needs.{needs}

@@ -1,4 +1,4 @@
--- The session's run, and the side by its number.
+-- The session's numbers may be too few; then the code tests for the two sides' numbers.
 use borrow.Author.Tests.{lt-ltb, le-ltb, eq-eqb, ne-eqb}
 use Rattle.desk_law.specs.Calls.{viewOn}
 use borrow.Author.Needs.{needs}

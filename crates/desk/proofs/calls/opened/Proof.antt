@@ -1,4 +1,4 @@
--- By the test of the category.
+-- Each return is one case: the category is out of range, or it is one.
 use Rattle.desk_law.proofs.Opens.{opened-out, opened-in}
 use borrow.Author.Needs.{needs}
 use Rattle.desk.proofs.calls.opened.Statement.{statement}

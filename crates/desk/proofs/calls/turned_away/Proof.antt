@@ -1,4 +1,4 @@
--- By the test.
+-- Each return is one case: tables and room are long enough, or not.
 use Rattle.desk_law.proofs.Applying.{strange-small, strange-unsound}
 use borrow.Author.Needs.{needs}
 use Rattle.desk.proofs.calls.turned_away.Statement.{statement}

@@ -1,4 +1,4 @@
--- As many as the view has.
+-- The length is that of the view that the engine returns.
 use mathlib.Core.Path.{ap}
 use lib.ListN.{length}
 use borrow.Author.Needs.{needs}

@@ -1,4 +1,4 @@
--- A short run, and the three answers of the reader.
+-- The slice may be too short; otherwise each of the reader's three answers is one case.
 use Rattle.desk_law.proofs.LineReads.{settings-no-run, settings-whole-few, settings-whole, settings-unfinished, settings-wrong-few, settings-wrong}
 use borrow.Author.Needs.{needs}
 use Rattle.desk.proofs.line_calls.kakoludar_read_settings.Statement.{statement}

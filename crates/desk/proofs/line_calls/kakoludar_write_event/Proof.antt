@@ -1,4 +1,4 @@
--- A short run, an event, or none.
+-- The slice may be too short; otherwise its numbers are an event's, or no event's.
 use Rattle.desk_law.proofs.LineWrites.{event-no-run, event-few, event-written, event-none}
 use borrow.Author.Needs.{needs}
 use Rattle.desk.proofs.line_calls.kakoludar_write_event.Statement.{statement}

@@ -1,4 +1,4 @@
--- A short run, a report, or none.
+-- The slice may be too short; otherwise its numbers are a report's, or no report's.
 use Rattle.desk_law.proofs.LineWrites.{report-no-run, report-few, report-written, report-none}
 use borrow.Author.Needs.{needs}
 use Rattle.desk.proofs.line_calls.kakoludar_write_report.Statement.{statement}

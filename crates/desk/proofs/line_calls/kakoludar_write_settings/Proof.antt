@@ -1,4 +1,4 @@
--- A short run, no category, or settings.
+-- The slice may be too short; otherwise the category is none, or settings are written.
 use Rattle.desk_law.proofs.LineWrites.{settings-no-run, settings-few, settings-written, settings-none}
 use borrow.Author.Needs.{needs}
 use Rattle.desk.proofs.line_calls.kakoludar_write_settings.Statement.{statement}

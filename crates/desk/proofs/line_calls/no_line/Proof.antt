@@ -1,3 +1,4 @@
+-- Each return is one case: the line room is too short, or there is nothing to write.
 use borrow.Author.Needs.{needs}
 use Rattle.desk_law.proofs.LineWrites.{no-line-short, no-line-done}
 use Rattle.desk.proofs.line_calls.no_line.Statement.{statement}

@@ -1,4 +1,4 @@
--- By the writer's answer.
+-- Each arm is a case of the writer's answer: bytes written, or a refusal.
 use borrow.Author.Needs.{needs}
 use Rattle.desk.proofs.line_calls.wrote.Statement.{statement}
 use Rattle.desk.proofs.line_calls.wrote.Tie as tie

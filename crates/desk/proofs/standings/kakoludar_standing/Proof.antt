@@ -1,4 +1,4 @@
--- Two short runs, and the look.
+-- Two slices may be too short; otherwise the engine is asked, and its answer written.
 use borrow.Author.Needs.{needs}
 use Rattle.desk_law.proofs.Stands.{stand-no-session, stand-no-standing, stand-done}
 use Rattle.desk.proofs.standings.kakoludar_standing.Statement.{statement}

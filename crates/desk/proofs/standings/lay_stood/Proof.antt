@@ -1,4 +1,4 @@
--- By the verdict.
+-- Each arm is a case of the verdict: the standing is written, or the call is refused.
 use borrow.Author.Needs.{needs}
 use Rattle.desk_law.proofs.Stands.{stood-not, stood-laid}
 use Rattle.desk.proofs.standings.lay_stood.Statement.{statement}

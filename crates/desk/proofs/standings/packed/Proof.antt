@@ -1,4 +1,4 @@
--- The numbers in their order.
+-- The code lists the definition's numbers in the same order.
 use borrow.Author.Needs.{needs}
 use Rattle.desk_law.proofs.Stands.{standing-packed}
 use Rattle.desk.proofs.standings.packed.Statement.{statement}

@@ -1,4 +1,4 @@
--- By the stop.
+-- Each arm returns the number that the definition gives to that stop.
 use borrow.Author.Needs.{needs}
 use Rattle.desk.proofs.texts.answer_to.Statement.{statement}
 use Rattle.desk.proofs.texts.answer_to.Tie as tie

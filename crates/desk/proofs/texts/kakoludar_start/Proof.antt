@@ -1,4 +1,4 @@
--- A short run, and the start.
+-- The slice may be too short; otherwise a run that has just begun is written.
 use Rattle.desk_law.proofs.TextFeeds.{start-no-run, start-done}
 use borrow.Author.Needs.{needs}
 use Rattle.desk.proofs.texts.kakoludar_start.Statement.{statement}

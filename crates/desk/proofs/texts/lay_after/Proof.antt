@@ -1,4 +1,4 @@
--- The run, then two numbers.
+-- The run's numbers are written, then the two counts.
 use Rattle.desk_law.proofs.TextFeeds.{after-laid}
 use borrow.Author.Needs.{needs}
 use Rattle.desk.proofs.texts.lay_after.Statement.{statement}

@@ -1,3 +1,4 @@
+-- Each return is one case: the call is refused and writes nothing, or run and counts are written.
 use borrow.Author.Needs.{needs}
 use Rattle.desk_law.proofs.TextFeeds.{laid-not, laid-both}
 use Rattle.desk.proofs.texts.lay_taken.Statement.{statement}

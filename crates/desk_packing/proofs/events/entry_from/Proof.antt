@@ -1,4 +1,4 @@
--- By the number of its kind.
+-- The code tests for the numbers of kinds in the definition's order.
 use Rattle.records_law.proofs.Told.{numbered}
 use borrow.Author.Needs.{needs}
 use Rattle.desk_packing.proofs.events.entry_from.Statement.{statement}

@@ -1,4 +1,4 @@
--- By its six numbers.
+-- The code reads the six numbers that the definition reads.
 use Rattle.desk_packing_law.specs.Events.{foundIn}
 use borrow.Author.Needs.{needs}
 use Rattle.desk_packing.proofs.events.find.Statement.{statement}

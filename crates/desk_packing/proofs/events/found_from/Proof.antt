@@ -1,4 +1,4 @@
--- By the number of what it does.
+-- Each return is answered by the test for what the event does.
 use Rattle.records_law.proofs.Told.{numbered}
 use Rattle.desk_packing_law.specs.Events.{foundFrom}
 use borrow.Author.Needs.{needs}

@@ -1,4 +1,4 @@
--- By what it does.
+-- Act by act: each arm returns the numbers that the definition lists.
 use Rattle.desk_packing_law.proofs.Packs.{packs-entry, packs-act}
 use borrow.Author.Needs.{needs}
 use Rattle.desk_packing.proofs.events.pack.Statement.{statement}

@@ -1,4 +1,4 @@
--- By the test.
+-- Both outcomes of the test are the definition's.
 use Rattle.desk_packing.proofs.events.told_if.Statement.{statement}
 use Rattle.desk_packing.proofs.events.told_if.Tie as tie
 

@@ -1,4 +1,4 @@
--- By what was found.
+-- Each arm is a case of the definition: an event was found, or none.
 use Rattle.desk_packing_law.proofs.Packs.{an-event, no-event}
 use borrow.Author.Needs.{needs}
 use Rattle.desk_packing.proofs.events.unpack.Statement.{statement}

@@ -1,4 +1,4 @@
--- After j turns the first j numbers of the run are laid.
+-- After j turns the first j numbers are written.
 use Prim.Native.Nat.{_≤_, _-_}
 use native.Mathlib.Omega.{arith}
 use mathlib.Core.Path.{_≡_}

@@ -1,4 +1,4 @@
--- A session of zeros.
+-- The session of zeros is the fixed session.
 use Rattle.desk_packing_law.proofs.Packs.{zeros-fixed}
 use borrow.Author.Needs.{needs}
 use Rattle.desk_packing.proofs.sessions.fixed.Statement.{statement}

@@ -1,4 +1,4 @@
--- All three tests.
+-- The code makes the definition's three tests.
 use Rattle.desk_packing_law.proofs.Packs.{session-tested}
 use borrow.Author.Needs.{needs}
 use Rattle.desk_packing.proofs.sessions.is_session.Statement.{statement}

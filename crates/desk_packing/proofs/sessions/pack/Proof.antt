@@ -1,4 +1,4 @@
--- Number by number; the category and whether it is closed by their numbers.
+-- Each number is the definition's; category and closed flag come from calls.
 use Rattle.desk_packing_law.proofs.Packs.{packed-right}
 use borrow.Author.Needs.{needs}
 use Rattle.desk_packing.proofs.sessions.pack.Statement.{statement}

@@ -1,4 +1,4 @@
--- Section by section.
+-- Each section is what its call returns.
 use Rattle.desk_packing_law.proofs.Packs.{sections}
 use borrow.Author.Needs.{needs}
 use Rattle.desk_packing.proofs.sessions.session_of.Statement.{statement}

@@ -1,4 +1,4 @@
--- Number by number; the two arrays by their ten numbers each.
+-- Each number is the definition's; the two arrays come from calls.
 use Rattle.desk_packing_law.proofs.Packs.{tape-with}
 use borrow.Author.Needs.{needs}
 use Rattle.desk_packing.proofs.sessions.tape_at.Statement.{statement}

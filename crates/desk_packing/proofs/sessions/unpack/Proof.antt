@@ -1,4 +1,4 @@
--- By the test.
+-- Each return is one case: the numbers are a session's, or not.
 use Rattle.desk_packing_law.proofs.Packs.{no-session, a-session}
 use borrow.Author.Needs.{needs}
 use Rattle.desk_packing.proofs.sessions.unpack.Statement.{statement}

@@ -1,4 +1,4 @@
--- Number by number.
+-- Each number is the definition's.
 use Rattle.desk_packing_law.specs.Settings.{settingsNumbers}
 use borrow.Author.Needs.{needs}
 use Rattle.desk_packing.proofs.settings.pack.Statement.{statement}

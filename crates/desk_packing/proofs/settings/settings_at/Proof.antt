@@ -1,4 +1,4 @@
--- Number by number; the category by its row.
+-- Each field is the definition's; the category comes from a call.
 use Rattle.desk_packing_law.proofs.Packs.{settings-with}
 use borrow.Author.Needs.{needs}
 use Rattle.desk_packing.proofs.settings.settings_at.Statement.{statement}

@@ -1,4 +1,4 @@
--- Whatever is left of the sweep from the present state is what was left of it at the start: that is what the loop holds.
+-- At each turn, going on from here leaves what the whole sweep leaves: that is what the loop keeps.
 use borrow.Author.Needs.{needs}
 use Prim.Native.Nat.{_+_, _-_, _*_, _≤_}
 use mathlib.Core.Path.{_≡_}

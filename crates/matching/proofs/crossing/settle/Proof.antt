@@ -1,4 +1,4 @@
--- The order that was cut short is changed in its slot, then the orders before it are taken out.
+-- The order that traded in part is changed in its slot, then the orders before it are taken out.
 use Rattle.matching_law.proofs.Settles.{settle-none, settle-low, settle-fits, settle-less, settle-holds, settle-done, head-there}
 use borrow.Author.Needs.{needs}
 use Rattle.matching.proofs.crossing.settle.Statement.{statement}

@@ -1,4 +1,4 @@
--- The loop's answer says how the sweep ends; the settled table is its rest.
+-- The loop's answer says how the sweep ends, and the settled table holds the orders that it leaves.
 use Rattle.matching_law.proofs.Settles.{swept-into}
 use borrow.Author.Needs.{needs}
 use Rattle.matching.proofs.crossing.sweep.Statement.{statement}

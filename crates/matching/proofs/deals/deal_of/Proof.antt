@@ -1,4 +1,4 @@
--- An arm for each side.
+-- One arm for each side, each with the definition's deal.
 use borrow.Author.Needs.{needs}
 use Rattle.matching.proofs.deals.deal_of.Statement.{statement}
 use Rattle.matching.proofs.deals.deal_of.Tie as tie

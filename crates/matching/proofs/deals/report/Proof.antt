@@ -1,4 +1,4 @@
--- The record is that of the deal which the call before made.
+-- The record is that of the deal that the call before it made.
 use borrow.Author.Needs.{needs}
 use Rattle.matching.proofs.deals.report.Statement.{statement}
 use Rattle.matching.proofs.deals.report.Tie as tie

@@ -1,4 +1,4 @@
--- An arm for each kind of order; a mark of 0 is none.
+-- One arm for each kind of order; a first price of 0 means that it has not traded.
 use borrow.Author.Needs.{needs}
 use Rattle.matching.proofs.prices.is_beyond.Statement.{statement}
 use Rattle.matching.proofs.prices.is_beyond.Tie as tie

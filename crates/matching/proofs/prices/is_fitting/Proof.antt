@@ -1,4 +1,4 @@
--- An arm for each kind of order.
+-- One arm for each kind of order; a market order fits any price.
 use borrow.Author.Needs.{needs}
 use Rattle.matching.proofs.prices.is_fitting.Statement.{statement}
 use Rattle.matching.proofs.prices.is_fitting.Tie as tie

@@ -1,4 +1,4 @@
--- An arm for each side.
+-- One arm for each side, each with the definition's comparison.
 use borrow.Author.Needs.{needs}
 use Rattle.matching.proofs.prices.is_within.Statement.{statement}
 use Rattle.matching.proofs.prices.is_within.Tie as tie

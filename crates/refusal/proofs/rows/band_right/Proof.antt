@@ -1,4 +1,4 @@
--- An arm for each act.
+-- Act by act: each arm makes the test that row 8 makes of it.
 use Rattle.refusal_law.specs.Refusals.{bandRight}
 use Rattle.state_law.specs.Clock.{clockStep}
 use borrow.Author.Needs.{needs}

@@ -1,4 +1,4 @@
--- The lots and the price of the definition's first case.
+-- The code tests the lots and the limit, as row 4 does.
 use mathlib.Core.Path.{refl}
 use borrow.Author.Needs.{needs}
 use Rattle.refusal_law.proofs.Carried.{entry-right}

@@ -1,4 +1,4 @@
--- The time and the other numbers.
+-- The code tests the time, then the other numbers, as row 4 does.
 use borrow.Author.Needs.{needs}
 use Rattle.terms.specs.Truth.{_⊓_}
 use Rattle.refusal.proofs.rows.event_right.Statement.{statement}

@@ -1,4 +1,4 @@
--- A cascade of refusals, in the table's order.
+-- The code tries the rows in the table's order, and each return is answered by the row that failed.
 use borrow.Author.Needs.{needs}
 use Rattle.terms.proofs.Cascade.{cascade}
 use Rattle.state_law.proofs.Fits.{tick-some}

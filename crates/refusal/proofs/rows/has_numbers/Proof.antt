@@ -1,4 +1,4 @@
--- An arm for each act.
+-- Act by act: each arm makes the test that row 11 makes of it.
 use Rattle.refusal_law.specs.Refusals.{hasNumbers}
 use borrow.Author.Needs.{needs}
 use Rattle.terms.specs.Truth.{_⊓_}

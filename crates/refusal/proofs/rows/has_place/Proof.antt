@@ -1,4 +1,4 @@
--- An arm for each act.
+-- Act by act: each arm makes the test that row 10 makes of it.
 use Rattle.refusal_law.specs.code.Tabled.{placeFor}
 use borrow.Author.Needs.{needs}
 use Rattle.refusal.proofs.rows.has_place.Statement.{statement}

@@ -1,4 +1,4 @@
--- Both sides.
+-- One arm for each side, each with its live count.
 use borrow.Author.Needs.{needs}
 use Rattle.refusal.proofs.rows.held.Statement.{statement}
 use Rattle.refusal.proofs.rows.held.Tie as tie

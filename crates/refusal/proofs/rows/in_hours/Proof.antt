@@ -1,4 +1,4 @@
--- An arm for each act.
+-- Act by act: each arm makes the test that row 6 makes of it.
 use Rattle.refusal_law.specs.Refusals.{inHours}
 use borrow.Author.Needs.{needs}
 use Rattle.refusal.proofs.rows.in_hours.Statement.{statement}

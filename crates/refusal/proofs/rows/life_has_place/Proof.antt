@@ -1,4 +1,4 @@
--- Both lives.
+-- A day order needs a free slot, an ioc order none.
 use borrow.Author.Needs.{needs}
 use Rattle.refusal.proofs.rows.life_has_place.Statement.{statement}
 use Rattle.refusal.proofs.rows.life_has_place.Tie as tie

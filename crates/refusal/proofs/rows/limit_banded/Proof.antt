@@ -1,4 +1,4 @@
--- Both kinds.
+-- A limit is tested, a market order has none.
 use borrow.Author.Needs.{needs}
 use Rattle.refusal.proofs.rows.limit_banded.Statement.{statement}
 use Rattle.refusal.proofs.rows.limit_banded.Tie as tie

@@ -1,4 +1,4 @@
--- An arm for each act.
+-- Act by act: each arm makes the test that row 4 makes of it.
 use Rattle.refusal_law.specs.Refusals.{numbersRight}
 use borrow.Author.Needs.{needs}
 use Rattle.terms.specs.Truth.{_⊓_}

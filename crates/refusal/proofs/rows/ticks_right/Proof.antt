@@ -1,4 +1,4 @@
--- An arm for each act.
+-- Act by act: each arm makes the test that row 7 makes of it.
 use Rattle.refusal_law.specs.Refusals.{ticksRight}
 use borrow.Author.Needs.{needs}
 use Rattle.refusal.proofs.rows.ticks_right.Statement.{statement}

@@ -1,4 +1,4 @@
--- A sound session is within the bounds that the other rows compute with.
+-- Row 2 comes first; a session that passes it is within the bounds that the other rows compute with.
 use borrow.Author.Needs.{needs}
 use Rattle.terms.proofs.Cascade.{cascade}
 use mathlib.Core.Path.{sym, _∙_}

@@ -1,4 +1,4 @@
--- A case of the close price each: the half hour, the last ten, the last trade or the previous close.
+-- Each return is one case of the close price: the half hour, the last ten, or else the last trade or the previous close.
 use borrow.Author.Needs.{needs}
 use Rattle.rules_law.proofs.Tapes.{closings}
 use Rattle.rules.proofs.close.closing.Statement.{statement}

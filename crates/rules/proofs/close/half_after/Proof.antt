@@ -1,4 +1,4 @@
--- One trade more where it is late, the same tally where it is not.
+-- A late trade is added to the tally, and any other leaves it as it was.
 use borrow.Author.Needs.{needs}
 use Rattle.rules.proofs.close.half_after.Statement.{statement}
 use Rattle.rules.proofs.close.half_after.Tie as tie

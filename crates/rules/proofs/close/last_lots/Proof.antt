@@ -1,4 +1,4 @@
--- The last of the ten sizes.
+-- The newest of the remembered sizes is the last trade's lots.
 use Rattle.rules_law.specs.Close.{lastLots}
 use borrow.Author.Needs.{needs}
 use Rattle.rules.proofs.close.last_lots.Statement.{statement}

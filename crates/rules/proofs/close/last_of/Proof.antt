@@ -1,4 +1,4 @@
--- The place of the last trade is 9 where ten are remembered, and the number of trades less one before that.
+-- Where ten trades are remembered the last stands in place 9; where fewer are, one place before the next free one.
 use borrow.Author.Tests.{eq-eqb}
 use borrow.Author.Needs.{needs}
 use Rattle.rules_law.proofs.Tapes.{last-of-ten, last-of-few}

@@ -1,4 +1,4 @@
--- The last of the ten prices.
+-- The newest of the remembered prices is the last trade's.
 use Rattle.rules_law.specs.Close.{lastOr}
 use borrow.Author.Needs.{needs}
 use Rattle.rules.proofs.close.last_or.Statement.{statement}

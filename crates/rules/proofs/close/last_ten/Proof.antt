@@ -1,4 +1,4 @@
--- The tally of the ten is that of what is left, from the tally so far; each trade of the ten fits.
+-- After i turns the first i trades are in the tally, and the rest added to it gives the tally of all ten; no sum overflows.
 use borrow.Author.Needs.{needs}
 use Prim.Native.Nat.{_-_}
 use Rattle.rules_law.proofs.Tapes.{Tallying, ten-turn, ten-end}

@@ -1,4 +1,4 @@
--- The lots times the tick are within bounds, so twice the value and the unit fit.
+-- Lots times tick is bounded, so twice the value and the unit fit into a word.
 use borrow.Author.Needs.{needs}
 use Rattle.rules_law.specs.Close.{nearest}
 use Rattle.rules_law.proofs.Averages.{nearest-small}

@@ -1,4 +1,4 @@
--- With fewer than ten a store at the next place, with ten a shift.
+-- With fewer than ten remembered the code stores at the next place; with ten it shifts them.
 use borrow.Author.Tests.{lt-ltb}
 use Rattle.rules_law.specs.Close.{remembered}
 use borrow.Author.Needs.{needs}

@@ -1,4 +1,4 @@
--- The sums of the definition, with the product from a call.
+-- The code adds what the definition adds; price times lots comes from a call.
 use Rattle.rules_law.specs.Close.{tallied}
 use borrow.Author.Needs.{needs}
 use Rattle.rules.proofs.close.tally_after.Statement.{statement}

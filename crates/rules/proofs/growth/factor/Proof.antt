@@ -1,4 +1,4 @@
--- The source's table is the list that the definition computes, and the test of that list is carried to the entry.
+-- The table in the source is the list that the definition computes, and the test of that list holds of this entry.
 use borrow.Author.Needs.{needs}
 use Rattle.rules_law.proofs.Factors.{factors, factor-is}
 use Rattle.rules.proofs.growth.factor.Statement.{statement}

@@ -1,4 +1,4 @@
--- The product of an underlying and a factor fits, and its quotient is at most 110,600,000.
+-- The product of an underlying and a factor fits into a word, and the quotient is at most 110,600,000.
 use Rattle.rules_law.specs.Growth.{theoretical}
 use borrow.Author.Needs.{needs}
 use native.Mathlib.Omega.{arith}

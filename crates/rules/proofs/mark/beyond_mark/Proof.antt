@@ -1,4 +1,4 @@
--- A price beyond 102 or 98 hundredths of the first, in whole paise.
+-- A price is compared with 102 or 98 hundredths of the first, in whole paise, which answers as the definition does.
 use borrow.Author.Needs.{needs}
 use Rattle.rules_law.proofs.Ranges.{mark-buy, mark-sell}
 use Rattle.rules.proofs.mark.beyond_mark.Statement.{statement}

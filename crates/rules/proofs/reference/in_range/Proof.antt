@@ -1,4 +1,4 @@
--- The distance is compared with the reach, a two hundredth of percent times reference, rounded down.
+-- The distance is compared with the reach: percent times reference, over 200, rounded down.
 use borrow.Author.Needs.{needs}
 use native.Mathlib.Omega.{arith}
 use Rattle.rules_law.proofs.Ranges.{range-product, range-below, range-above}

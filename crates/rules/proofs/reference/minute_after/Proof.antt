@@ -1,4 +1,4 @@
--- The sums of the definition.
+-- The code adds what the definition adds.
 use mathlib.Core.Path.{refl}
 use Rattle.rules_law.specs.Reference.{minuteAfter}
 use borrow.Author.Needs.{needs}

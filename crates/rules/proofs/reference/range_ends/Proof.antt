@@ -1,4 +1,4 @@
--- The reach is at most the reference, so neither end leaves a word.
+-- The reach is at most the reference, so neither end under- or overflows.
 use borrow.Author.Needs.{needs}
 use native.Mathlib.Omega.{arith}
 use Rattle.rules_law.specs.Reference.{rangeLow, rangeHigh}

@@ -1,4 +1,4 @@
--- At most two boundaries tell: the first sees the minute's trades, and any later one settles the reference.
+-- At most two boundaries matter: the first sees the minute's trades, and after the second nothing changes any more.
 use borrow.Author.Needs.{needs}
 use Rattle.rules_law.proofs.Minutes.{reckonings}
 use Rattle.rules.proofs.reference.reckon.Statement.{statement}

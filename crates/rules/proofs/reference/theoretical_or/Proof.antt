@@ -1,4 +1,4 @@
--- Both cases of a known underlying.
+-- Each return is one case: an underlying is known, or none is.
 use borrow.Author.Tests.{eq-eqb, ne-eqb}
 use Rattle.rules_law.specs.Reference.{theoreticalOr}
 use borrow.Author.Needs.{needs}

@@ -1,4 +1,4 @@
--- The tests of the definition, in its order.
+-- The code makes the definition's tests in the same order.
 use borrow.Author.Tests.{eq-eqb, ne-eqb}
 use Rattle.rules_law.specs.Slabs.{coolingAfter}
 use borrow.Author.Needs.{needs}

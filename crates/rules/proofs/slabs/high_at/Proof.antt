@@ -1,4 +1,4 @@
--- No product wraps within the bounds of settings and percents.
+-- Within the bounds of settings and percents no product overflows.
 use mathlib.Core.Path.{refl}
 use Rattle.rules_law.specs.Slabs.{highAt}
 use borrow.Author.Needs.{needs}

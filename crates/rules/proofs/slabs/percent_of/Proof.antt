@@ -1,4 +1,4 @@
--- The two slabs.
+-- Each return is one case: the initial slab or the enhanced one.
 use borrow.Author.Tests.{eq-eqb, ne-eqb}
 use Rattle.rules_law.specs.Slabs.{percentOf}
 use borrow.Author.Needs.{needs}

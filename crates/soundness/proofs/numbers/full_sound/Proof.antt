@@ -1,4 +1,4 @@
--- A sound price is one in range and on the tick.
+-- A price is sound exactly where it is in its range and on the tick, so the two loops together test what the definition asks.
 use borrow.Author.Needs.{needs}
 use borrow.Author.Tests.{not-false}
 use mathlib.Core.Path.{sym, _∙_}

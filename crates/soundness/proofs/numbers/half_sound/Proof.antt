@@ -1,4 +1,4 @@
--- The products are made only where the lots are bounded.
+-- The products are computed only where the lots are bounded, so they do not overflow.
 use borrow.Author.Needs.{needs}
 use Rattle.soundness_law.specs.Sound.{halfSound}
 use borrow.Author.Tests.{not-false, leb-true}

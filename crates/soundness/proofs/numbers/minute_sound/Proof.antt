@@ -1,4 +1,4 @@
--- The sum is bounded only where the count is.
+-- The product is computed only where the count is bounded, so it does not overflow.
 use Rattle.soundness_law.specs.Sound.{minuteSound}
 use Rattle.terms.proofs.Logic.{conditions}
 use native.Mathlib.Omega.{arith}

@@ -1,4 +1,4 @@
--- A price is small enough for the factor.
+-- A price in its range is small enough for the factor.
 use borrow.Author.Needs.{needs}
 use borrow.Author.Tests.{not-false}
 use mathlib.Core.Path.{sym, _∙_}

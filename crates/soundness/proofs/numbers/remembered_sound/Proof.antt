@@ -1,4 +1,4 @@
--- Both lists of ten, by as many as are remembered.
+-- Prices and sizes are tested for as many trades as are remembered.
 use borrow.Author.Needs.{needs}
 use Rattle.terms.proofs.Logic.{conditions}
 use Rattle.soundness_law.specs.Sound.{rememberedSound}

@@ -1,4 +1,4 @@
--- The tests of the definition.
+-- The code makes the tests of the definition.
 use mathlib.Core.Path.{refl}
 use Rattle.soundness_law.specs.Sound.{slabSound}
 use borrow.Author.Needs.{needs}

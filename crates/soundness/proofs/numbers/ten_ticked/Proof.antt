@@ -1,4 +1,4 @@
--- What was tested so far passes as `all` says; a price is small enough for the factor.
+-- At each turn `all` says whether the prices tested so far pass; each price is small enough for the factor.
 use Prim.Native.Nat.{_≤_, _-_}
 use mathlib.Core.Path.{_≡_, refl}
 use native.Mathlib.Omega.{arith}

@@ -1,4 +1,4 @@
--- What was tested so far passes as `all` says.
+-- At each turn `all` says whether the numbers tested so far pass.
 use Prim.Native.Nat.{ℕ, _≤_, _-_}
 use native.Mathlib.Omega.{arith}
 use mathlib.Core.Path.{_≡_, refl}

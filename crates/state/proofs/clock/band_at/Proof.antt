@@ -1,4 +1,4 @@
--- The band at the percent of the row, after the widening that is due.
+-- The band is taken at the category's percent, after the widening that is due by then.
 use Rattle.state_law.specs.Clock.{clockStep}
 use borrow.Author.Needs.{needs}
 use Rattle.state.proofs.clock.band_at.Statement.{statement}

@@ -1,4 +1,4 @@
--- The band at the percent of the row.
+-- The band is taken at the percent that the category has now.
 use borrow.Author.Needs.{needs}
 use Rattle.state.proofs.force.band_now.Statement.{statement}
 use Rattle.state.proofs.force.band_now.Tie as tie

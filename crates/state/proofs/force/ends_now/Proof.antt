@@ -1,4 +1,4 @@
--- The ends of the range in force.
+-- The ends are those of the range in force.
 use borrow.Author.Needs.{needs}
 use Rattle.state_law.proofs.Fits.{range-fits}
 use Rattle.state.proofs.force.ends_now.Statement.{statement}

@@ -1,4 +1,4 @@
--- The percent of the row.
+-- The percent is read from the category's row.
 use borrow.Author.Needs.{needs}
 use Rattle.state.proofs.force.percent_now.Statement.{statement}
 use Rattle.state.proofs.force.percent_now.Tie as tie

@@ -1,4 +1,4 @@
--- The range of the row.
+-- The range goes by the initial percent of the category's row.
 use borrow.Author.Needs.{needs}
 use Rattle.state.proofs.force.range_now.Statement.{statement}
 use Rattle.state.proofs.force.range_now.Tie as tie

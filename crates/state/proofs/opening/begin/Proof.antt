@@ -1,4 +1,4 @@
--- Settings without a refusal are valid, and each verdict has its session.
+-- Settings that are not refused are valid, and each verdict returns its session.
 use Rattle.state_law.specs.Opening.{openingOf}
 use borrow.Author.Needs.{needs}
 use mathlib.Core.Path.{sym, _∙_}

@@ -1,4 +1,4 @@
--- Three stores in a row are one run.
+-- Three stores in a row write one run.
 use Prim.Native.Nat.{suc, _+_}
 use mathlib.Core.Path.{_≡_}
 use mathlib.Core.List.{[], _∷_}

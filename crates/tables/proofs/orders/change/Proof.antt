@@ -1,4 +1,4 @@
--- The slot's numbers are written over.
+-- The new order's numbers are written over those of its slot.
 use Rattle.tables.proofs.Whole.{swap-done}
 use borrow.Author.Needs.{needs}
 use Rattle.tables.proofs.orders.change.Statement.{statement}

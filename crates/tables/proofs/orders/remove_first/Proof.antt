@@ -1,4 +1,4 @@
--- A cut that starts at slot 0.
+-- It is a cut that starts at slot 0.
 use native.Mathlib.Nat.{zero-add}
 use borrow.Author.Needs.{needs}
 use Rattle.tables.proofs.orders.remove_first.Statement.{statement}

@@ -1,4 +1,4 @@
--- An arm for each kind of report.
+-- Kind by kind: each arm returns the fields that the definition lists.
 use borrow.Author.Needs.{needs}
 use Rattle.tables.proofs.room.fields.Statement.{statement}
 use Rattle.tables.proofs.room.fields.Tie as tie

@@ -1,4 +1,4 @@
--- Two runs of three numbers that touch are the record.
+-- The record is written as two runs of three numbers, one behind the other.
 use Rattle.tables.proofs.Written.{record-done}
 use borrow.Author.Needs.{needs}
 use Rattle.tables.proofs.room.put_record.Statement.{statement}

@@ -1,4 +1,4 @@
--- A cascade of two refusals; the ticks are tested only of settings in range.
+-- The code tries 12 and then 13, as the definition does; the ticks are tested only where the numbers are in range.
 use borrow.Author.Needs.{needs}
 use borrow.Author.Tests.{not-false}
 use mathlib.Core.Path.{sym, _∙_}

@@ -1,4 +1,4 @@
--- The ticks are tested only of settings in range.
+-- Each return is answered by its test; the ticks are tested only where the numbers are in range.
 use borrow.Author.Needs.{needs}
 use mathlib.Core.Path.{sym, _∙_}
 use borrow.Author.Tests.{not-false}

@@ -1,4 +1,4 @@
--- An arm for each refusal.
+-- Refusal by refusal: each arm returns the number that the definition gives it.
 use borrow.Author.Needs.{needs}
 use Rattle.terms.proofs.numbers.of_refusal.Statement.{statement}
 use Rattle.terms.proofs.numbers.of_refusal.Tie as tie

@@ -1,4 +1,4 @@
--- The quotient is at most the greatest number of 32 bits.
+-- The quotient is at most the greatest 32-bit number, so adding 1 does not overflow.
 use borrow.Author.Needs.{needs}
 use Rattle.terms.proofs.Multiples.{factor-fits}
 use Rattle.terms.proofs.ticks.factor.Statement.{statement}

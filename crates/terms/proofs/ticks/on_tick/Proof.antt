@@ -1,4 +1,4 @@
--- The products fit, and come back to the price just where it is a multiple of the tick.
+-- Neither product overflows, and they give the price back exactly where it is a multiple of the tick.
 use borrow.Author.Needs.{needs}
 use Rattle.terms.proofs.Multiples.{wide-fits, back-fits, tick-is}
 use Rattle.terms.proofs.ticks.on_tick.Statement.{statement}
