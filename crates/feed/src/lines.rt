@@ -16,7 +16,7 @@ ghost use lib.ListN.{length};
 ghost use Rattle.feed_law.specs.declared.Stop.{Stop};
 ghost use Rattle.feed_law.specs.Texts.{mostAt};
 ghost use Rattle.feed_law.specs.Turns.{stopAt};
-ghost use Rattle.feed_law.specs.Feeds.{LineTaken, TakenAs, TakenBy, takenTo, linesOf, fedOf, endedOf, EndsBehind};
+ghost use Rattle.feed_law.specs.Feeds.{LineTaken, TakenAs, TakenBy, linesOf, fedOf, endedOf, EndsBehind};
 
 // The output room that the reports of any event fit in.
 pub const TEXT: usize = lengths::REPORTS * sizes::LINE;
@@ -40,17 +40,6 @@ fn stop_at(stage: Stage) -> Stop
         Stage::Awaiting => Stop::Waits,
         Stage::Trading => Stop::Waits,
         Stage::Over => Stop::Over,
-    }
-}
-
-fn taken(run: Run, used: usize, wrote: usize, stop: Stop) -> Taken
-    ensures { λ r. ⌜ r ≡ takenTo run used wrote stop ⌝ }
-{
-    Taken {
-        run: run,
-        used: used,
-        wrote: wrote,
-        stop: stop,
     }
 }
 
@@ -134,7 +123,12 @@ pub fn take_lines(
     ensures { λ r. ⌜ TakenBy fedOf run (now (buys .entry)) (now (sells .entry)) (now (room .entry)) (now (bytes .entry)) (now (out .entry)) (now (buys .exit)) (now (sells .exit)) (now (room .exit)) (now (out .exit)) r ⌝ }
 {
     if !apply::is_roomy(buys, sells, room) {
-        return taken(run, 0, 0, Stop::Refused(Refusal::SmallRoom));
+        return Taken {
+            run: run,
+            used: 0,
+            wrote: 0,
+            stop: Stop::Refused(Refusal::SmallRoom),
+        };
     }
     while_room(run, bytes, buys, sells, room, out)
 }
@@ -150,14 +144,24 @@ fn finish(t: Taken, bytes: usize, out: &mut [u8]) -> Taken
     let stage = run.stage;
     let session = run.session;
     if out.len() - wrote < sizes::LINE {
-        return taken(run, used, wrote, Stop::Full);
+        return Taken {
+            run: run,
+            used: used,
+            wrote: wrote,
+            stop: Stop::Full,
+        };
     }
     let told = telling::tell_end(stage, bytes - used, &mut out[wrote..]);
     let over = Run {
         stage: Stage::Over,
         session: session,
     };
-    taken(over, used, wrote + told, Stop::Over)
+    Taken {
+        run: over,
+        used: used,
+        wrote: wrote + told,
+        stop: Stop::Over,
+    }
 }
 
 // The end behind lines that were taken, by why they stopped.
