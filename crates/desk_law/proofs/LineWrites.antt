@@ -16,12 +16,12 @@ use Rattle.terms.specs.declared.Verdict.the-variants.{Fine, Refused}
 use Rattle.terms.specs.Sizes.{recordLength, lineRoom}
 use Rattle.terms.specs.Refusals.{firstFailed}
 use Rattle.lines_text_law.specs.Numerals.{allWritable}
-use Rattle.lines_reading_law.specs.Lines.{renderEvent, renderSettings, eventNumbers, settingsNumbers}
+use Rattle.lines_reading_law.specs.Lines.{renderEvent, renderSettings, eventFigures, settingsFigures}
 use Rattle.records_law.specs.declared.ReadRecord.{ReadRecord}
 use Rattle.records_law.specs.Back.{RecordRead}
 use Rattle.records_law.proofs.Told.{told-right, told-only, six-at}
 use Rattle.lines_writing_law.specs.declared.Wrote.{Wrote}
-use Rattle.lines_writing_law.specs.Lines.{renderReport, reportNumbers}
+use Rattle.lines_writing_law.specs.Lines.{renderReport, reportFigures}
 use Rattle.lines_writing_law.specs.Writes.{lineVerdict, wroteOf, roomOf, Writes}
 use Rattle.desk_packing.specs.declared.events.FoundEvent.{FoundEvent}
 use Rattle.desk_packing.specs.Runs.{settingsLength, eventLength}
@@ -64,14 +64,14 @@ module _ (run room : List ℕ) (r : ℕ) where
     settings-none t x = refused-on _ SettingsRange _ room r (rw (le-ltb (length run) settingsLength h, ← k, not-true found t)) x
 
     pub settings-written : (g : Settings) (w : Wrote) (room′ : List ℕ) → not found ≡ false → g ≡ settingsFrom run →
-        Writes room (renderSettings g) (settingsNumbers g) w room′ → r ≡ wroteNumber w → SettingsWrittenOn run room room′ r
+        Writes room (renderSettings g) (settingsFigures g) w room′ → r ≡ wroteNumber w → SettingsWrittenOn run room room′ r
     unfolding settingsVerdictOn
     settings-written g w room′ t e p x =
         rw (← e)
-        (writes-on _ room (renderSettings g) (settingsNumbers g) room′ w r (rw (le-ltb (length run) settingsLength h, ← k, not-false found t, e)) p x)
+        (writes-on _ room (renderSettings g) (settingsFigures g) room′ w r (rw (le-ltb (length run) settingsLength h, ← k, not-false found t, e)) p x)
 
-pub settings-few : (g : Settings) (room room′ : List ℕ) (w : Wrote) → Writes room (renderSettings g) (settingsNumbers g) w room′ → Few w
-settings-few g room room′ w p = writes-few room (renderSettings g) (settingsNumbers g) room′ w (omega (arith, settings-short g)) p
+pub settings-few : (g : Settings) (room room′ : List ℕ) (w : Wrote) → Writes room (renderSettings g) (settingsFigures g) w room′ → Few w
+settings-few g room room′ w p = writes-few room (renderSettings g) (settingsFigures g) room′ w (omega (arith, settings-short g)) p
 
 -- ---- events
 
@@ -85,14 +85,14 @@ module _ (run room : List ℕ) (r : ℕ) where
     unfolding eventVerdictOn
     event-none t x = refused-on _ NumberRange _ room r (rw (le-ltb (length run) eventLength h, ← k, t)) x
 
-    pub event-written : (e : Event) (w : Wrote) (room′ : List ℕ) → found ≡ FoundEvent.Told e → Writes room (renderEvent e) (eventNumbers e) w room′ →
+    pub event-written : (e : Event) (w : Wrote) (room′ : List ℕ) → found ≡ FoundEvent.Told e → Writes room (renderEvent e) (eventFigures e) w room′ →
         r ≡ wroteNumber w → EventWrittenOn run room room′ r
     unfolding eventVerdictOn eventFrom
     event-written e w room′ t p x =
-        rw (← k, t) (writes-on _ room (renderEvent e) (eventNumbers e) room′ w r (rw (le-ltb (length run) eventLength h)) p x)
+        rw (← k, t) (writes-on _ room (renderEvent e) (eventFigures e) room′ w r (rw (le-ltb (length run) eventLength h)) p x)
 
-pub event-few : (e : Event) (room room′ : List ℕ) (w : Wrote) → Writes room (renderEvent e) (eventNumbers e) w room′ → Few w
-event-few e room room′ w p = writes-few room (renderEvent e) (eventNumbers e) room′ w (omega (arith, event-short e)) p
+pub event-few : (e : Event) (room room′ : List ℕ) (w : Wrote) → Writes room (renderEvent e) (eventFigures e) w room′ → Few w
+event-few e room room′ w p = writes-few room (renderEvent e) (eventFigures e) room′ w (omega (arith, event-short e)) p
 
 -- ---- reports
 
@@ -128,11 +128,11 @@ module _ (run room : List ℕ) (r : ℕ) where
     report-none t x =
         rw (le-ltb (length run) recordLength h, ← report-is run o h k, t) (record { answer = x; laid = none-written (lineVerdict room []) room })
 
-    pub report-written : (p : Report) (w : Wrote) (room′ : List ℕ) → o ≡ ReadRecord.Told p → Writes room (renderReport p) (reportNumbers p) w room′ →
+    pub report-written : (p : Report) (w : Wrote) (room′ : List ℕ) → o ≡ ReadRecord.Told p → Writes room (renderReport p) (reportFigures p) w room′ →
         r ≡ wroteNumber w → ReportWrittenOn run room room′ r
     unfolding reportVerdictOn
     report-written p w room′ t q x =
-        rw (← report-is run o h k, t) (writes-on _ room (renderReport p) (reportNumbers p) room′ w r (rw (le-ltb (length run) recordLength h)) q x)
+        rw (← report-is run o h k, t) (writes-on _ room (renderReport p) (reportFigures p) room′ w r (rw (le-ltb (length run) recordLength h)) q x)
 
-pub report-few : (p : Report) (room room′ : List ℕ) (w : Wrote) → Writes room (renderReport p) (reportNumbers p) w room′ → Few w
-report-few p room room′ w q = writes-few room (renderReport p) (reportNumbers p) room′ w (omega (arith, report-short p)) q
+pub report-few : (p : Report) (room room′ : List ℕ) (w : Wrote) → Writes room (renderReport p) (reportFigures p) w room′ → Few w
+report-few p room room′ w q = writes-few room (renderReport p) (reportFigures p) room′ w (omega (arith, report-short p)) q

@@ -9,7 +9,7 @@ use Rattle.terms.specs.declared.Refusal.the-variants.{SmallRoom}
 use Rattle.terms.specs.declared.Verdict.the-variants.{Refused}
 use Rattle.tables.specs.Put.{put}
 use Rattle.lines_text_law.specs.Grammar.{Answer, whole, unfinished, wrong}
-use Rattle.lines_reading_law.specs.Answers.{codeOf, countOf, readEvent, readSettings}
+use Rattle.lines_reading_law.specs.Answers.{readCode, countOf, readEvent, readSettings}
 use Rattle.desk_packing.specs.Runs.{settingsLength, eventLength}
 use Rattle.desk_packing.specs.Settings.{settingsNumbers}
 use Rattle.desk_packing.specs.Events.{eventNumbers}
@@ -17,7 +17,7 @@ use Rattle.desk_answers.specs.Answers.{answerNumber, answerOf}
 
 -- the paper's number of what was read, 0, 14 or 15, and its value: the bytes that the line took, or the place
 abbrev pub readNumber : {E : Type 0} → Answer E → ℕ
-readNumber a = answerNumber (codeOf a) (countOf a)
+readNumber a = answerNumber (readCode a) (countOf a)
 
 -- the run of what was read; a refusal writes nothing
 abbrev pub runRead : {E : Type 0} → (E → List ℕ) → Answer E → List ℕ → List ℕ

@@ -9,9 +9,9 @@ use Rattle.terms.specs.declared.Refusal.the-variants.{SmallRoom, NumberRange, S
 use Rattle.terms.specs.declared.Verdict.{Verdict}
 use Rattle.terms.specs.declared.Verdict.the-variants.{Fine, Refused}
 use Rattle.terms.specs.Sizes.{recordLength}
-use Rattle.lines_reading_law.specs.Lines.{renderEvent, renderSettings, eventNumbers, settingsNumbers}
+use Rattle.lines_reading_law.specs.Lines.{renderEvent, renderSettings, eventFigures, settingsFigures}
 use Rattle.lines_writing_law.specs.declared.Wrote.{Wrote}
-use Rattle.lines_writing_law.specs.Lines.{renderReport, reportNumbers}
+use Rattle.lines_writing_law.specs.Lines.{renderReport, reportFigures}
 use Rattle.lines_writing_law.specs.Writes.{lineVerdict, roomOf}
 use Rattle.records_law.specs.declared.ReadRecord.{ReadRecord}
 use Rattle.records_law.specs.Back.{reportFrom}
@@ -42,7 +42,7 @@ pub record WrittenOn (v : Verdict) (line room room′ : List ℕ) (r : ℕ) : Ty
 unfoldable pub settingsVerdictOn : List ℕ → List ℕ → Verdict
 settingsVerdictOn run room =
     cond (ltb (length run) settingsLength) (Refused SmallRoom)
-    (cond (isCategory (getD run 0 0)) (lineVerdict room (settingsNumbers (settingsFrom run))) (Refused SettingsRange))
+    (cond (isCategory (getD run 0 0)) (lineVerdict room (settingsFigures (settingsFrom run))) (Refused SettingsRange))
 
 abbrev pub SettingsWrittenOn : List ℕ → List ℕ → List ℕ → ℕ → Type 0
 SettingsWrittenOn run room room′ r = WrittenOn (settingsVerdictOn run room) (renderSettings (settingsFrom run)) room room′ r
@@ -50,7 +50,7 @@ SettingsWrittenOn run room room′ r = WrittenOn (settingsVerdictOn run room) (r
 -- ---- an event: 1 for a short run, 4 where the numbers are no event's, then 16 and 17
 
 abbrev pub foundVerdict : FoundEvent → List ℕ → Verdict
-foundVerdict (FoundEvent.Told e) room = lineVerdict room (eventNumbers e)
+foundVerdict (FoundEvent.Told e) room = lineVerdict room (eventFigures e)
 foundVerdict FoundEvent.Nothing room = Refused NumberRange
 
 unfoldable pub eventVerdictOn : List ℕ → List ℕ → Verdict
@@ -65,7 +65,7 @@ unfoldable pub reportIn : List ℕ → ReadRecord
 reportIn ns = reportFrom (getD ns 0 0) (getD ns 1 0) (getD ns 2 0) (getD ns 3 0) (getD ns 4 0) (getD ns 5 0)
 
 abbrev pub toldVerdict : ReadRecord → List ℕ → Verdict
-toldVerdict (ReadRecord.Told p) room = lineVerdict room (reportNumbers p)
+toldVerdict (ReadRecord.Told p) room = lineVerdict room (reportFigures p)
 toldVerdict ReadRecord.Nothing room = lineVerdict room []
 
 abbrev pub toldLine : ReadRecord → List ℕ

@@ -5,7 +5,7 @@ use feed_law::Stage;
 use feed_law::Stop;
 use feed_law::Taken;
 use feed_law::Turned;
-use feed_prints::telling;
+use feed_prints::printing;
 use feed_turns::turns;
 use terms::Refusal;
 use terms::sizes;
@@ -150,7 +150,7 @@ fn finish(t: Taken, bytes: usize, out: &mut [u8]) -> Taken
             stop: Stop::Full,
         };
     }
-    let told = telling::tell_end(stage, bytes - used, &mut out[wrote..]);
+    let told = printing::tell_end(stage, bytes - used, &mut out[wrote..]);
     let over = Run {
         stage: Stage::Over,
         session: session,

@@ -15,7 +15,7 @@ use Rattle.lines_text_law.specs.Text.{bytes}
 use Rattle.lines_text_law.specs.Numerals.{allWritable}
 use Rattle.lines_text_law.specs.Forms.{longest}
 use Rattle.lines_text_law.proofs.Fills.{fill-length}
-use Rattle.lines_writing_law.specs.Lines.{badNumbers, renderBad}
+use Rattle.lines_writing_law.specs.Lines.{badFigures, renderBad}
 use Rattle.feed_law.specs.declared.Stage.{Stage}
 use Rattle.feed_law.specs.declared.Stop.{Stop}
 use Rattle.feed_law.specs.declared.Taken.{Taken}
@@ -40,8 +40,8 @@ module _ {out : List ℕ} (n : ℕ) where
 bad-short : (r : Refusal) (place : ℕ) → length (badText r place) ≤ lineRoom
 unfolding badText renderBad longest
 bad-short r place =
-    let l = fill-length (bytes "say=bad code=# at=#\n") (badNumbers r place) in
-    by (λ (t : List ℕ). length t ≤ lineRoom) (allWritable (badNumbers r place)) _ [] (λ e. omega arith) (λ e. omega arith)
+    let l = fill-length (bytes "say=bad code=# at=#\n") (badFigures r place) in
+    by (λ (t : List ℕ). length t ≤ lineRoom) (allWritable (badFigures r place)) _ [] (λ e. omega arith) (λ e. omega arith)
 
 end-short : (stage : Stage) (n : ℕ) → length (endText stage n) ≤ lineRoom
 end-short Stage.Awaiting n = bad-short LineUnfinished n

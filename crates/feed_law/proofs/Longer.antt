@@ -9,7 +9,7 @@ use lib.Dec.{ltb}
 use borrow.Author.Tests.{ltb-true, ltb-false}
 use Rattle.terms.proofs.Logic.{cases}
 use Rattle.lines_text_law.specs.Grammar.{Answer, whole, unfinished, wrong}
-use Rattle.lines_text_law.specs.Reading.{Begins, Holds, Right}
+use Rattle.lines_text_law.specs.Reading.{Begins, Contains, Right}
 
 module _ {E : Type 0} (L : E → List ℕ → Type 0) where
   -- a start of what begins a line begins one
@@ -35,7 +35,7 @@ module _ {E : Type 0} (L : E → List ℕ → Type 0) where
           r .2 (n + 1) (omega arith) (omega (arith, r .0)) (subst (Begins L) c (begins-start (take k (xs ++ ys)) (n + 1) b))
 
       -- and so none is whole
-      none-whole : Holds L (xs ++ ys) → ⊥
+      none-whole : Contains L (xs ++ ys) → ⊥
       none-whole (e, m, h, l) =
           cases (ltb n m)
           (λ t. none-longer m (ltb-true n m t) (e, [], subst (L e) (sym (append-nil (take m (xs ++ ys)))) l))

@@ -21,7 +21,7 @@ use Rattle.terms.proofs.Logic.{by}
 use Rattle.tables.specs.Put.{put}
 use Rattle.lines_text_law.specs.Numerals.{allWritable}
 use Rattle.lines_writing_law.specs.declared.Wrote.{Wrote}
-use Rattle.lines_writing_law.specs.Lines.{reportNumbers, renderReport}
+use Rattle.lines_writing_law.specs.Lines.{reportFigures, renderReport}
 use Rattle.lines_writing_law.proofs.Short.{report-short}
 use Rattle.lines_writing_law.specs.Writes.{lineVerdict, wroteOf, roomOf, Writes}
 use Rattle.records_law.specs.declared.ReadRecord.{ReadRecord}
@@ -73,7 +73,7 @@ text-short : (r : Report) → length (reportText r) ≤ lineRoom
 unfolding reportText
 text-short r =
     let l = report-short r in
-    by (λ (t : List ℕ). length t ≤ lineRoom) (allWritable (reportNumbers r)) _ [] (λ e. l) (λ e. omega arith)
+    by (λ (t : List ℕ). length t ≤ lineRoom) (allWritable (reportFigures r)) _ [] (λ e. l) (λ e. omega arith)
 
 told-short : (r : ReadRecord) → length (toldText r) ≤ lineRoom
 told-short (ReadRecord.Told r) = text-short r
@@ -92,7 +92,7 @@ module _ {room : List ℕ} {at : ℕ} (r : ReadRecord) {out : List ℕ} (there :
       record { printed = q; short = rw (q .count) (record-short (drop at room)) }
 
   pub told-prints : {out′ : List ℕ} {w : Wrote} (report : Report) {n : ℕ} → r ≡ ReadRecord.Told report → lineRoom ≤ length out →
-      Writes out (renderReport report) (reportNumbers report) w out′ → n ≡ wroteLength w → RecordTold room at out n out′
+      Writes out (renderReport report) (reportFigures report) w out′ → n ≡ wroteLength w → RecordTold room at out n out′
   unfolding reportText
   told-prints report {n} e h v q = told (rw e (writes-prints h v n q))
 

@@ -12,7 +12,7 @@ use Rattle.lines_text_law.specs.Grammar.{whole}
 use Rattle.lines_text_law.proofs.Fills.{writable-tested}
 use Rattle.lines_reading_law.specs.Answers.{readEvent}
 use Rattle.lines_reading_law.proofs.EventLines.{event-right}
-use Rattle.lines_writing_law.specs.Lines.{refusedNumbers, renderRefused, badNumbers, renderBad}
+use Rattle.lines_writing_law.specs.Lines.{refusedFigures, renderRefused, badFigures, renderBad}
 use Rattle.feed_law.specs.Texts.{refusedText, badText}
 
 number-small : (r : Refusal) → numberOf r ≤ writtenMost
@@ -39,9 +39,9 @@ pub refused-said : (s : List ℕ) (e : Event) (n : ℕ) (r : Refusal) → readEv
 unfolding refusedText
 refused-said s e n r q =
     let w = (rw q at (event-right s)) .1 .1 in
-    rw (writable-tested (refusedNumbers (e .time) r) (w .0, (number-small r, tt)))
+    rw (writable-tested (refusedFigures (e .time) r) (w .0, (number-small r, tt)))
 
 -- so has a place within nine digits
 pub bad-said : (r : Refusal) (place : ℕ) → place ≤ writtenMost → badText r place ≡ renderBad r place
 unfolding badText
-bad-said r place h = rw (writable-tested (badNumbers r place) (number-small r, (h, tt)))
+bad-said r place h = rw (writable-tested (badFigures r place) (number-small r, (h, tt)))

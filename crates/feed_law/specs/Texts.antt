@@ -12,7 +12,7 @@ use Rattle.terms.specs.declared.Verdict.{Verdict}
 use Rattle.terms.specs.declared.Verdict.the-variants.{Fine, Refused}
 use Rattle.terms.specs.Sizes.{lineRoom, reportsMost, recordLength}
 use Rattle.lines_text_law.specs.Numerals.{allWritable}
-use Rattle.lines_writing_law.specs.Lines.{reportNumbers, renderReport, refusedNumbers, renderRefused, badNumbers, renderBad}
+use Rattle.lines_writing_law.specs.Lines.{reportFigures, renderReport, refusedFigures, renderRefused, badFigures, renderBad}
 use Rattle.records_law.specs.declared.ReadRecord.{ReadRecord}
 use Rattle.records_law.specs.Back.{reportIn}
 use Rattle.feed_law.specs.declared.Stage.{Stage}
@@ -35,7 +35,7 @@ written numbers line = cond (allWritable numbers) line []
 -- ---- reports
 
 unfoldable pub reportText : Report → List ℕ
-reportText r = written (reportNumbers r) (renderReport r)
+reportText r = written (reportFigures r) (renderReport r)
 
 unfoldable pub reportsText : List Report → List ℕ
 reportsText [] = []
@@ -45,11 +45,11 @@ reportsText (r ∷ rs) = reportText r ++ reportsText rs
 
 -- "A refused event prints `t=5 say=refuse code=8` with its own time"
 unfoldable pub refusedText : ℕ → Refusal → List ℕ
-refusedText time r = written (refusedNumbers time r) (renderRefused time r)
+refusedText time r = written (refusedFigures time r) (renderRefused time r)
 
 -- "a bad line prints `say=bad code=15 at=3`, the place counted from that line's start"
 unfoldable pub badText : Refusal → ℕ → List ℕ
-badText r place = written (badNumbers r place) (renderBad r place)
+badText r place = written (badFigures r place) (renderBad r place)
 
 -- ---- by what a line of input is answered
 

@@ -4,7 +4,7 @@ use engine_law::Answer;
 use feed_law::Run;
 use feed_law::Stage;
 use feed_law::Turned;
-use feed_prints::telling;
+use feed_prints::printing;
 use lines_reading_law::ReadEvent;
 use lines_reading_law::ReadSettings;
 use state::opening;
@@ -39,7 +39,7 @@ fn bad_line(session: Session, place: usize, out: &mut [u8]) -> Turned
     requires { ⌜ lineRoom ≤ length (now out) ⌝ }
     ensures { λ r. ⌜ BadTurned session place (now (out .entry)) (now (out .exit)) r ⌝ }
 {
-    let wrote = telling::tell_bad(Refusal::LineWrong, place, out);
+    let wrote = printing::tell_bad(Refusal::LineWrong, place, out);
     turned(Stage::Over, session, 0, wrote)
 }
 
@@ -54,7 +54,7 @@ fn opens(settings: Settings, used: usize, out: &mut [u8]) -> Turned
     match verdict {
         Verdict::Fine => turned(Stage::Trading, opened, used, 0),
         Verdict::Refused(refusal) => {
-            let wrote = telling::tell_bad(refusal, 0, out);
+            let wrote = printing::tell_bad(refusal, 0, out);
             turned(Stage::Over, opened, used, wrote)
         }
     }
@@ -91,11 +91,11 @@ fn goes(
     let after = a.session;
     match answer {
         Answer::Reported(count) => {
-            let wrote = telling::tell_records(room, count, out);
+            let wrote = printing::tell_records(room, count, out);
             turned(Stage::Trading, after, used, wrote)
         }
         Answer::Refused(refusal) => {
-            let wrote = telling::tell_refused(time, refusal, out);
+            let wrote = printing::tell_refused(time, refusal, out);
             turned(Stage::Trading, after, used, wrote)
         }
     }

@@ -3,7 +3,7 @@ use lines_reading_law::ReadEvent;
 use lines_reading_law::Single;
 use lines_text::pieces;
 use lines_text_law::Found;
-use lines_text_law::Passed;
+use lines_text_law::Reached;
 use terms::Act;
 use terms::Entry;
 use terms::Event;
@@ -51,9 +51,9 @@ fn price_rest(
         }
     } else {
         match pieces::word(s, at, b"\n") {
-            Passed::To(next) => ReadEvent::Whole(order(t, side, Kind::Market, life, lots), next),
-            Passed::Short => ReadEvent::Unfinished,
-            Passed::Wrong(p) => ReadEvent::Wrong(p),
+            Reached::To(next) => ReadEvent::Whole(order(t, side, Kind::Market, life, lots), next),
+            Reached::Short => ReadEvent::Unfinished,
+            Reached::Wrong(p) => ReadEvent::Wrong(p),
         }
     }
 }
@@ -97,9 +97,9 @@ fn kind_rest(s: &[u8], at: usize, w: &[u8], t: u64, side: Side, limit: bool) -> 
     ensures { λ r. ⌜ eventAnswer r ≡ lookAt (now (s .entry)) (kindRest (now (w .entry)) t side limit) at ⌝ }
 {
     match pieces::word(s, at, w) {
-        Passed::To(next) => lives(s, next, t, side, limit),
-        Passed::Short => ReadEvent::Unfinished,
-        Passed::Wrong(p) => ReadEvent::Wrong(p),
+        Reached::To(next) => lives(s, next, t, side, limit),
+        Reached::Short => ReadEvent::Unfinished,
+        Reached::Wrong(p) => ReadEvent::Wrong(p),
     }
 }
 
@@ -124,9 +124,9 @@ fn side_rest(s: &[u8], at: usize, w: &[u8], t: u64, side: Side) -> ReadEvent
     ensures { λ r. ⌜ eventAnswer r ≡ lookAt (now (s .entry)) (sideRest (now (w .entry)) t side) at ⌝ }
 {
     match pieces::word(s, at, w) {
-        Passed::To(next) => kinds(s, next, t, side),
-        Passed::Short => ReadEvent::Unfinished,
-        Passed::Wrong(p) => ReadEvent::Wrong(p),
+        Reached::To(next) => kinds(s, next, t, side),
+        Reached::Short => ReadEvent::Unfinished,
+        Reached::Wrong(p) => ReadEvent::Wrong(p),
     }
 }
 
@@ -166,15 +166,15 @@ fn clock_rest(s: &[u8], at: usize, t: u64) -> ReadEvent
         return single_rest(s, at + 1, b"e settle=", t, Single::Finish);
     }
     match pieces::word(s, at, b"ck\n") {
-        Passed::To(next) => ReadEvent::Whole(
+        Reached::To(next) => ReadEvent::Whole(
             Event {
                 time: t,
                 act: Act::Clock,
             },
             next,
         ),
-        Passed::Short => ReadEvent::Unfinished,
-        Passed::Wrong(p) => ReadEvent::Wrong(p),
+        Reached::Short => ReadEvent::Unfinished,
+        Reached::Wrong(p) => ReadEvent::Wrong(p),
     }
 }
 
@@ -190,9 +190,9 @@ fn cancel_rest(s: &[u8], at: usize, t: u64) -> ReadEvent
         return single_rest(s, at + 1, b"ncel id=", t, Single::Withdraw);
     }
     match pieces::word(s, at, b"lo") {
-        Passed::To(next) => clock_rest(s, next, t),
-        Passed::Short => ReadEvent::Unfinished,
-        Passed::Wrong(p) => ReadEvent::Wrong(p),
+        Reached::To(next) => clock_rest(s, next, t),
+        Reached::Short => ReadEvent::Unfinished,
+        Reached::Wrong(p) => ReadEvent::Wrong(p),
     }
 }
 
@@ -225,9 +225,9 @@ pub fn read(s: &[u8]) -> ReadEvent
 {
     match pieces::field(s, 0, b"t=") {
         Found::Value { value, next } => match pieces::word(s, next, b" do=") {
-            Passed::To(at) => acts(s, at, value),
-            Passed::Short => ReadEvent::Unfinished,
-            Passed::Wrong(p) => ReadEvent::Wrong(p),
+            Reached::To(at) => acts(s, at, value),
+            Reached::Short => ReadEvent::Unfinished,
+            Reached::Wrong(p) => ReadEvent::Wrong(p),
         },
         Found::Short => ReadEvent::Unfinished,
         Found::Wrong(p) => ReadEvent::Wrong(p),

@@ -23,14 +23,14 @@ use Rattle.lines_text_law.specs.Pieces.{at, lastly}
 use Rattle.lines_text_law.proofs.Grammars.{Spells, s-stop, s-byte, s-this, s-else, s-number, s-word, s-last, Plain, Agrees, agreed}
 use Rattle.lines_text_law.proofs.Rightness.{right, one, read-back, apart}
 use Rattle.lines_reading_law.specs.declared.Single.{Single}
-use Rattle.lines_reading_law.specs.Lines.{sideWord, eventNumbers, renderEvent, EventLine}
+use Rattle.lines_reading_law.specs.Lines.{sideWord, eventFigures, renderEvent, EventLine}
 use Rattle.lines_reading_law.specs.Grammars.{event, order, priceRest, lifeRest, lives, kindRest, kinds, sideRest, actOf, singleRest, clockRest, cancelRest, acts, eventGrammar}
 use Rattle.lines_reading_law.specs.declared.ReadEvent.{ReadEvent}
-use Rattle.lines_reading_law.specs.Answers.{eventAnswer, codeOf, EventRead, readEvent}
+use Rattle.lines_reading_law.specs.Answers.{eventAnswer, readCode, EventRead, readEvent}
 
 -- what the values of the grammar's ends must say
 abbrev Fine : Event → Type 0
-Fine e = Writable (eventNumbers e)
+Fine e = Writable (eventFigures e)
 
 -- ---- the grammar is plain
 
@@ -184,12 +184,12 @@ pub event-only : (s : List ℕ) (o q : Answer Event) → Right EventLine s o →
 event-only = one EventLine eventGrammar plain to from
 
 -- an event's line is read back as the event, whatever follows
-pub event-back : (e : Event) (rest : List ℕ) → Writable (eventNumbers e) → readEvent (renderEvent e ++ rest) ≡ whole e (length (renderEvent e))
+pub event-back : (e : Event) (rest : List ℕ) → Writable (eventFigures e) → readEvent (renderEvent e ++ rest) ≡ whole e (length (renderEvent e))
 unfolding readEvent at
 event-back e rest w = read-back EventLine eventGrammar plain to from e (renderEvent e) rest (refl, w)
 
 -- two events never share a line
-pub event-apart : (e f : Event) → Writable (eventNumbers e) → Writable (eventNumbers f) → renderEvent e ≡ renderEvent f → e ≡ f
+pub event-apart : (e f : Event) → Writable (eventFigures e) → Writable (eventFigures f) → renderEvent e ≡ renderEvent f → e ≡ f
 event-apart e f v w q = apart EventLine eventGrammar plain to from e f (renderEvent e) (refl, v) (q, w)
 
 -- bytes that are read as a value are its line, so it has one spelling
@@ -201,6 +201,6 @@ pub event-told : (s : List ℕ) (r : ReadEvent) → EventRead s r → eventAnswe
 event-told s r a = event-only s (eventAnswer r) (readEvent s) (a .right) (event-right s)
 
 -- P12: "empty bytes: 14"
-pub event-none : codeOf (readEvent []) ≡ 14
+pub event-none : readCode (readEvent []) ≡ 14
 unfolding readEvent at eventGrammar word
 event-none = refl

@@ -14,14 +14,14 @@ use Rattle.lines_text_law.specs.Reading.{Right}
 use Rattle.lines_text_law.specs.Pieces.{at, lastly}
 use Rattle.lines_text_law.proofs.Grammars.{Spells, s-stop, s-byte, s-this, s-else, s-number, s-word, Plain, Agrees, agreed}
 use Rattle.lines_text_law.proofs.Rightness.{right, one, read-back, apart}
-use Rattle.lines_reading_law.specs.Lines.{categoryWord, numbersForm, settingsNumbers, renderSettings, SettingsLine}
+use Rattle.lines_reading_law.specs.Lines.{categoryWord, numbersForm, settingsFigures, renderSettings, SettingsLine}
 use Rattle.lines_reading_law.specs.Grammars.{lastNumbers, laterNumbers, categoryRest, categories, settingsGrammar}
 use Rattle.lines_reading_law.specs.declared.ReadSettings.{ReadSettings}
-use Rattle.lines_reading_law.specs.Answers.{settingsAnswer, codeOf, SettingsRead, readSettings}
+use Rattle.lines_reading_law.specs.Answers.{settingsAnswer, readCode, SettingsRead, readSettings}
 
 -- what the values of the grammar's ends must say
 abbrev Fine : Settings → Type 0
-Fine g = Writable (settingsNumbers g)
+Fine g = Writable (settingsFigures g)
 
 -- ---- the grammar is plain
 
@@ -63,9 +63,9 @@ word-fills Precious f ns = refl
 word-fills Gems f ns = refl
 word-fills Other f ns = refl
 
-settings-line : (g : Settings) → renderSettings g ≡ bytes "cat=" ++ (categoryWord (g .category) ++ fill numbersForm (settingsNumbers g))
+settings-line : (g : Settings) → renderSettings g ≡ bytes "cat=" ++ (categoryWord (g .category) ++ fill numbersForm (settingsFigures g))
 unfolding renderSettings
-settings-line g = word-fills (g .category) numbersForm (settingsNumbers g)
+settings-line g = word-fills (g .category) numbersForm (settingsFigures g)
 
 rest-agrees : (c : Category) → Agrees renderSettings Fine (categoryRest [] c) (λ x. bytes "cat=" ++ (categoryWord c ++ (bytes " base=" ++ x)))
 unfolding categoryRest laterNumbers lastNumbers lastly word numbersForm fill
@@ -125,7 +125,7 @@ category-spells Precious s = s-else (s-else (s-else (s-else (s-else (s-this (s-w
 category-spells Gems s = s-else (s-else (s-else (s-else (s-else (s-else (s-this (s-word (bytes "ems base=") s)))))))
 category-spells Other s = s-else (s-else (s-else (s-else (s-else (s-else (s-else (s-byte (s-word (bytes "ther base=") s))))))))
 
-spells : (g : Settings) → Fine g → Spells settingsGrammar g (bytes "cat=" ++ (categoryWord (g .category) ++ fill numbersForm (settingsNumbers g)))
+spells : (g : Settings) → Fine g → Spells settingsGrammar g (bytes "cat=" ++ (categoryWord (g .category) ++ fill numbersForm (settingsFigures g)))
 unfolding settingsGrammar numbersForm fill
 spells g f = s-word (bytes "cat=") (category-spells (g .category) (rest-spells g f))
 
@@ -144,13 +144,13 @@ pub settings-only : (s : List ℕ) (o q : Answer Settings) → Right SettingsLin
 settings-only = one SettingsLine settingsGrammar plain to from
 
 -- the line of settings is read back as the settings, whatever follows
-pub settings-back : (g : Settings) (rest : List ℕ) → Writable (settingsNumbers g)
+pub settings-back : (g : Settings) (rest : List ℕ) → Writable (settingsFigures g)
     → readSettings (renderSettings g ++ rest) ≡ whole g (length (renderSettings g))
 unfolding readSettings at
 settings-back g rest w = read-back SettingsLine settingsGrammar plain to from g (renderSettings g) rest (refl, w)
 
 -- two settings never share a line
-pub settings-apart : (g h : Settings) → Writable (settingsNumbers g) → Writable (settingsNumbers h) → renderSettings g ≡ renderSettings h → g ≡ h
+pub settings-apart : (g h : Settings) → Writable (settingsFigures g) → Writable (settingsFigures h) → renderSettings g ≡ renderSettings h → g ≡ h
 settings-apart g h v w q = apart SettingsLine settingsGrammar plain to from g h (renderSettings g) (refl, v) (q, w)
 
 -- bytes that are read as a value are its line, so it has one spelling
@@ -162,6 +162,6 @@ pub settings-told : (s : List ℕ) (r : ReadSettings) → SettingsRead s r → s
 settings-told s r a = settings-only s (settingsAnswer r) (readSettings s) (a .right) (settings-right s)
 
 -- P12: "empty bytes: 14"
-pub settings-none : codeOf (readSettings []) ≡ 14
+pub settings-none : readCode (readSettings []) ≡ 14
 unfolding readSettings at settingsGrammar word
 settings-none = refl

@@ -25,10 +25,10 @@ settingsAnswer ReadSettings.Unfinished = unfinished
 settingsAnswer (ReadSettings.Wrong n) = wrong n
 
 -- the paper's number of an answer: 14 unfinished, 15 wrong, 0 for a line
-abbrev pub codeOf : {E : Type 0} → Answer E → ℕ
-codeOf (whole e n) = 0
-codeOf unfinished = numberOf LineUnfinished
-codeOf (wrong n) = numberOf LineWrong
+abbrev pub readCode : {E : Type 0} → Answer E → ℕ
+readCode (whole e n) = 0
+readCode unfinished = numberOf LineUnfinished
+readCode (wrong n) = numberOf LineWrong
 
 -- and its value: the bytes that a line takes; "15, line wrong; returns the place"
 abbrev pub countOf : {E : Type 0} → Answer E → ℕ

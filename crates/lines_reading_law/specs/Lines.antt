@@ -37,11 +37,11 @@ numbersForm = bytes " base=# close=# settle=# tick=# len=# days=# under=#\n"
 abbrev pub settingsForm : Category → List ℕ
 settingsForm c = bytes "cat=" ++ (categoryWord c ++ numbersForm)
 
-abbrev pub settingsNumbers : Settings → List ℕ
-settingsNumbers g = g .base ∷ g .close ∷ g .settle ∷ g .tick ∷ g .length ∷ g .days ∷ g .under ∷ []
+abbrev pub settingsFigures : Settings → List ℕ
+settingsFigures g = g .base ∷ g .close ∷ g .settle ∷ g .tick ∷ g .length ∷ g .days ∷ g .under ∷ []
 
 unfoldable pub renderSettings : Settings → List ℕ
-renderSettings g = fill (settingsForm (g .category)) (settingsNumbers g)
+renderSettings g = fill (settingsForm (g .category)) (settingsFigures g)
 
 -- ---- events: "then events as in the listing"
 
@@ -64,16 +64,16 @@ actForm (Under price) = bytes "under price=#\n"
 actForm Clock = bytes "clock\n"
 actForm (Finish settle) = bytes "close settle=#\n"
 
-abbrev pub priceNumbers : Kind → List ℕ
-priceNumbers (Limit price) = price ∷ []
-priceNumbers Market = []
+abbrev pub priceFigures : Kind → List ℕ
+priceFigures (Limit price) = price ∷ []
+priceFigures Market = []
 
-abbrev pub actNumbers : Act → List ℕ
-actNumbers (Enter o) = o .lots ∷ priceNumbers (o .kind)
-actNumbers (Withdraw number) = number ∷ []
-actNumbers (Under price) = price ∷ []
-actNumbers Clock = []
-actNumbers (Finish settle) = settle ∷ []
+abbrev pub actFigures : Act → List ℕ
+actFigures (Enter o) = o .lots ∷ priceFigures (o .kind)
+actFigures (Withdraw number) = number ∷ []
+actFigures (Under price) = price ∷ []
+actFigures Clock = []
+actFigures (Finish settle) = settle ∷ []
 
 -- "t=# do=", which every event line begins with
 abbrev pub actHead : List ℕ
@@ -82,16 +82,16 @@ actHead = bytes "t=# do="
 abbrev pub eventForm : Act → List ℕ
 eventForm a = actHead ++ actForm a
 
-abbrev pub eventNumbers : Event → List ℕ
-eventNumbers e = e .time ∷ actNumbers (e .act)
+abbrev pub eventFigures : Event → List ℕ
+eventFigures e = e .time ∷ actFigures (e .act)
 
 unfoldable pub renderEvent : Event → List ℕ
-renderEvent e = fill (eventForm (e .act)) (eventNumbers e)
+renderEvent e = fill (eventForm (e .act)) (eventFigures e)
 
 -- ---- which bytes are the line of which value: those that are written, where each number can be
 
 abbrev pub SettingsLine : Settings → List ℕ → Type 0
-SettingsLine g bs = (bs ≡ renderSettings g) × Writable (settingsNumbers g)
+SettingsLine g bs = (bs ≡ renderSettings g) × Writable (settingsFigures g)
 
 abbrev pub EventLine : Event → List ℕ → Type 0
-EventLine e bs = (bs ≡ renderEvent e) × Writable (eventNumbers e)
+EventLine e bs = (bs ≡ renderEvent e) × Writable (eventFigures e)

@@ -2,7 +2,7 @@
 use lines_reading_law::ReadSettings;
 use lines_text::pieces;
 use lines_text_law::Found;
-use lines_text_law::Passed;
+use lines_text_law::Reached;
 use terms::Category;
 use terms::Settings;
 ghost use mathlib.Core.Path.{_≡_};
@@ -145,8 +145,8 @@ pub fn read(s: &[u8]) -> ReadSettings
     ensures { λ r. ⌜ settingsAnswer r ≡ readSettings (now (s .entry)) ⌝ }
 {
     match pieces::word(s, 0, b"cat=") {
-        Passed::To(at) => categories(s, at),
-        Passed::Short => ReadSettings::Unfinished,
-        Passed::Wrong(p) => ReadSettings::Wrong(p),
+        Reached::To(at) => categories(s, at),
+        Reached::Short => ReadSettings::Unfinished,
+        Reached::Wrong(p) => ReadSettings::Wrong(p),
     }
 }

@@ -1,26 +1,26 @@
 // The pieces of a line, read: a word, a number, and the two together.
 use lines_text_law::Found;
-use lines_text_law::Passed;
+use lines_text_law::Reached;
 ghost use mathlib.Core.Path.{_≡_};
 ghost use lib.ListN.{drop};
 ghost use Rattle.lines_text_law.specs.Pieces.{wordOn, numberOn, fieldOn, lastOn};
 
-pub fn word(s: &[u8], at: usize, w: &[u8]) -> Passed
+pub fn word(s: &[u8], at: usize, w: &[u8]) -> Reached
     ensures { λ r. ⌜ r ≡ wordOn (now (w .entry)) (drop at (now (s .entry))) at ⌝ }
 {
     let mut i = 0;
     let mut p = at;
     while i < w.len() {
         if s.len() <= p {
-            return Passed::Short;
+            return Reached::Short;
         }
         if s[p] != w[i] {
-            return Passed::Wrong(p);
+            return Reached::Wrong(p);
         }
         i += 1;
         p += 1;
     }
-    Passed::To(p)
+    Reached::To(p)
 }
 
 fn wide(x: u8) -> u64
@@ -75,9 +75,9 @@ pub fn field(s: &[u8], at: usize, w: &[u8]) -> Found
     ensures { λ r. ⌜ r ≡ fieldOn (now (w .entry)) (now (s .entry)) at ⌝ }
 {
     match word(s, at, w) {
-        Passed::To(n) => number(s, n),
-        Passed::Short => Found::Short,
-        Passed::Wrong(p) => Found::Wrong(p),
+        Reached::To(n) => number(s, n),
+        Reached::Short => Found::Short,
+        Reached::Wrong(p) => Found::Wrong(p),
     }
 }
 
@@ -87,12 +87,12 @@ pub fn last(s: &[u8], at: usize, w: &[u8]) -> Found
 {
     match field(s, at, w) {
         Found::Value { value, next } => match word(s, next, b"\n") {
-            Passed::To(n) => Found::Value {
+            Reached::To(n) => Found::Value {
                 value: value,
                 next: n,
             },
-            Passed::Short => Found::Short,
-            Passed::Wrong(p) => Found::Wrong(p),
+            Reached::Short => Found::Short,
+            Reached::Wrong(p) => Found::Wrong(p),
         },
         Found::Short => Found::Short,
         Found::Wrong(p) => Found::Wrong(p),

@@ -7,7 +7,7 @@ ghost use lib.ListN.{length, getD, drop};
 ghost use Rattle.terms.specs.Sizes.{writtenMost};
 ghost use Rattle.lines_text_law.specs.Numerals.{numeral, allWritable};
 ghost use Rattle.lines_text_law.specs.Forms.{piece, taken, fill, holes};
-ghost use Rattle.lines_text_law.specs.Room.{Put, Placed, Fits, PieceFits};
+ghost use Rattle.lines_text_law.specs.Room.{Put, PutFrom, Fits, PieceFits};
 
 // No number is too long to be written.
 pub fn all_writable(numbers: &[u64]) -> bool
@@ -75,7 +75,7 @@ fn put_number(room: &mut [u8], at: usize, v: u64) -> usize
 // Puts what a byte of a form stands for: the next number where it is #, else itself.
 fn put_piece(room: &mut [u8], from: Spot, b: u8, numbers: &[u64]) -> Spot
     requires { ⌜ PieceFits (now room) from b (now numbers) ⌝ }
-    ensures { λ r. ⌜ Placed (now (room .entry)) from (piece b (getD (now (numbers .entry)) (from .used) 0)) (taken b) (now (room .exit)) r ⌝ }
+    ensures { λ r. ⌜ PutFrom (now (room .entry)) from (piece b (getD (now (numbers .entry)) (from .used) 0)) (taken b) (now (room .exit)) r ⌝ }
 {
     let at = from.at;
     let used = from.used;
@@ -96,7 +96,7 @@ fn put_piece(room: &mut [u8], from: Spot, b: u8, numbers: &[u64]) -> Spot
 // Puts a form, filled with the numbers from the spot's on, and answers the spot after it.
 pub fn put_form(room: &mut [u8], from: Spot, form: &[u8], numbers: &[u64]) -> Spot
     requires { ⌜ Fits (now room) from (now form) (now numbers) ⌝ }
-    ensures { λ r. ⌜ Placed (now (room .entry)) from (fill (now (form .entry)) (drop (from .used) (now (numbers .entry)))) (holes (now (form .entry))) (now (room .exit)) r ⌝ }
+    ensures { λ r. ⌜ PutFrom (now (room .entry)) from (fill (now (form .entry)) (drop (from .used) (now (numbers .entry)))) (holes (now (form .entry))) (now (room .exit)) r ⌝ }
 {
     let mut spot = from;
     let mut i = 0;

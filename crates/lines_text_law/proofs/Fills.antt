@@ -15,7 +15,7 @@ use Rattle.terms.proofs.Logic.{cases, split, join}
 use Rattle.lines_text_law.specs.Numerals.{numeral, Writable, allWritable}
 use Rattle.lines_text_law.specs.Forms.{hole, piece, taken, fill, holes, longest}
 use Rattle.lines_text_law.specs.declared.Spot.{Spot}
-use Rattle.lines_text_law.specs.Room.{over, Put, Placed, Fits, PieceFits}
+use Rattle.lines_text_law.specs.Room.{over, Put, PutFrom, Fits, PieceFits}
 use Rattle.lines_text_law.proofs.Digits.{length-most, numeral-first, numeral-last, length-last}
 use Rattle.lines_text_law.proofs.Rooms.{over-over, set-over}
 
@@ -154,7 +154,7 @@ module _ {d : List ℕ} {from : Spot} {b : ℕ} {ns : List ℕ} (fits : PieceFit
     number-fits = omega (arith, fits .within, ap length (hole-piece b (getD ns (from .used) 0) e))
 
     pub number-placed : {d′ : List ℕ} {end : ℕ} → Put d (from .at) (numeral (getD ns (from .used) 0)) d′ end
-        → Placed d from (piece b (getD ns (from .used) 0)) (taken b) d′ (record { at = end; used = from .used + 1 })
+        → PutFrom d from (piece b (getD ns (from .used) 0)) (taken b) d′ (record { at = end; used = from .used + 1 })
     number-placed p = record { put = rw (hole-piece b (getD ns (from .used) 0) e) p; used = rw (hole-taken b e) }
 
   -- or the byte itself
@@ -162,7 +162,7 @@ module _ {d : List ℕ} {from : Spot} {b : ℕ} {ns : List ℕ} (fits : PieceFit
     pub byte-fits : from .at < length d
     byte-fits = omega (arith, fits .within, ap length (byte-piece b (getD ns (from .used) 0) e))
 
-    pub byte-placed : Placed d from (piece b (getD ns (from .used) 0)) (taken b) (set d (from .at) b) (record { at = from .at + 1; used = from .used })
+    pub byte-placed : PutFrom d from (piece b (getD ns (from .used) 0)) (taken b) (set d (from .at) b) (record { at = from .at + 1; used = from .used })
     byte-placed =
         record {
           put = rw (byte-piece b (getD ns (from .used) 0) e) (record { next = refl; laid = set-over d (from .at) b byte-fits });
@@ -200,7 +200,7 @@ module _ {d₀ f ns : List ℕ} {from : Spot} {d : List ℕ} {to : Spot} {i : �
         }
 
     -- and is put
-    pub left-turn : {d′ : List ℕ} {to′ : Spot} → length d′ ≡ length d → Placed d to next (taken (getD f i 0)) d′ to′ → Left d₀ f ns from d′ to′ (i + 1)
+    pub left-turn : {d′ : List ℕ} {to′ : Spot} → length d′ ≡ length d → PutFrom d to next (taken (getD f i 0)) d′ to′ → Left d₀ f ns from d′ to′ (i + 1)
     left-turn {d′} {to′} s p =
         let rest = fill (drop (i + 1) f) (drop (to .used + taken (getD f i 0)) ns) in
         let z = p .put .next in
@@ -217,7 +217,7 @@ module _ {d₀ f ns : List ℕ} {from : Spot} {d : List ℕ} {to : Spot} {i : �
         }
 
   -- at the end all of it is there
-  pub left-none : length f ≤ i → Placed d₀ from (fill f (drop (from .used) ns)) (holes f) d to
+  pub left-none : length f ≤ i → PutFrom d₀ from (fill f (drop (from .used) ns)) (holes f) d to
   left-none h =
       let e = fill-end f (drop (to .used) ns) i h in
       record {

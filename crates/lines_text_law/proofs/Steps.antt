@@ -11,11 +11,11 @@ use lib.Seq.{drop-cons}
 use lib.Dec.{eqb}
 use borrow.Author.Tests.{eq-eqb, ne-eqb}
 use Rattle.terms.proofs.Logic.{cases}
-use Rattle.lines_text_law.specs.declared.Passed.{Passed}
+use Rattle.lines_text_law.specs.declared.Reached.{Reached}
 use Rattle.lines_text_law.specs.declared.Found.{Found}
 use Rattle.lines_text_law.specs.Text.{bytes}
 use Rattle.lines_text_law.specs.Grammar.{Grammar, stop, byte, either, number, word, Answer, whole, unfinished, wrong, digit, more, look}
-use Rattle.lines_text_law.specs.Pieces.{at, wordOn, moreOn, numberOn, thenNumber, fieldOn, ended, thenEnd, lastOn, lastly}
+use Rattle.lines_text_law.specs.Pieces.{at, wordOn, moreOn, numberOn, thenNumber, fieldOn, endAfter, thenEnd, lastOn, lastly}
 use Rattle.lines_text_law.proofs.Digits.{digit-yes, digit-low, digit-high, fewer}
 
 -- what is left of a list is empty, or a byte and what is left from there
@@ -35,10 +35,10 @@ unfolding at
 at-stop s e n = refl
 
 -- what comes after a piece
-abbrev afterWord : {E : Type 0} → Passed → (ℕ → Answer E) → Answer E
-afterWord (Passed.To m) k = k m
-afterWord Passed.Short k = unfinished
-afterWord (Passed.Wrong m) k = wrong m
+abbrev afterWord : {E : Type 0} → Reached → (ℕ → Answer E) → Answer E
+afterWord (Reached.To m) k = k m
+afterWord Reached.Short k = unfinished
+afterWord (Reached.Wrong m) k = wrong m
 
 abbrev afterNumber : {E : Type 0} → Found → (ℕ → ℕ → Answer E) → Answer E
 afterNumber (Found.Value v m) k = k v m
@@ -80,19 +80,19 @@ module _ {E : Type 0} (s : List ℕ) where
   unfolding fieldOn
   at-field w g n = at-word w (number g) n ∙ go (wordOn w (drop n s) n)
     where
-      go : (l : Passed) → afterWord l (at s (number g)) ≡ afterNumber (thenNumber s l) (λ v m. at s (g v) m)
-      go (Passed.To m) = at-number g m
-      go Passed.Short = refl
-      go (Passed.Wrong m) = refl
+      go : (l : Reached) → afterWord l (at s (number g)) ≡ afterNumber (thenNumber s l) (λ v m. at s (g v) m)
+      go (Reached.To m) = at-number g m
+      go Reached.Short = refl
+      go (Reached.Wrong m) = refl
 
   at-last : (w : List ℕ) (f : ℕ → E) (n : ℕ) → at s (lastly w f) n ≡ afterNumber (lastOn w s n) (λ v m. whole (f v) m)
   unfolding lastOn lastly
   at-last w f n = at-field w (λ v. word (bytes "\n") (stop (f v))) n ∙ go (fieldOn w s n)
     where
-      end : (v : ℕ) (l : Passed) → afterWord l (at s (stop (f v))) ≡ afterNumber (ended v l) (λ u m. whole (f u) m)
-      end v (Passed.To m) = sym (at-stop s (f v) m)
-      end v Passed.Short = refl
-      end v (Passed.Wrong m) = refl
+      end : (v : ℕ) (l : Reached) → afterWord l (at s (stop (f v))) ≡ afterNumber (endAfter v l) (λ u m. whole (f u) m)
+      end v (Reached.To m) = sym (at-stop s (f v) m)
+      end v Reached.Short = refl
+      end v (Reached.Wrong m) = refl
 
       go : (l : Found) → afterNumber l (λ v m. at s (word (bytes "\n") (stop (f v))) m) ≡ afterNumber (thenEnd s l) (λ v m. whole (f v) m)
       go (Found.Value v m) = at-word (bytes "\n") (stop (f v)) m ∙ end v (wordOn (bytes "\n") (drop m s) m)
@@ -101,14 +101,14 @@ module _ {E : Type 0} (s : List ℕ) where
 
 -- ---- the same as rules for `search`: o is what a reader answers, r what a piece found
 
-module _ {E : Type 0} (s w : List ℕ) (g : Grammar E) (n m : ℕ) (r : Passed) (found : r ≡ wordOn w (drop n s) n) where
-  pub word-to : (o : Answer E) → r ≡ Passed.To m → o ≡ at s g m → o ≡ at s (word w g) n
+module _ {E : Type 0} (s w : List ℕ) (g : Grammar E) (n m : ℕ) (r : Reached) (found : r ≡ wordOn w (drop n s) n) where
+  pub word-to : (o : Answer E) → r ≡ Reached.To m → o ≡ at s g m → o ≡ at s (word w g) n
   word-to o e h = h ∙ sym (rw (at-word s w g n, ← found, e))
 
-  pub word-wrong : r ≡ Passed.Wrong m → wrong m ≡ at s (word w g) n
+  pub word-wrong : r ≡ Reached.Wrong m → wrong m ≡ at s (word w g) n
   word-wrong e = sym (rw (at-word s w g n, ← found, e))
 
-pub word-short : {E : Type 0} (s w : List ℕ) (g : Grammar E) (n : ℕ) (r : Passed) → r ≡ wordOn w (drop n s) n → r ≡ Passed.Short → unfinished ≡ at s (word w g) n
+pub word-short : {E : Type 0} (s w : List ℕ) (g : Grammar E) (n : ℕ) (r : Reached) → r ≡ wordOn w (drop n s) n → r ≡ Reached.Short → unfinished ≡ at s (word w g) n
 word-short s w g n r found e = sym (rw (at-word s w g n, ← found, e))
 
 module _ {E : Type 0} (s w : List ℕ) (g : ℕ → Grammar E) (n : ℕ) (r : Found) (found : r ≡ fieldOn w s n) where
@@ -175,16 +175,16 @@ pub ruleset steps = (pieces, choices)
 
 -- ---- a word and a number, as code joins them: r is what the word found
 
-module _ (w s : List ℕ) (n : ℕ) (r : Passed) (found : r ≡ wordOn w (drop n s) n) where
-  pub field-on : (m : ℕ) (f : Found) → r ≡ Passed.To m → f ≡ numberOn (drop m s) m → f ≡ fieldOn w s n
+module _ (w s : List ℕ) (n : ℕ) (r : Reached) (found : r ≡ wordOn w (drop n s) n) where
+  pub field-on : (m : ℕ) (f : Found) → r ≡ Reached.To m → f ≡ numberOn (drop m s) m → f ≡ fieldOn w s n
   unfolding fieldOn
   field-on m f e h = h ∙ sym (rw (← found, e))
 
-  pub field-cut : r ≡ Passed.Short → Found.Short ≡ fieldOn w s n
+  pub field-cut : r ≡ Reached.Short → Found.Short ≡ fieldOn w s n
   unfolding fieldOn
   field-cut e = sym (rw (← found, e))
 
-  pub field-off : (m : ℕ) → r ≡ Passed.Wrong m → Found.Wrong m ≡ fieldOn w s n
+  pub field-off : (m : ℕ) → r ≡ Reached.Wrong m → Found.Wrong m ≡ fieldOn w s n
   unfolding fieldOn
   field-off m e = sym (rw (← found, e))
 
@@ -198,29 +198,29 @@ module _ (w s : List ℕ) (n : ℕ) (f : Found) (found : f ≡ fieldOn w s n) wh
   unfolding lastOn
   last-off m e = sym (rw (← found, e))
 
-  module _ (v m : ℕ) (r : Passed) (value : f ≡ Found.Value v m) (end : r ≡ wordOn (bytes "\n") (drop m s) m) where
-    pub last-on : (k : ℕ) → r ≡ Passed.To k → Found.Value v k ≡ lastOn w s n
+  module _ (v m : ℕ) (r : Reached) (value : f ≡ Found.Value v m) (end : r ≡ wordOn (bytes "\n") (drop m s) m) where
+    pub last-on : (k : ℕ) → r ≡ Reached.To k → Found.Value v k ≡ lastOn w s n
     unfolding lastOn
     last-on k e = sym (rw (← found, value, ← end, e))
 
-    pub end-cut : r ≡ Passed.Short → Found.Short ≡ lastOn w s n
+    pub end-cut : r ≡ Reached.Short → Found.Short ≡ lastOn w s n
     unfolding lastOn
     end-cut e = sym (rw (← found, value, ← end, e))
 
-    pub end-off : (k : ℕ) → r ≡ Passed.Wrong k → Found.Wrong k ≡ lastOn w s n
+    pub end-off : (k : ℕ) → r ≡ Reached.Wrong k → Found.Wrong k ≡ lastOn w s n
     unfolding lastOn
     end-off k e = sym (rw (← found, value, ← end, e))
 
 -- ---- the loop over a word's bytes: o is what the whole word comes to, and so does what is left of it
 
-module _ (w s : List ℕ) (i p : ℕ) (o : Passed) (rest : o ≡ wordOn (drop i w) (drop p s) p) where
-  pub word-past : length w ≤ i → Passed.To p ≡ o
+module _ (w s : List ℕ) (i p : ℕ) (o : Reached) (rest : o ≡ wordOn (drop i w) (drop p s) p) where
+  pub word-past : length w ≤ i → Reached.To p ≡ o
   word-past h = sym (rest ∙ rw (drop-of-length-le w h))
 
-  pub word-ends : i < length w → length s ≤ p → Passed.Short ≡ o
+  pub word-ends : i < length w → length s ≤ p → Reached.Short ≡ o
   word-ends h k = sym (rest ∙ rw (drop-cons w i 0 h, drop-of-length-le s k))
 
-  pub word-differs : i < length w → p < length s → (getD s p 0 ≡ getD w i 0 → ⊥) → Passed.Wrong p ≡ o
+  pub word-differs : i < length w → p < length s → (getD s p 0 ≡ getD w i 0 → ⊥) → Reached.Wrong p ≡ o
   word-differs h k n = sym (rest ∙ rw (drop-cons w i 0 h, drop-cons s p 0 k, ne-eqb (getD s p 0) (getD w i 0) n))
 
   pub word-turn : i < length w → p < length s → getD s p 0 ≡ getD w i 0 → o ≡ wordOn (drop (i + 1) w) (drop (p + 1) s) (p + 1)

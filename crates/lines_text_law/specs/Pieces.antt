@@ -4,7 +4,7 @@ use mathlib.Core.Bool.{cond}
 use mathlib.Core.List.{List, [], _∷_}
 use lib.ListN.{drop}
 use lib.Dec.{eqb}
-use Rattle.lines_text_law.specs.declared.Passed.{Passed}
+use Rattle.lines_text_law.specs.declared.Reached.{Reached}
 use Rattle.lines_text_law.specs.declared.Found.{Found}
 use Rattle.lines_text_law.specs.Text.{bytes}
 use Rattle.lines_text_law.specs.Grammar.{Grammar, stop, number, word, Answer, digit, look}
@@ -14,10 +14,10 @@ unfoldable pub at : {E : Type 0} → List ℕ → Grammar E → ℕ → Answer E
 at s g n = look g (drop n s) n
 
 -- the word w, where the bytes left are l, from place n on
-abbrev pub wordOn : List ℕ → List ℕ → ℕ → Passed
-wordOn [] l n = Passed.To n
-wordOn (b ∷ w) [] n = Passed.Short
-wordOn (b ∷ w) (x ∷ l) n = cond (eqb x b) (wordOn w l (n + 1)) (Passed.Wrong n)
+abbrev pub wordOn : List ℕ → List ℕ → ℕ → Reached
+wordOn [] l n = Reached.To n
+wordOn (b ∷ w) [] n = Reached.Short
+wordOn (b ∷ w) (x ∷ l) n = cond (eqb x b) (wordOn w l (n + 1)) (Reached.Wrong n)
 
 -- up to f digits more after those whose value is v
 abbrev pub moreOn : ℕ → ℕ → List ℕ → ℕ → Found
@@ -31,22 +31,22 @@ numberOn [] n = Found.Short
 numberOn (x ∷ l) n = cond (eqb x 48) (Found.Value 0 (n + 1)) (cond (digit x) (moreOn 8 (x - 48) l (n + 1)) (Found.Wrong n))
 
 -- a word, and then the number after it
-abbrev pub thenNumber : List ℕ → Passed → Found
-thenNumber s (Passed.To m) = numberOn (drop m s) m
-thenNumber s Passed.Short = Found.Short
-thenNumber s (Passed.Wrong m) = Found.Wrong m
+abbrev pub thenNumber : List ℕ → Reached → Found
+thenNumber s (Reached.To m) = numberOn (drop m s) m
+thenNumber s Reached.Short = Found.Short
+thenNumber s (Reached.Wrong m) = Found.Wrong m
 
 unfoldable pub fieldOn : List ℕ → List ℕ → ℕ → Found
 fieldOn w s n = thenNumber s (wordOn w (drop n s) n)
 
 -- a number, and then the newline
-abbrev pub ended : ℕ → Passed → Found
-ended v (Passed.To m) = Found.Value v m
-ended v Passed.Short = Found.Short
-ended v (Passed.Wrong m) = Found.Wrong m
+abbrev pub endAfter : ℕ → Reached → Found
+endAfter v (Reached.To m) = Found.Value v m
+endAfter v Reached.Short = Found.Short
+endAfter v (Reached.Wrong m) = Found.Wrong m
 
 abbrev pub thenEnd : List ℕ → Found → Found
-thenEnd s (Found.Value v m) = ended v (wordOn (bytes "\n") (drop m s) m)
+thenEnd s (Found.Value v m) = endAfter v (wordOn (bytes "\n") (drop m s) m)
 thenEnd s Found.Short = Found.Short
 thenEnd s (Found.Wrong m) = Found.Wrong m
 

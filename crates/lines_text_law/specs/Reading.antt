@@ -11,12 +11,12 @@ module _ {E : Type 0} (L : E → List ℕ → Type 0) where
   Begins b = (e : E) × (rest : List ℕ) × L e (b ++ rest)
 
   -- "hold .. whole one"
-  abbrev pub Holds : List ℕ → Type 0
-  Holds b = (e : E) × (n : ℕ) × (n ≤ length b) × L e (take n b)
+  abbrev pub Contains : List ℕ → Type 0
+  Contains b = (e : E) × (n : ℕ) × (n ≤ length b) × L e (take n b)
 
   -- A value and the length of its line. "14 exactly when the bytes given, none included, begin a line and hold no whole one." 15 else:
   -- "Place is the length of the longest start that begins such a line".
   abbrev pub Right : List ℕ → Answer E → Type 0
   Right b (whole e n) = (n ≤ length b) × L e (take n b)
-  Right b unfinished = Begins b × (Holds b → ⊥)
-  Right b (wrong n) = (n < length b) × Begins (take n b) × ((k : ℕ) → n < k → k ≤ length b → Begins (take k b) → ⊥) × (Holds b → ⊥)
+  Right b unfinished = Begins b × (Contains b → ⊥)
+  Right b (wrong n) = (n < length b) × Begins (take n b) × ((k : ℕ) → n < k → k ≤ length b → Begins (take k b) → ⊥) × (Contains b → ⊥)

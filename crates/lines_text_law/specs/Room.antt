@@ -18,7 +18,7 @@ pub record Put (d : List ℕ) (n : ℕ) (bs d′ : List ℕ) (r : ℕ) : Type 0 
   pub laid : d′ ≡ over d n bs
 
 -- the same from a spot to a spot, with so many numbers used on the way
-pub record Placed (d : List ℕ) (from : Spot) (bs : List ℕ) (count : ℕ) (d′ : List ℕ) (to : Spot) : Type 0 where
+pub record PutFrom (d : List ℕ) (from : Spot) (bs : List ℕ) (count : ℕ) (d′ : List ℕ) (to : Spot) : Type 0 where
   pub put : Put d (from .at) bs d′ (to .at)
   pub used : to .used ≡ from .used + count
 

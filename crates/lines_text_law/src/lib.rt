@@ -3,7 +3,7 @@
 // read back.
 
 // What a word finds: the place after it, that the bytes end within it, or the place of the first other byte.
-pub enum Passed {
+pub enum Reached {
     To(usize),
     Short,
     Wrong(usize),

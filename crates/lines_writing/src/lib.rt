@@ -2,7 +2,7 @@
 // It may use terms, lines_text and lines_writing_law. It promises, for any value and room: 16 for a room under 128 bytes, then 17 for a number that is
 // too long, with the room as it was; else the room starts with the value's line, its length is answered, and the rest is as it was.
 
-pub mod lines;
+pub mod forms;
 
 use lines_writing_law::Wrote;
 use terms::Act;
@@ -17,14 +17,14 @@ ghost use mathlib.Core.List.{_++_};
 ghost use mathlib.Core.Path.{_≡_};
 ghost use Prim.Native.Nat.{_≤_};
 ghost use Rattle.lines_text_law.specs.Forms.{holes, longest};
-ghost use Rattle.lines_reading_law.specs.Lines.{actHead, numbersForm, settingsNumbers, renderSettings, orderForm, eventNumbers, renderEvent};
-ghost use Rattle.lines_writing_law.specs.Lines.{orderNumbers};
+ghost use Rattle.lines_reading_law.specs.Lines.{actHead, numbersForm, settingsFigures, renderSettings, orderForm, eventFigures, renderEvent};
+ghost use Rattle.lines_writing_law.specs.Lines.{orderFigures};
 ghost use Rattle.lines_writing_law.specs.Writes.{Writes, WritesForm, Formed};
 
 // An order, after the part of its line that names the side, which is short and has the time's hole.
 fn write_order(head: &[u8], time: u64, o: Entry, room: &mut [u8]) -> Wrote
     requires { ⌜ (holes (now head) ≡ 1) × (longest (now head) ≤ 32) ⌝ }
-    ensures { λ r. ⌜ WritesForm (now (room .entry)) (now (head .entry) ++ orderForm (o .kind) (o .life)) (orderNumbers time o) r (now (room .exit)) ⌝ }
+    ensures { λ r. ⌜ WritesForm (now (room .entry)) (now (head .entry) ++ orderForm (o .kind) (o .life)) (orderFigures time o) r (now (room .exit)) ⌝ }
 {
     let lots = o.lots;
     let kind = o.kind;
@@ -33,13 +33,13 @@ fn write_order(head: &[u8], time: u64, o: Entry, room: &mut [u8]) -> Wrote
         Kind::Limit(price) => {
             let numbers = [time, lots, price];
             match life {
-                Life::AllDay => lines::write(
+                Life::AllDay => forms::write(
                     head,
                     b" kind=limit life=day qty=# price=#\n",
                     &numbers,
                     room,
                 ),
-                Life::Ioc => lines::write(
+                Life::Ioc => forms::write(
                     head,
                     b" kind=limit life=ioc qty=# price=#\n",
                     &numbers,
@@ -50,13 +50,13 @@ fn write_order(head: &[u8], time: u64, o: Entry, room: &mut [u8]) -> Wrote
         Kind::Market => {
             let numbers = [time, lots];
             match life {
-                Life::AllDay => lines::write(
+                Life::AllDay => forms::write(
                     head,
                     b" kind=market life=day qty=#\n",
                     &numbers,
                     room,
                 ),
-                Life::Ioc => lines::write(head, b" kind=market life=ioc qty=#\n", &numbers, room),
+                Life::Ioc => forms::write(head, b" kind=market life=ioc qty=#\n", &numbers, room),
             }
         }
     }
@@ -67,12 +67,12 @@ fn act_line(tail: &[u8], numbers: &[u64], room: &mut [u8]) -> Wrote
     requires { ⌜ Formed actHead (now tail) (now numbers) ⌝ }
     ensures { λ r. ⌜ WritesForm (now (room .entry)) (actHead ++ now (tail .entry)) (now (numbers .entry)) r (now (room .exit)) ⌝ }
 {
-    lines::write(b"t=# do=", tail, numbers, room)
+    forms::write(b"t=# do=", tail, numbers, room)
 }
 
 // The line of an event.
 pub fn write_event(event: Event, room: &mut [u8]) -> Wrote
-    ensures { λ r. ⌜ Writes (now (room .entry)) (renderEvent event) (eventNumbers event) r (now (room .exit)) ⌝ }
+    ensures { λ r. ⌜ Writes (now (room .entry)) (renderEvent event) (eventFigures event) r (now (room .exit)) ⌝ }
 {
     let time = event.time;
     let act = event.act;
@@ -106,10 +106,10 @@ pub fn write_event(event: Event, room: &mut [u8]) -> Wrote
 // Settings, after the part of their line that names the category, which is short and has no hole.
 fn write_numbers(head: &[u8], g: Settings, room: &mut [u8]) -> Wrote
     requires { ⌜ (holes (now head) ≡ 0) × (longest (now head) ≤ 16) ⌝ }
-    ensures { λ r. ⌜ WritesForm (now (room .entry)) (now (head .entry) ++ numbersForm) (settingsNumbers g) r (now (room .exit)) ⌝ }
+    ensures { λ r. ⌜ WritesForm (now (room .entry)) (now (head .entry) ++ numbersForm) (settingsFigures g) r (now (room .exit)) ⌝ }
 {
     let numbers = [g.base, g.close, g.settle, g.tick, g.length, g.days, g.under];
-    lines::write(
+    forms::write(
         head,
         b" base=# close=# settle=# tick=# len=# days=# under=#\n",
         &numbers,
@@ -119,7 +119,7 @@ fn write_numbers(head: &[u8], g: Settings, room: &mut [u8]) -> Wrote
 
 // The line of settings.
 pub fn write_settings(settings: Settings, room: &mut [u8]) -> Wrote
-    ensures { λ r. ⌜ Writes (now (room .entry)) (renderSettings settings) (settingsNumbers settings) r (now (room .exit)) ⌝ }
+    ensures { λ r. ⌜ Writes (now (room .entry)) (renderSettings settings) (settingsFigures settings) r (now (room .exit)) ⌝ }
 {
     let category = settings.category;
     match category {

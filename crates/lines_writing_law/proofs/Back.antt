@@ -16,7 +16,7 @@ use Rattle.terms.proofs.Cascade.{fine-first}
 use Rattle.lines_text_law.specs.Numerals.{Writable, allWritable}
 use Rattle.lines_text_law.specs.Grammar.{whole}
 use Rattle.lines_text_law.proofs.Fills.{tested-writable}
-use Rattle.lines_reading_law.specs.Lines.{renderEvent, eventNumbers, renderSettings, settingsNumbers}
+use Rattle.lines_reading_law.specs.Lines.{renderEvent, eventFigures, renderSettings, settingsFigures}
 use Rattle.lines_reading_law.specs.Answers.{readEvent, readSettings}
 use Rattle.lines_reading_law.proofs.EventLines.{event-back}
 use Rattle.lines_reading_law.proofs.SettingsLines.{settings-back}
@@ -61,12 +61,12 @@ written-within {d} {line} {ns} {d′} {n} w s =
     omega arith
 
 -- what was written is read back as the same value and length, with whatever else stands in the room
-pub written-event-back : {d d′ : List ℕ} {n : ℕ} (e : Event) → Writes d (renderEvent e) (eventNumbers e) (Wrote.Written n) d′ → readEvent d′ ≡ whole e n
+pub written-event-back : {d d′ : List ℕ} {n : ℕ} (e : Event) → Writes d (renderEvent e) (eventFigures e) (Wrote.Written n) d′ → readEvent d′ ≡ whole e n
 written-event-back {d} e w =
     let l = written-line w in
     ap readEvent (l .1) ∙ event-back e (drop (length (renderEvent e)) d) (l .2) ∙ ap (whole e) (sym (l .0))
 
-pub written-settings-back : {d d′ : List ℕ} {n : ℕ} (g : Settings) → Writes d (renderSettings g) (settingsNumbers g) (Wrote.Written n) d′ → readSettings d′ ≡ whole g n
+pub written-settings-back : {d d′ : List ℕ} {n : ℕ} (g : Settings) → Writes d (renderSettings g) (settingsFigures g) (Wrote.Written n) d′ → readSettings d′ ≡ whole g n
 written-settings-back {d} g w =
     let l = written-line w in
     ap readSettings (l .1) ∙ settings-back g (drop (length (renderSettings g)) d) (l .2) ∙ ap (whole g) (sym (l .0))

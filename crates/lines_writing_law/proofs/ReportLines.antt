@@ -17,7 +17,7 @@ use Rattle.lines_text_law.specs.Grammar.{Grammar, stop, byte, either, number, w
 use Rattle.lines_text_law.specs.Pieces.{lastly}
 use Rattle.lines_text_law.proofs.Grammars.{Spells, s-stop, s-byte, s-this, s-else, s-number, s-word, s-last, Plain, Agrees, agreed}
 use Rattle.lines_text_law.proofs.Rightness.{apart}
-use Rattle.lines_writing_law.specs.Lines.{reportNumbers, renderReport}
+use Rattle.lines_writing_law.specs.Lines.{reportFigures, renderReport}
 
 abbrev report : ℕ → Said → Report
 report time said = record { time = time; said = said }
@@ -51,7 +51,7 @@ unfoldable reportGrammar : Grammar Report
 reportGrammar = word (bytes "t=") (number λ t. word (bytes " say=") (says t))
 
 abbrev ReportLine : Report → List ℕ → Type 0
-ReportLine r bs = (bs ≡ renderReport r) × Writable (reportNumbers r)
+ReportLine r bs = (bs ≡ renderReport r) × Writable (reportFigures r)
 
 plain : Plain reportGrammar
 unfolding reportGrammar says lastly word
@@ -85,7 +85,7 @@ plain =
       ),
     )
 
-agrees : Agrees renderReport (λ r. Writable (reportNumbers r)) reportGrammar (λ x. x)
+agrees : Agrees renderReport (λ r. Writable (reportFigures r)) reportGrammar (λ x. x)
 unfolding reportGrammar says lastly word renderReport fill holes numeral
 agrees =
     λ t h. (
@@ -118,7 +118,7 @@ agrees =
     )
 
 to : (r : Report) (bs : List ℕ) → Spells reportGrammar r bs → ReportLine r bs
-to r bs s = agreed renderReport (λ r. Writable (reportNumbers r)) (λ x. x) agrees s
+to r bs s = agreed renderReport (λ r. Writable (reportFigures r)) (λ x. x) agrees s
 
 time-spells : (t : ℕ) {r : Report} {bs : List ℕ} → t ≤ writtenMost → Spells (says t) r bs → Spells reportGrammar r (bytes "t=" ++ (numeral t ++ (bytes " say=" ++ bs)))
 unfolding reportGrammar
@@ -132,7 +132,7 @@ reason-spells f OutOfRange = s-else (s-else (s-this (s-word (bytes "\n") s-stop)
 reason-spells f OutsideBand = s-else (s-else (s-else (s-this (s-word (bytes "\n") s-stop))))
 reason-spells f DayEnd = s-else (s-else (s-else (s-else (s-byte (s-word (bytes "\n") s-stop)))))
 
-said-spells : (t : ℕ) (s : Said) → Writable (reportNumbers (report t s)) → Spells reportGrammar (report t s) (renderReport (report t s))
+said-spells : (t : ℕ) (s : Said) → Writable (reportFigures (report t s)) → Spells reportGrammar (report t s) (renderReport (report t s))
 unfolding says renderReport fill holes
 said-spells t (Accept i) f = time-spells t (f .0) (s-this (s-last (bytes "ccept id=") (λ i. report t (Accept i)) i (f .1 .0)))
 said-spells t (Trade d) f =
@@ -177,5 +177,5 @@ from : (r : Report) (bs : List ℕ) → ReportLine r bs → Spells reportGrammar
 from r bs l = rw (l .0) (said-spells (r .time) (r .said) (l .1))
 
 -- two reports never share a line
-pub report-apart : (r s : Report) → Writable (reportNumbers r) → Writable (reportNumbers s) → renderReport r ≡ renderReport s → r ≡ s
+pub report-apart : (r s : Report) → Writable (reportFigures r) → Writable (reportFigures s) → renderReport r ≡ renderReport s → r ≡ s
 report-apart r s v w q = apart ReportLine reportGrammar plain to from r s (renderReport r) (refl, v) (q, w)

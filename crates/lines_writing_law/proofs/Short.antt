@@ -21,8 +21,8 @@ use Rattle.terms.specs.declared.Side.the-variants.{Buy, Sell}
 use Rattle.terms.specs.Sizes.{lineRoom}
 use Rattle.lines_text_law.specs.Forms.{longest}
 use Rattle.lines_text_law.proofs.Fills.{fill-length}
-use Rattle.lines_reading_law.specs.Lines.{actHead, sideWord, orderForm, eventForm, eventNumbers, renderEvent, numbersForm, settingsForm, settingsNumbers, renderSettings}
-use Rattle.lines_writing_law.specs.Lines.{reportForm, reportNumbers, renderReport}
+use Rattle.lines_reading_law.specs.Lines.{actHead, sideWord, orderForm, eventForm, eventFigures, renderEvent, numbersForm, settingsForm, settingsFigures, renderSettings}
+use Rattle.lines_writing_law.specs.Lines.{reportForm, reportFigures, renderReport}
 
 order-short : (side : Side) (kind : Kind) (life : Life) → longest (actHead ++ (sideWord side ++ orderForm kind life)) ≤ lineRoom
 unfolding longest
@@ -45,7 +45,7 @@ act-short (Finish settle) = omega arith
 
 pub event-short : (e : Event) → length (renderEvent e) ≤ lineRoom
 unfolding renderEvent
-event-short e = omega (arith, fill-length (eventForm (e .act)) (eventNumbers e), act-short (e .act))
+event-short e = omega (arith, fill-length (eventForm (e .act)) (eventFigures e), act-short (e .act))
 
 category-short : (c : Category) → longest (settingsForm c) ≤ lineRoom
 unfolding longest numbersForm
@@ -60,7 +60,7 @@ category-short Other = omega arith
 
 pub settings-short : (g : Settings) → length (renderSettings g) ≤ lineRoom
 unfolding renderSettings
-settings-short g = omega (arith, fill-length (settingsForm (g .category)) (settingsNumbers g), category-short (g .category))
+settings-short g = omega (arith, fill-length (settingsForm (g .category)) (settingsFigures g), category-short (g .category))
 
 said-short : (s : Said) → longest (reportForm s) ≤ lineRoom
 unfolding longest
@@ -74,4 +74,4 @@ said-short (Close c) = omega arith
 
 pub report-short : (p : Report) → length (renderReport p) ≤ lineRoom
 unfolding renderReport
-report-short p = omega (arith, fill-length (reportForm (p .said)) (reportNumbers p), said-short (p .said))
+report-short p = omega (arith, fill-length (reportForm (p .said)) (reportFigures p), said-short (p .said))

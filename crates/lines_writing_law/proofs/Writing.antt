@@ -14,7 +14,7 @@ use Rattle.terms.specs.Refusals.{firstFailed}
 use Rattle.lines_text_law.specs.Numerals.{allWritable}
 use Rattle.lines_text_law.specs.Forms.{fill, holes}
 use Rattle.lines_text_law.specs.declared.Spot.{Spot}
-use Rattle.lines_text_law.specs.Room.{over, Put, Placed, Fits}
+use Rattle.lines_text_law.specs.Room.{over, Put, PutFrom, Fits}
 use Rattle.lines_text_law.proofs.Rooms.{then}
 use Rattle.lines_text_law.proofs.Fills.{fill-length, fill-append, tested-writable}
 use Rattle.lines_writing_law.specs.declared.Wrote.{Wrote}
@@ -59,7 +59,7 @@ module _ {d h t ns : List ℕ} (formed : Formed h t ns) (large : lineRoom ≤ le
       record { within = omega (arith, fill-length h ns); enough = omega arith; writable = tested-writable ns fine }
 
   -- what the first part left
-  module _ {d₁ : List ℕ} {middle : Spot} (head : Placed d start (fill h ns) (holes h) d₁ middle) (same : length d₁ ≡ length d) where
+  module _ {d₁ : List ℕ} {middle : Spot} (head : PutFrom d start (fill h ns) (holes h) d₁ middle) (same : length d₁ ≡ length d) where
     pub tail-fits : Fits d₁ middle t ns
     tail-fits =
         let s = formed .short in
@@ -72,7 +72,7 @@ module _ {d h t ns : List ℕ} (formed : Formed h t ns) (large : lineRoom ≤ le
           writable = tested-writable ns fine;
         }
 
-    pub both-put : {d₂ : List ℕ} {end : Spot} → Placed d₁ middle (fill t (drop (middle .used) ns)) (holes t) d₂ end → Put d 0 (fill (h ++ t) ns) d₂ (end .at)
+    pub both-put : {d₂ : List ℕ} {end : Spot} → PutFrom d₁ middle (fill t (drop (middle .used) ns)) (holes t) d₂ end → Put d 0 (fill (h ++ t) ns) d₂ (end .at)
     both-put tail =
         let s = formed .short in
         let e : middle .used ≡ holes h = head .used ∙ zero-add (holes h) in

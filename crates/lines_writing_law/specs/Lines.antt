@@ -11,12 +11,12 @@ use Rattle.terms.specs.Records.{fieldsOf}
 use Rattle.terms.specs.Refusals.{numberOf}
 use Rattle.lines_text_law.specs.Text.{bytes}
 use Rattle.lines_text_law.specs.Forms.{fill, holes}
-use Rattle.lines_reading_law.specs.Lines.{priceNumbers}
+use Rattle.lines_reading_law.specs.Lines.{priceFigures}
 
 -- ---- orders: the numbers of an order's line
 
-abbrev pub orderNumbers : ℕ → Entry → List ℕ
-orderNumbers time o = time ∷ o .lots ∷ priceNumbers (o .kind)
+abbrev pub orderFigures : ℕ → Entry → List ℕ
+orderFigures time o = time ∷ o .lots ∷ priceFigures (o .kind)
 
 -- ---- reports: "fields are time, kind, then order numbers, lots, paise or reason"
 
@@ -30,8 +30,8 @@ saidForm (Ref price) = bytes "ref price=#\n"
 saidForm (Close closing) = bytes "close price=# base=#\n"
 
 -- the fields of its record, one for each # of its form
-abbrev pub saidNumbers : Said → List ℕ
-saidNumbers s = take (holes (saidForm s)) (fieldsOf s)
+abbrev pub saidFigures : Said → List ℕ
+saidFigures s = take (holes (saidForm s)) (fieldsOf s)
 
 -- "t=# say=", which every report line begins with
 abbrev pub saidHead : List ℕ
@@ -40,24 +40,24 @@ saidHead = bytes "t=# say="
 abbrev pub reportForm : Said → List ℕ
 reportForm s = saidHead ++ saidForm s
 
-abbrev pub reportNumbers : Report → List ℕ
-reportNumbers r = r .time ∷ saidNumbers (r .said)
+abbrev pub reportFigures : Report → List ℕ
+reportFigures r = r .time ∷ saidFigures (r .said)
 
 unfoldable pub renderReport : Report → List ℕ
-renderReport r = fill (reportForm (r .said)) (reportNumbers r)
+renderReport r = fill (reportForm (r .said)) (reportFigures r)
 
 -- ---- the program's own lines
 
 -- "A refused event prints `t=5 say=refuse code=8` with its own time"
-abbrev pub refusedNumbers : ℕ → Refusal → List ℕ
-refusedNumbers time r = time ∷ numberOf r ∷ []
+abbrev pub refusedFigures : ℕ → Refusal → List ℕ
+refusedFigures time r = time ∷ numberOf r ∷ []
 
 unfoldable pub renderRefused : ℕ → Refusal → List ℕ
-renderRefused time r = fill (bytes "t=# say=refuse code=#\n") (refusedNumbers time r)
+renderRefused time r = fill (bytes "t=# say=refuse code=#\n") (refusedFigures time r)
 
 -- "a bad line prints `say=bad code=15 at=3`, the place counted from that line's start"
-abbrev pub badNumbers : Refusal → ℕ → List ℕ
-badNumbers r place = numberOf r ∷ place ∷ []
+abbrev pub badFigures : Refusal → ℕ → List ℕ
+badFigures r place = numberOf r ∷ place ∷ []
 
 unfoldable pub renderBad : Refusal → ℕ → List ℕ
-renderBad r place = fill (bytes "say=bad code=# at=#\n") (badNumbers r place)
+renderBad r place = fill (bytes "say=bad code=# at=#\n") (badFigures r place)

@@ -1,14 +1,14 @@
 // lines_writing_reports: what is said, written into a lent line room: the line of a report, of a refused event, of a bad line.
 // It may use terms, lines_writing and lines_writing_law. It promises, for any value and room: what lines_writing promises of session lines.
 
-use lines_writing::lines;
+use lines_writing::forms;
 use lines_writing_law::Wrote;
 use terms::Refusal;
 use terms::Report;
 use terms::Said;
 use terms::numbers;
 ghost use mathlib.Core.List.{_++_};
-ghost use Rattle.lines_writing_law.specs.Lines.{saidHead, reportNumbers, renderReport, refusedNumbers, renderRefused, badNumbers, renderBad};
+ghost use Rattle.lines_writing_law.specs.Lines.{saidHead, reportFigures, renderReport, refusedFigures, renderRefused, badFigures, renderBad};
 ghost use Rattle.lines_writing_law.specs.Writes.{Writes, WritesForm, Formed};
 
 // A line that begins as every report line does.
@@ -16,12 +16,12 @@ fn say(tail: &[u8], numbers: &[u64], room: &mut [u8]) -> Wrote
     requires { ⌜ Formed saidHead (now tail) (now numbers) ⌝ }
     ensures { λ r. ⌜ WritesForm (now (room .entry)) (saidHead ++ now (tail .entry)) (now (numbers .entry)) r (now (room .exit)) ⌝ }
 {
-    lines::write(b"t=# say=", tail, numbers, room)
+    forms::write(b"t=# say=", tail, numbers, room)
 }
 
 // The line of a report.
 pub fn write_report(report: Report, room: &mut [u8]) -> Wrote
-    ensures { λ r. ⌜ Writes (now (room .entry)) (renderReport report) (reportNumbers report) r (now (room .exit)) ⌝ }
+    ensures { λ r. ⌜ Writes (now (room .entry)) (renderReport report) (reportFigures report) r (now (room .exit)) ⌝ }
 {
     let time = report.time;
     let said = report.said;
@@ -60,7 +60,7 @@ pub fn write_report(report: Report, room: &mut [u8]) -> Wrote
 
 // The line that the program prints for a refused event.
 pub fn write_refused(time: u64, refusal: Refusal, room: &mut [u8]) -> Wrote
-    ensures { λ r. ⌜ Writes (now (room .entry)) (renderRefused time refusal) (refusedNumbers time refusal) r (now (room .exit)) ⌝ }
+    ensures { λ r. ⌜ Writes (now (room .entry)) (renderRefused time refusal) (refusedFigures time refusal) r (now (room .exit)) ⌝ }
 {
     let numbers = [time, numbers::of_refusal(refusal)];
     say(b"refuse code=#\n", &numbers, room)
@@ -68,8 +68,8 @@ pub fn write_refused(time: u64, refusal: Refusal, room: &mut [u8]) -> Wrote
 
 // The line that the program prints for a bad line, or refused settings.
 pub fn write_bad(refusal: Refusal, place: usize, room: &mut [u8]) -> Wrote
-    ensures { λ r. ⌜ Writes (now (room .entry)) (renderBad refusal place) (badNumbers refusal place) r (now (room .exit)) ⌝ }
+    ensures { λ r. ⌜ Writes (now (room .entry)) (renderBad refusal place) (badFigures refusal place) r (now (room .exit)) ⌝ }
 {
     let numbers = [numbers::of_refusal(refusal), place as u64];
-    lines::write(b"say=bad", b" code=# at=#\n", &numbers, room)
+    forms::write(b"say=bad", b" code=# at=#\n", &numbers, room)
 }

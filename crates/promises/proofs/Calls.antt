@@ -20,7 +20,7 @@ use Rattle.engine_law.specs.Outcome.{after}
 use Rattle.engine_law.specs.Calls.{eventAt}
 use Rattle.engine_law.proofs.Kept.{accepted-number}
 use Rattle.lines_text_law.specs.Numerals.{allWritable}
-use Rattle.lines_writing_law.specs.Lines.{reportNumbers}
+use Rattle.lines_writing_law.specs.Lines.{reportFigures}
 use Rattle.lines_writing_law.specs.Writes.{lineVerdict}
 use Rattle.lines_writing_law.proofs.Back.{written-code}
 use Rattle.promises.specs.Lots.{asked}
@@ -94,7 +94,7 @@ fine-line room numbers l w = rw (le-leb lineRoom (length room) l, w)
 
 pub calls-written : CallsWritten
 calls-written g es rs h r before later x room room′ w e l a =
-    written-code a ∙ fine-line room (reportNumbers x) l (calls-writable g es rs h r before later x e)
+    written-code a ∙ fine-line room (reportFigures x) l (calls-writable g es rs h r before later x e)
 
 pub calls-widen : CallsWiden
 calls-widen g es rs h r before later t band e =

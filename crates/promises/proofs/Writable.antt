@@ -16,18 +16,18 @@ use Rattle.engine_law.proofs.Kept.{outcome-small, outcome-ten}
 use Rattle.lines_text_law.specs.Numerals.{Writable, allWritable}
 use Rattle.lines_text_law.specs.Forms.{holes}
 use Rattle.lines_text_law.proofs.Fills.{writable-take, writable-tested}
-use Rattle.lines_writing_law.specs.Lines.{saidForm, reportNumbers}
+use Rattle.lines_writing_law.specs.Lines.{saidForm, reportFigures}
 use Rattle.promises.specs.Writable.{AllWritable, ReportsWritable, RunsWritable}
 
 small-writable : (ns : List ℕ) → AllSmall ns → Writable ns
 small-writable [] h = tt
 small-writable (n ∷ ns) h = (h .0, small-writable ns (h .1))
 
-pub report-writable : (r : Report) → SmallReport r → allWritable (reportNumbers r) ≡ true
+pub report-writable : (r : Report) → SmallReport r → allWritable (reportFigures r) ≡ true
 unfolding recordOf
 report-writable r h =
     let x = r .said in
-    writable-tested (reportNumbers r) (h .1 .0, writable-take (holes (saidForm x)) (fieldsOf x) (small-writable (fieldsOf x) (h .1 .1)))
+    writable-tested (reportFigures r) (h .1 .0, writable-take (holes (saidForm x)) (fieldsOf x) (small-writable (fieldsOf x) (h .1 .1)))
 
 -- one of small reports is small
 small-at : (before later : List Report) (r : Report) → SmallReports (before ++ (r ∷ later)) → SmallReport r

@@ -23,7 +23,7 @@ use Rattle.state_law.specs.Opening.{openedSession}
 use Rattle.state_law.specs.Trades.{withTrades}
 use Rattle.state_law.specs.Day.{opened}
 use Rattle.engine_law.specs.Outcome.{outcome}
-use Rattle.lines_reading_law.specs.Answers.{codeOf as lineCode, readSettings, readEvent}
+use Rattle.lines_reading_law.specs.Answers.{readCode, readSettings, readEvent}
 
 -- a contract of a category with this base, also its previous close and settlement, and this tick; no underlying is known
 abbrev pub contract : Category → ℕ → ℕ → Settings
@@ -67,7 +67,7 @@ answerTo (InRange category reference price) = yes (inRange (rangeOf (slabOf cate
 answerTo (CloseAfter tick prices) = closePrice tick tick (withTrades (openedSession (contract Gems tick tick)) (oneLots prices) .tape) ∷ []
 answerTo (InHalfHour length time) = yes (inHalfHour length time)
 answerTo (WithinMark side first price) = yes (not (beyondMark side first price))
-answerTo (Lines bytes) = lineCode (readSettings bytes) ∷ lineCode (readEvent bytes) ∷ []
+answerTo (Lines bytes) = readCode (readSettings bytes) ∷ readCode (readEvent bytes) ∷ []
 
 pub record Case : Type 0 where
   pub asks : Question

@@ -39,7 +39,7 @@ use Rattle.engine_law.specs.declared.Applied.{Applied}
 use Rattle.engine_law.specs.Answers.{answerCode, answerCount}
 use Rattle.engine_law.specs.Calls.{roomy, AppliedAs, eventAt, viewCall}
 use Rattle.lines_writing_law.specs.declared.Wrote.{Wrote}
-use Rattle.lines_writing_law.specs.Lines.{renderReport, reportNumbers}
+use Rattle.lines_writing_law.specs.Lines.{renderReport, reportFigures}
 use Rattle.lines_writing_law.specs.Writes.{wroteCode, Writes}
 use Rattle.promises.specs.ClockLine.{clockAt, plain, From}
 use Rattle.promises.specs.Writable.{AllWritable}
@@ -221,7 +221,7 @@ CallsWritable = ForRuns (λ g es rs h. AllWritable rs)
 abbrev pub CallsWritten : Type 0
 CallsWritten =
     ForRuns (λ g es rs h. (before later : List Report) (x : Report) (room room′ : List ℕ) (w : Wrote) → rs ≡ before ++ (x ∷ later) →
-    lineRoom ≤ length room → Writes room (renderReport x) (reportNumbers x) w room′ → wroteCode w ≡ 0)
+    lineRoom ≤ length room → Writes room (renderReport x) (reportFigures x) w room′ → wroteCode w ≡ 0)
 
 -- a slab report comes only after a trade at an end of the initial band; the band told before it was the initial one, and it tells the enhanced
 -- one, which holds every price of the one before

@@ -9,11 +9,11 @@ use Rattle.terms.specs.declared.Report.{Report}
 use Rattle.state_law.specs.Day.{Day, opened}
 use Rattle.engine_law.specs.Outcome.{outcome, told}
 use Rattle.lines_text_law.specs.Numerals.{allWritable}
-use Rattle.lines_writing_law.specs.Lines.{reportNumbers}
+use Rattle.lines_writing_law.specs.Lines.{reportFigures}
 
 -- each report among these
 abbrev pub AllWritable : List Report → Type 0
-AllWritable rs = (before later : List Report) (r : Report) → rs ≡ before ++ (r ∷ later) → allWritable (reportNumbers r) ≡ true
+AllWritable rs = (before later : List Report) (r : Report) → rs ≡ before ++ (r ∷ later) → allWritable (reportFigures r) ≡ true
 
 -- of any event on any day, sound or not; the session's array of prices has its ten places
 abbrev pub ReportsWritable : Type 0

@@ -11,7 +11,7 @@ use mir.Val.{Fits}
 use Rattle.descriptors.specs.declared.Got.{Got}
 use Rattle.descriptors.specs.Counted.{GotWithin}
 use Rattle.descriptors.proofs.Parts.{got-within}
-use Rattle.stream_law.specs.declared.Held.{Held}
+use Rattle.stream_law.specs.declared.Buffered.{Buffered}
 use Rattle.stream_law.specs.declared.Reading.{Reading}
 use Rattle.stream_law.specs.Streams.{heldAs, TakesIn, FrontKept, HearsOn}
 use Rattle.stream_law.proofs.Beginnings.{rest-is}
@@ -38,7 +38,7 @@ module _ {have n : ℕ} {buf buf₁ : List ℕ} {g : Got} (b : ReadBehind have b
   pub end-fits : length buf < 2 ^ 64 → Fits w64 (have + n)
   end-fits w = record { fits = let l = end-there in omega arith }
 
-module _ {expected buys sells : List ℕ} {h r : Held} {buf buf₁ : List ℕ} {g : Got} (b : ReadBehind (h .have) buf buf₁ g) where
+module _ {expected buys sells : List ℕ} {h r : Buffered} {buf buf₁ : List ℕ} {g : Got} (b : ReadBehind (h .have) buf buf₁ g) where
   pub came-some : {n : ℕ} {buf′ buys′ sells′ : List ℕ} → g ≡ Got.Bytes n → TakesIn expected (h .run) buf₁ (h .have + n) buys sells (h .to) buf′ buys′ sells′ r →
       HearsOn expected h buf buys sells buf′ buys′ sells′ r
   came-some {n} e k = hears-some (b .kept) n k

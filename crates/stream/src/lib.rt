@@ -7,8 +7,8 @@
 use descriptors::Got;
 use descriptors::reading;
 use feed_law::Run;
+use stream_law::Buffered;
 use stream_law::Finish;
-use stream_law::Held;
 use stream_law::Reading;
 use stream_law::Sink;
 use terms::sizes;
@@ -31,10 +31,10 @@ fn read_behind(fd: i32, have: usize, buf: &mut [u8]) -> Got
     reading::read_some(fd, &mut buf[have..])
 }
 
-fn held(run: Run, have: usize, to: Sink, reading: Reading) -> Held
+fn held(run: Run, have: usize, to: Sink, reading: Reading) -> Buffered
     ensures { λ r. ⌜ r ≡ heldAs run have to reading ⌝ }
 {
-    Held {
+    Buffered {
         run: run,
         have: have,
         to: to,
@@ -46,11 +46,11 @@ fn held(run: Run, have: usize, to: Sink, reading: Reading) -> Held
 fn read_on(
     fd: i32,
     expected: &[u8],
-    h: Held,
+    h: Buffered,
     buf: &mut [u8],
     buys: &mut [u64],
     sells: &mut [u64],
-) -> Held
+) -> Buffered
     requires { ⌜ Tables (now buys) (now sells) ⌝ }
     requires { ⌜ h .have < length (now buf) ⌝ }
     ensures { λ r. ⌜ HearsOn (now (expected .entry)) h (now (buf .entry)) (now (buys .entry)) (now (sells .entry)) (now (buf .exit)) (now (buys .exit)) (now (sells .exit)) r ⌝ }
@@ -88,7 +88,7 @@ fn read_all(
     buf: &mut [u8],
     buys: &mut [u64],
     sells: &mut [u64],
-) -> Held
+) -> Buffered
     requires { ⌜ Tables (now buys) (now sells) ⌝ }
     requires { ⌜ lineRoom < length (now buf) ⌝ }
     ensures { λ r. ⌜ Hears (now (expected .entry)) (holding begun (now (buys .entry)) (now (sells .entry)) []) to (now (buf .exit)) (now (buys .exit)) (now (sells .exit)) r ⌝ }

@@ -6,9 +6,9 @@ use feed::lines;
 use feed_law::Run;
 use feed_law::Stage;
 use feed_law::Stop;
-use feed_prints::telling;
+use feed_prints::printing;
+use stream_law::Buffered;
 use stream_law::Handed;
-use stream_law::Held;
 use stream_law::Reading;
 use stream_law::Sink;
 use terms::sizes;
@@ -185,7 +185,7 @@ pub fn take_in(
     end: usize,
     buys: &mut [u64],
     sells: &mut [u64],
-) -> Held
+) -> Buffered
     requires { ⌜ Tables (now buys) (now sells) ⌝ }
     requires { ⌜ end ≤ length (now buf) ⌝ }
     ensures { λ r. ⌜ TakesIn (now (expected .entry)) run (now (buf .entry)) end (now (buys .entry)) (now (sells .entry)) to (now (buf .exit)) (now (buys .exit)) (now (sells .exit)) r ⌝ }
@@ -197,7 +197,7 @@ pub fn take_in(
     let stage = after.stage;
     to_front(buf, used, end);
     let reading = reading_after(stage, sink);
-    Held {
+    Buffered {
         run: after,
         have: end - used,
         to: sink,
@@ -212,7 +212,7 @@ fn end_with(to: Sink, expected: &[u8], stage: Stage, rest: &[u8], out: &mut [u8]
     requires { ⌜ lineRoom ≤ length (now out) ⌝ }
     ensures { λ r. ⌜ SentAs (now (expected .entry)) to (endText stage (length (now (rest .entry)))) r ⌝ }
 {
-    let n = telling::tell_end(stage, rest.len(), out);
+    let n = printing::tell_end(stage, rest.len(), out);
     stream_sink::send(to, expected, &out[0..n])
 }
 

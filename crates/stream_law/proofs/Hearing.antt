@@ -12,28 +12,28 @@ use Rattle.feed_law.specs.declared.Run.{Run}
 use Rattle.feed_law.specs.Feeds.{begun}
 use Rattle.promises.specs.Printed.{Holding}
 use Rattle.stream_law.specs.declared.Sink.{Sink}
-use Rattle.stream_law.specs.declared.Held.{Held}
+use Rattle.stream_law.specs.declared.Buffered.{Buffered}
 use Rattle.stream_law.specs.declared.Reading.{Reading}
 use Rattle.stream_law.specs.Streams.{holding, Goes, isOn, heldAs, heldOn, TakesIn, FrontKept, Hears, HearsOn}
 use Rattle.stream_law.proofs.Goes.{goes-none, goes-then, goes-read}
 
 -- before the first read: nothing is kept
-pub hears-start : (expected buf buys sells : List ℕ) {run : Run} {to : Sink} {reading : Reading} {h : Held} → h ≡ heldAs run 0 to reading →
+pub hears-start : (expected buf buys sells : List ℕ) {run : Run} {to : Sink} {reading : Reading} {h : Buffered} → h ≡ heldAs run 0 to reading →
     HearsOn expected h buf buys sells buf buys sells h
 hears-start expected buf buys sells {h = h} e =
-    let z = ap (λ (x : Held). x .have) e in
+    let z = ap (λ (x : Buffered). x .have) e in
     record { hears = record { room = record { within = omega arith; short = λ _. omega arith }; got = []; goes = goes-none expected _ (h .to) } }
 
-pub start-short : {run : Run} {to : Sink} {reading : Reading} {h : Held} → h ≡ heldAs run 0 to reading → h .have ≤ lineRoom
-start-short e = let z = ap (λ (x : Held). x .have) e in omega arith
+pub start-short : {run : Run} {to : Sink} {reading : Reading} {h : Buffered} → h ≡ heldAs run 0 to reading → h .have ≤ lineRoom
+start-short e = let z = ap (λ (x : Buffered). x .have) e in omega arith
 
-pub hears-first : {buf expected buys sells buf′ buys′ sells′ : List ℕ} {run : Run} {to : Sink} {reading : Reading} {h r : Held} →
+pub hears-first : {buf expected buys sells buf′ buys′ sells′ : List ℕ} {run : Run} {to : Sink} {reading : Reading} {h r : Buffered} →
     run ≡ begun → h ≡ heldAs run 0 to reading → HearsOn expected h buf buys sells buf′ buys′ sells′ r →
     Hears expected (holding begun buys sells []) to buf′ buys′ sells′ r
 hears-first {buf} {expected} {buys} {sells} {buf′} {buys′} {sells′} {run} {to} {reading} {h} {r} s e k =
-    subst (λ (x : Held). Hears expected (heldOn buf buys sells x) (x .to) buf′ buys′ sells′ r) (e ∙ ap (λ (x : Run). heldAs x 0 to reading) s) (k .hears)
+    subst (λ (x : Buffered). Hears expected (heldOn buf buys sells x) (x .to) buf′ buys′ sells′ r) (e ∙ ap (λ (x : Run). heldAs x 0 to reading) s) (k .hears)
 
-pub hears-then : {expected buf₀ buys₀ sells₀ buf buys sells buf′ buys′ sells′ : List ℕ} {h₀ h r : Held} →
+pub hears-then : {expected buf₀ buys₀ sells₀ buf buys sells buf′ buys′ sells′ : List ℕ} {h₀ h r : Buffered} →
     HearsOn expected h₀ buf₀ buys₀ sells₀ buf buys sells h → HearsOn expected h buf buys sells buf′ buys′ sells′ r →
     HearsOn expected h₀ buf₀ buys₀ sells₀ buf′ buys′ sells′ r
 hears-then p q =
@@ -41,7 +41,7 @@ hears-then p q =
     let b = q .hears in
     record { hears = record { room = b .room; got = a .got ++ b .got; goes = goes-then (a .goes) (b .goes) } }
 
-pub hears-last : {buf₀ expected buys₀ sells₀ buf buys sells buf′ buys′ sells′ : List ℕ} {run : Run} {to : Sink} {reading : Reading} {h₀ h r : Held} →
+pub hears-last : {buf₀ expected buys₀ sells₀ buf buys sells buf′ buys′ sells′ : List ℕ} {run : Run} {to : Sink} {reading : Reading} {h₀ h r : Buffered} →
     run ≡ begun → h₀ ≡ heldAs run 0 to reading → HearsOn expected h₀ buf₀ buys₀ sells₀ buf buys sells h → HearsOn expected h buf buys sells buf′ buys′ sells′ r →
     Hears expected (holding begun buys₀ sells₀ []) to buf′ buys′ sells′ r
 hears-last s e p q = hears-first s e (hears-then p q)
@@ -50,9 +50,9 @@ hears-last s e p q = hears-first s e (hears-then p q)
 pub front-kept : (buf behind : List ℕ) (have : ℕ) → have ≤ length buf → take have (take have buf ++ behind) ≡ take have buf
 front-kept buf behind have h = take-at (take have buf) behind have (length-take-le have buf h)
 
-module _ {expected buys sells : List ℕ} {h : Held} {buf buf₁ : List ℕ} (kept : FrontKept (h .have) buf buf₁) where
+module _ {expected buys sells : List ℕ} {h : Buffered} {buf buf₁ : List ℕ} (kept : FrontKept (h .have) buf buf₁) where
   -- nothing came: the input is at its end, or the read failed
-  pub hears-none : {reading : Reading} {r : Held} → (reading ≡ Reading.On → ⊥) → h .have < length buf →
+  pub hears-none : {reading : Reading} {r : Buffered} → (reading ≡ Reading.On → ⊥) → h .have < length buf →
       r ≡ heldAs (h .run) (h .have) (h .to) reading → HearsOn expected h buf buys sells buf₁ buys sells r
   hears-none {reading} {r} off fits e =
       subst (HearsOn expected h buf buys sells buf₁ buys sells) (sym e)
@@ -68,7 +68,7 @@ module _ {expected buys sells : List ℕ} {h : Held} {buf buf₁ : List ℕ} (ke
       })
 
   -- so many bytes came, and were taken in
-  pub hears-some : (n : ℕ) {buf′ buys′ sells′ : List ℕ} {r : Held} → TakesIn expected (h .run) buf₁ (h .have + n) buys sells (h .to) buf′ buys′ sells′ r →
+  pub hears-some : (n : ℕ) {buf′ buys′ sells′ : List ℕ} {r : Buffered} → TakesIn expected (h .run) buf₁ (h .have + n) buys sells (h .to) buf′ buys′ sells′ r →
       HearsOn expected h buf buys sells buf′ buys′ sells′ r
   hears-some n k =
       record {
@@ -86,7 +86,7 @@ on-is Reading.Done e = absurd (false≢true e)
 on-is Reading.Failed e = absurd (false≢true e)
 
 -- where more is to be read, what is kept is short
-pub hears-on : {expected buf buys sells buf′ buys′ sells′ : List ℕ} {h r : Held} {on : Bool} → HearsOn expected h buf buys sells buf′ buys′ sells′ r →
+pub hears-on : {expected buf buys sells buf′ buys′ sells′ : List ℕ} {h r : Buffered} {on : Bool} → HearsOn expected h buf buys sells buf′ buys′ sells′ r →
     on ≡ isOn (r .reading) → not on ≡ false → r .have ≤ lineRoom
 hears-on {r = r} {on = on} k e n = k .hears .room .short (on-is (r .reading) (sym e ∙ not-false on n))
 

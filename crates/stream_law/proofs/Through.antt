@@ -11,7 +11,7 @@ use Rattle.feed_law.specs.Feeds.{begun}
 use Rattle.promises.specs.Printed.{Holding, toPrint}
 use Rattle.stream_law.specs.declared.Sink.{Sink}
 use Rattle.stream_law.specs.declared.Finish.{Finish}
-use Rattle.stream_law.specs.declared.Held.{Held}
+use Rattle.stream_law.specs.declared.Buffered.{Buffered}
 use Rattle.stream_law.specs.Sinks.{SentAs, finishOf}
 use Rattle.stream_law.specs.Streams.{holding, heldOn, Hears, EndsAs, ThroughAs, Tells, Compares, PrintedAs}
 use Rattle.stream_law.specs.Streams.ThroughAs.{unread, whole}
@@ -23,7 +23,7 @@ unfolding printed fixedSession decode
 from-start buys sells input = refl
 
 -- all that was read, then the end
-pub run-whole : {expected buys sells : List ℕ} {to last : Sink} {buf′ buys′ sells′ : List ℕ} {h : Held} {r : Finish} →
+pub run-whole : {expected buys sells : List ℕ} {to last : Sink} {buf′ buys′ sells′ : List ℕ} {h : Buffered} {r : Finish} →
     Hears expected (holding begun buys sells []) to buf′ buys′ sells′ h →
     EndsAs expected (holding (h .run) buys′ sells′ (take (h .have - 0) buf′)) (h .to) last → r ≡ finishOf expected last → ThroughAs expected to r
 run-whole {expected} {buys} {sells} {to} {last} {buf′} {buys′} {sells′} {h} k e q =

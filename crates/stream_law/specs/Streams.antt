@@ -16,7 +16,7 @@ use Rattle.promises.specs.Printed.{Holding, toPrint}
 use Rattle.stream_law.specs.declared.Sink.{Sink}
 use Rattle.stream_law.specs.declared.Finish.{Finish}
 use Rattle.stream_law.specs.declared.Handed.{Handed}
-use Rattle.stream_law.specs.declared.Held.{Held}
+use Rattle.stream_law.specs.declared.Buffered.{Buffered}
 use Rattle.stream_law.specs.declared.Reading.{Reading}
 use Rattle.stream_law.specs.Sinks.{SentAs, isOpen, finishOf}
 
@@ -111,15 +111,15 @@ readingAfter Stage.Awaiting to = cond (isOpen to) Reading.On Reading.Done
 readingAfter Stage.Trading to = cond (isOpen to) Reading.On Reading.Done
 readingAfter Stage.Over to = Reading.Done
 
-abbrev pub heldAs : Run → ℕ → Sink → Reading → Held
+abbrev pub heldAs : Run → ℕ → Sink → Reading → Buffered
 heldAs run have to reading = record { run = run; have = have; to = to; reading = reading }
 
 -- what is held where the start of a line stands at a buffer's front
-abbrev pub heldOn : List ℕ → List ℕ → List ℕ → Held → Holding
+abbrev pub heldOn : List ℕ → List ℕ → List ℕ → Buffered → Holding
 heldOn buf buys sells h = holding (h .run) buys sells (take (h .have) buf)
 
 -- what stands at the front is within the buffer, and short where more is to be read: so there is room for it
-pub record Room (buf : List ℕ) (h : Held) : Type 0 where
+pub record Room (buf : List ℕ) (h : Buffered) : Type 0 where
   pub within : h .have ≤ length buf
   pub short : h .reading ≡ Reading.On → h .have ≤ lineRoom
 
@@ -128,7 +128,7 @@ pub record ToFront (buf : List ℕ) (start end : ℕ) (buf′ : List ℕ) : Type
   pub front : take (end - start) buf′ ≡ drop start (take end buf)
 
 -- THE CONTRACT of `take_in`: what stands in the buffer is handed over, and what is left of it is moved to the front
-pub record TakesIn (expected : List ℕ) (run : Run) (buf : List ℕ) (end : ℕ) (buys sells : List ℕ) (to : Sink) (buf′ buys′ sells′ : List ℕ) (r : Held) : Type 0 where
+pub record TakesIn (expected : List ℕ) (run : Run) (buf : List ℕ) (end : ℕ) (buys sells : List ℕ) (to : Sink) (buf′ buys′ sells′ : List ℕ) (r : Buffered) : Type 0 where
   pub room : Room buf′ r
   pub goes : Goes expected (holding run buys sells (take end buf)) to [] (heldOn buf′ buys′ sells′ r) (r .to)
   pub reading : r .reading ≡ readingAfter (r .run .stage) (r .to)
@@ -139,13 +139,13 @@ pub record FrontKept (have : ℕ) (buf buf′ : List ℕ) : Type 0 where
   pub front : take have buf′ ≡ take have buf
 
 -- THE CONTRACT of a read, and of many: some bytes came, and what came of them
-pub record Hears (expected : List ℕ) (a : Holding) (to : Sink) (buf′ buys′ sells′ : List ℕ) (r : Held) : Type 0 where
+pub record Hears (expected : List ℕ) (a : Holding) (to : Sink) (buf′ buys′ sells′ : List ℕ) (r : Buffered) : Type 0 where
   pub room : Room buf′ r
   pub got : List ℕ
   pub goes : Goes expected a to got (heldOn buf′ buys′ sells′ r) (r .to)
 
 -- the same from what is held on, with the buffer that it stands in
-pub record HearsOn (expected : List ℕ) (h : Held) (buf buys sells buf′ buys′ sells′ : List ℕ) (r : Held) : Type 0 where
+pub record HearsOn (expected : List ℕ) (h : Buffered) (buf buys sells buf′ buys′ sells′ : List ℕ) (r : Buffered) : Type 0 where
   pub hears : Hears expected (heldOn buf buys sells h) (h .to) buf′ buys′ sells′ r
 
 -- ---- the end

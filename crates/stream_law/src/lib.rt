@@ -40,7 +40,7 @@ pub enum Reading {
 
 // What is kept from read to read: the run, how many bytes of an unfinished line stand at the buffer's front, and how it stands with what
 // was printed and with the reading.
-pub struct Held {
+pub struct Buffered {
     pub run: Run,
     pub have: usize,
     pub to: Sink,

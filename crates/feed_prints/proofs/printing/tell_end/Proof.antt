@@ -1,7 +1,7 @@
 use Rattle.feed_law.proofs.Ending.{end-awaiting, end-trading, end-over}
 use borrow.Author.Needs.{needs}
-use Rattle.feed_prints.proofs.telling.tell_end.Statement.{statement}
-use Rattle.feed_prints.proofs.telling.tell_end.Tie as tie
+use Rattle.feed_prints.proofs.printing.tell_end.Statement.{statement}
+use Rattle.feed_prints.proofs.printing.tell_end.Tie as tie
 
 ruleset answers = (needs, end-awaiting, end-trading, end-over)
 

@@ -3,8 +3,8 @@ use mathlib.Core.Path.{_≡_}
 use lib.ListN.{length}
 use Rattle.feed_law.proofs.Prints.{Telling, telling-none, telling-on, telling-all}
 use borrow.Author.Needs.{needs}
-use Rattle.feed_prints.proofs.telling.tell_records.Statement.{statement}
-use Rattle.feed_prints.proofs.telling.tell_records.Tie as tie
+use Rattle.feed_prints.proofs.printing.tell_records.Statement.{statement}
+use Rattle.feed_prints.proofs.printing.tell_records.Tie as tie
 
 ruleset answers = (needs, telling-none, telling-on, telling-all)
 

@@ -1,7 +1,7 @@
 use borrow.Author.Needs.{needs}
 use Rattle.feed_law.proofs.Prints.{writes-prints}
-use Rattle.feed_prints.proofs.telling.tell_bad.Statement.{statement}
-use Rattle.feed_prints.proofs.telling.tell_bad.Tie as tie
+use Rattle.feed_prints.proofs.printing.tell_bad.Statement.{statement}
+use Rattle.feed_prints.proofs.printing.tell_bad.Tie as tie
 use Rattle.feed_law.specs.Texts.{badText}
 
 write-bad-requires : tie.Need-write-bad-requires

@@ -1,7 +1,7 @@
 use borrow.Author.Needs.{needs}
 use Rattle.feed_law.proofs.Ending.{none-left, some-left}
-use Rattle.feed_prints.proofs.telling.tell_tail.Statement.{statement}
-use Rattle.feed_prints.proofs.telling.tell_tail.Tie as tie
+use Rattle.feed_prints.proofs.printing.tell_tail.Statement.{statement}
+use Rattle.feed_prints.proofs.printing.tell_tail.Tie as tie
 
 ruleset answers = (needs, none-left, some-left)
 

@@ -1,8 +1,8 @@
 -- The three ways to answer; the two parts of the form are put one after the other.
 use Rattle.lines_writing_law.proofs.Writing.{writer}
 use borrow.Author.Needs.{needs}
-use Rattle.lines_writing.proofs.lines.write.Statement.{statement}
-use Rattle.lines_writing.proofs.lines.write.Tie as tie
+use Rattle.lines_writing.proofs.forms.write.Statement.{statement}
+use Rattle.lines_writing.proofs.forms.write.Tie as tie
 
 returns : tie.Need-returns
 returns c = search writer

@@ -1,7 +1,7 @@
 use borrow.Author.Needs.{needs}
 use Rattle.feed_law.proofs.Prints.{writes-prints}
-use Rattle.feed_prints.proofs.telling.tell_refused.Statement.{statement}
-use Rattle.feed_prints.proofs.telling.tell_refused.Tie as tie
+use Rattle.feed_prints.proofs.printing.tell_refused.Statement.{statement}
+use Rattle.feed_prints.proofs.printing.tell_refused.Tie as tie
 use Rattle.feed_law.specs.Texts.{refusedText}
 
 write-refused-requires : tie.Need-write-refused-requires

@@ -1,7 +1,7 @@
 use Rattle.feed_law.proofs.Prints.{told-prints, nothing-prints}
 use borrow.Author.Needs.{needs}
-use Rattle.feed_prints.proofs.telling.tell_record.Statement.{statement}
-use Rattle.feed_prints.proofs.telling.tell_record.Tie as tie
+use Rattle.feed_prints.proofs.printing.tell_record.Statement.{statement}
+use Rattle.feed_prints.proofs.printing.tell_record.Tie as tie
 
 ruleset answers = (needs, told-prints, nothing-prints)
 
