@@ -20,7 +20,7 @@ use Rattle.feed_law.specs.declared.Stage.{Stage}
 use Rattle.feed_law.specs.declared.Stop.{Stop}
 use Rattle.feed_law.specs.Texts.{textMost, mostAt}
 use Rattle.feed_law.specs.Worlds.{World}
-use Rattle.feed_law.specs.Turns.{Turn, Fed, settingsTurn, eventTurn, turnOf, stopAt, fedIn, endBy, endBehind}
+use Rattle.feed_law.specs.Turns.{Fed, settingsTurn, eventTurn, turnOf, stopAt, fedIn, endBy, endBehind}
 use Rattle.feed_law.specs.Pieces.{RoomMakesProgress}
 use Rattle.feed_law.proofs.Going.{fed-by}
 use Rattle.feed_law.proofs.Pieces.{settings-some, event-some}

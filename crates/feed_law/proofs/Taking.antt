@@ -17,12 +17,12 @@ use Rattle.terms.proofs.Logic.{both}
 use Rattle.lines_text_law.specs.Grammar.{Answer, whole, unfinished, wrong}
 use Rattle.lines_reading_law.specs.declared.ReadEvent.{ReadEvent}
 use Rattle.lines_reading_law.specs.declared.ReadSettings.{ReadSettings}
-use Rattle.lines_reading_law.specs.Answers.{EventRead, SettingsRead, eventAnswer, settingsAnswer, readEvent, readSettings}
+use Rattle.lines_reading_law.specs.Answers.{EventRead, SettingsRead, eventAnswer, settingsAnswer}
 use Rattle.lines_reading_law.proofs.EventLines.{event-told}
 use Rattle.lines_reading_law.proofs.SettingsLines.{settings-told}
 use Rattle.state_law.specs.declared.Session.{Session}
 use Rattle.state_law.specs.declared.Opened.{Opened}
-use Rattle.state_law.specs.Opening.{openingOf, fixedSession}
+use Rattle.state_law.specs.Opening.{openingOf}
 use Rattle.engine_law.specs.declared.Answer.{Answer as Reply}
 use Rattle.engine_law.specs.declared.Applied.{Applied}
 use Rattle.engine_law.specs.Calls.{roomy, called, answerBy, AppliedAs}
@@ -32,7 +32,7 @@ use Rattle.feed_law.specs.declared.Stage.{Stage}
 use Rattle.feed_law.specs.declared.Turned.{Turned}
 use Rattle.feed_law.specs.Texts.{textMost, mostAt, recordsText, refusedText, eventText, badText}
 use Rattle.feed_law.specs.Worlds.{Lent, lentOf, calls}
-use Rattle.feed_law.specs.Turns.{Turn, stageBy, ends, openTurn, settingsTurn, eventTurn, turnOf}
+use Rattle.feed_law.specs.Turns.{Turn, stageBy, settingsTurn, eventTurn, turnOf}
 use Rattle.feed_law.specs.Feeds.{Prints, turnBy, turnedTo, TurnedAs, TablesAside, BadTurned, OpenTurned, WholeTurned, SettingsTurned, EventTurned, TurnTaken}
 use Rattle.feed_law.proofs.Prints.{records-line, prints-within}
 use Rattle.feed_law.proofs.Going.{turn-within}

@@ -13,7 +13,7 @@ use Rattle.descriptors.specs.Counted.{GotWithin}
 use Rattle.descriptors.proofs.Parts.{got-within}
 use Rattle.stream_law.specs.declared.Buffered.{Buffered}
 use Rattle.stream_law.specs.declared.Reading.{Reading}
-use Rattle.stream_law.specs.Streams.{heldAs, TakesIn, FrontKept, HearsOn}
+use Rattle.stream_law.specs.Streams.{heldAs, TakesIn, HearsOn}
 use Rattle.stream_law.proofs.Beginnings.{rest-is}
 use Rattle.stream_law.proofs.Hearing.{front-kept, hears-none, hears-some, off-done, off-failed}
 use Rattle.stream.specs.Front.{ReadBehind}

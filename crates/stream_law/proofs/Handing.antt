@@ -11,13 +11,11 @@ use Rattle.terms.specs.Sizes.{roomLength}
 use Rattle.feed_law.specs.declared.Run.{Run}
 use Rattle.feed_law.specs.declared.Stage.{Stage}
 use Rattle.feed_law.specs.Turns.{printedIn}
-use Rattle.promises.specs.Printed.{Holding}
 use Rattle.stream_law.specs.declared.Sink.{Sink}
 use Rattle.stream_law.specs.declared.Handed.{Handed}
 use Rattle.stream_law.specs.declared.Reading.{Reading}
 use Rattle.stream_law.specs.Sinks.{isOpen}
-use Rattle.stream_law.specs.Streams.{outRoom, zeros, fedHere, Tables, HandedFrom, holding, Goes, NoLine, handedTo, OverAs, readingAfter, ToFront, TakesIn}
-use Rattle.stream_law.proofs.Beginnings.{rest-is}
+use Rattle.stream_law.specs.Streams.{outRoom, zeros, Tables, HandedFrom, holding, Goes, NoLine, handedTo, OverAs, readingAfter, ToFront, TakesIn}
 use Rattle.stream_law.proofs.Goes.{goes-none, goes-then, rooms-wide, out-wide, handed-goes, handed-none, handed-some}
 
 -- ---- the loop: so many bytes were taken, and how it stands

@@ -10,7 +10,6 @@ use lib.Seq.{length-take-le, take-at}
 use Rattle.terms.specs.Sizes.{lineRoom}
 use Rattle.feed_law.specs.declared.Run.{Run}
 use Rattle.feed_law.specs.Feeds.{begun}
-use Rattle.promises.specs.Printed.{Holding}
 use Rattle.stream_law.specs.declared.Sink.{Sink}
 use Rattle.stream_law.specs.declared.Buffered.{Buffered}
 use Rattle.stream_law.specs.declared.Reading.{Reading}
