@@ -104,13 +104,13 @@ module _ (s : Session) (band : Band) (n : Entry) (count : ℕ) (t room : List �
     remembers : Remembering (setGiven s (s .given + 1)) (bandNow s) room′ first (m .trades)
     remembers =
         rw trades-is (
-          record {
-            fits = omega (arith, g .fits, few);
-            banded = refl;
-            few = omega (arith, few, g .holds .few);
-            space = omega (arith, trade-space, kept-length);
-            deals = rw stands (record { at = deals-each (s .time) (n .side) (s .given + 1) (drop (length (recordsOf trade-reports)) (drop first room₁)) (swept .fills) fills-deal });
-          }
+        record {
+          fits = omega (arith, g .fits, few);
+          banded = refl;
+          few = omega (arith, few, g .holds .few);
+          space = omega (arith, trade-space, kept-length);
+          deals = rw stands (record { at = deals-each (s .time) (n .side) (s .given + 1) (drop (length (recordsOf trade-reports)) (drop first room₁)) (swept .fills) fills-deal });
+        }
         )
 
     pub crossed : CrossedAs s n (decode count t) t room at t′ room′ (record { first = first; matched = m })
