@@ -8,7 +8,7 @@ use terms::Event;
 use terms::Refusal;
 use terms::Verdict;
 ghost use mathlib.Core.Path.{_≡_};
-ghost use Rattle.engine_law.specs.Calls.{AppliedAs, roomy};
+ghost use Rattle.engine_law.specs.Calls.{AppliedAs, roomy, LongEnough};
 
 // Both tables and the room are long enough.
 pub fn is_roomy(buys: &[u64], sells: &[u64], room: &[u64]) -> bool
@@ -30,6 +30,17 @@ fn refused(r: Refusal, s: Session) -> Applied
     }
 }
 
+// An event for which the tables and the room are long enough: rows 2 to 11, or what the event does.
+fn judged(s: Session, e: Event, buys: &mut [u64], sells: &mut [u64], room: &mut [u64]) -> Applied
+    requires { ⌜ LongEnough (now buys) (now sells) (now room) ⌝ }
+    ensures { λ r. ⌜ AppliedAs s e (now (buys .entry)) (now (sells .entry)) (now (room .entry)) (now (buys .exit)) (now (sells .exit)) (now (room .exit)) r ⌝ }
+{
+    match refusal::rows::verdict(s, e, buys, sells) {
+        Verdict::Refused(r) => refused(r, s),
+        Verdict::Fine => accepted::carry_out(s, e, buys, sells, room),
+    }
+}
+
 // Applies an event: the first refusal that applies, or the clock steps and the act, with the reports in the room.
 pub fn apply(s: Session, e: Event, buys: &mut [u64], sells: &mut [u64], room: &mut [u64]) -> Applied
     ensures { λ r. ⌜ AppliedAs s e (now (buys .entry)) (now (sells .entry)) (now (room .entry)) (now (buys .exit)) (now (sells .exit)) (now (room .exit)) r ⌝ }
@@ -37,8 +48,5 @@ pub fn apply(s: Session, e: Event, buys: &mut [u64], sells: &mut [u64], room: &m
     if !is_roomy(buys, sells, room) {
         return refused(Refusal::SmallRoom, s);
     }
-    match refusal::rows::verdict(s, e, buys, sells) {
-        Verdict::Refused(r) => refused(r, s),
-        Verdict::Fine => accepted::carry_out(s, e, buys, sells, room),
-    }
+    judged(s, e, buys, sells, room)
 }

@@ -4,8 +4,9 @@ use Prim.Native.Nat.{ℕ, _≤_}
 use mathlib.Core.Path.{_≡_, sym, _∙_}
 use mathlib.Core.Bool.{Bool, true, false, not}
 use mathlib.Core.List.{List}
-use borrow.Author.Tests.{leb-true, not-true, not-false}
+use borrow.Author.Tests.{leb-true, le-leb, not-true, not-false}
 use lib.ListN.{length}
+use Rattle.terms.specs.declared.Act.{Act}
 use Rattle.terms.specs.declared.Event.{Event}
 use Rattle.terms.specs.declared.Refusal.{Refusal}
 use Rattle.terms.specs.declared.Refusal.the-variants.{SmallRoom}
@@ -14,7 +15,7 @@ use Rattle.terms.specs.declared.Verdict.the-variants.{Fine, Refused}
 use Rattle.tables.specs.Lengths.{tableLength, roomLength}
 use Rattle.tables.specs.Records.{recordsOf}
 use Rattle.terms.specs.Refusals.{firstFailed}
-use Rattle.terms.proofs.Logic.{both, cases}
+use Rattle.terms.proofs.Logic.{both, make, cases}
 use Rattle.tables.proofs.Puts.{put-none}
 use Rattle.state_law.specs.declared.Session.{Session}
 use Rattle.soundness_law.specs.Sound.{dayIn}
@@ -24,7 +25,7 @@ use Rattle.acts_law.specs.Small.{SmallReports}
 use Rattle.engine_law.specs.Outcome.{decided, outcome}
 use Rattle.engine_law.specs.declared.Answer.{Answer}
 use Rattle.engine_law.specs.declared.Applied.{Applied}
-use Rattle.engine_law.specs.Calls.{roomy, callVerdict, called, AppliedAs, ActedAs, Ready}
+use Rattle.engine_law.specs.Calls.{roomy, LongEnough, callVerdict, called, AppliedAs, eventAt, ActedAs, Ready}
 use Rattle.engine_law.proofs.Kept.{outcome-small}
 
 -- ---- what a call comes to
@@ -53,13 +54,16 @@ called-small s e buys sells room l =
 -- ---- the answer and what is left, by the verdict
 
 -- tables and a room that pass row 1 are long enough
-pub roomy-long : (buys sells room : List ℕ) (found : Bool) → found ≡ roomy buys sells room → not found ≡ false →
-    (tableLength ≤ length buys) × (tableLength ≤ length sells) × (roomLength ≤ length room)
+pub found-long : (buys sells room : List ℕ) (found : Bool) → found ≡ roomy buys sells room → not found ≡ false → LongEnough buys sells room
 unfolding roomy
-roomy-long buys sells room found h t =
-    let p = both (sym h ∙ not-false found t) in
+found-long buys sells room found h n =
+    let p = both (sym h ∙ not-false found n) in
     let q = both (p .0) in
-    (leb-true tableLength (length buys) (q .0), leb-true tableLength (length sells) (q .1), leb-true roomLength (length room) (p .1))
+    record { buys-long = leb-true _ _ (q .0); sells-long = leb-true _ _ (q .1); room-long = leb-true _ _ (p .1) }
+
+long-roomy : {buys sells room : List ℕ} → LongEnough buys sells room → roomy buys sells room ≡ true
+unfolding roomy
+long-roomy g = make (make (le-leb _ _ (g .buys-long)) (le-leb _ _ (g .sells-long))) (le-leb _ _ (g .room-long))
 
 module _ (s : Session) (e : Event) (buys sells room : List ℕ) where
   -- row 1 applies, or the other rows decide
@@ -84,29 +88,23 @@ module _ (s : Session) (e : Event) (buys sells room : List ℕ) where
         told = rw v (sym (put-none room 0));
       }
 
-  -- code tests `found`, which is whether there is room, and has the verdict `v` of the other rows
+  -- code tests `found`, which is whether there is room, and then has the verdict `v` of the other rows
 
   pub too-small : (found : Bool) (a : Applied) → found ≡ roomy buys sells room → not found ≡ true →
       a ≡ record { answer = Answer.Refused SmallRoom; session = s } → AppliedAs s e buys sells room buys sells room a
   too-small found a h t k = by-refusal SmallRoom a (small-verdict (sym h ∙ not-true found t)) k
 
-  pub refused-as : (found : Bool) (v : Verdict) (r : Refusal) (a : Applied) → found ≡ roomy buys sells room → not found ≡ false →
+  pub refused-as : (v : Verdict) (r : Refusal) (a : Applied) → LongEnough buys sells room →
       v ≡ refusalOf (dayIn s buys sells) e → v ≡ Refused r → a ≡ record { answer = Answer.Refused r; session = s } →
       AppliedAs s e buys sells room buys sells room a
-  refused-as found v r a h t k w q = by-refusal r a (roomy-verdict (sym h ∙ not-false found t) ∙ sym k ∙ w) q
+  refused-as v r a g k w q = by-refusal r a (roomy-verdict (long-roomy g) ∙ sym k ∙ w) q
 
-  pub ready : (found : Bool) (v : Verdict) → found ≡ roomy buys sells room → not found ≡ false → v ≡ refusalOf (dayIn s buys sells) e → v ≡ Fine →
-      Ready s (e .time) (e .act) buys sells room
-  ready found v h t k w =
-      let long = roomy-long buys sells room found h t in
-      record { fine = sym k ∙ w; buys-long = long .0; sells-long = long .1; room-long = long .2 }
-
-  pub accepted-as : (buys′ sells′ room′ : List ℕ) (found : Bool) (v : Verdict) (a : Applied) → found ≡ roomy buys sells room → not found ≡ false →
+  pub accepted-as : (buys′ sells′ room′ : List ℕ) (v : Verdict) (a : Applied) → LongEnough buys sells room →
       v ≡ refusalOf (dayIn s buys sells) e → v ≡ Fine → ActedAs (act (dayIn s buys sells) e) buys sells room buys′ sells′ room′ a →
       AppliedAs s e buys sells room buys′ sells′ room′ a
   unfolding called
-  accepted-as buys′ sells′ room′ found v a h t k w q =
-      let fine : callVerdict s e buys sells room ≡ Fine = roomy-verdict (sym h ∙ not-false found t) ∙ sym k ∙ w in
+  accepted-as buys′ sells′ room′ v a g k w q =
+      let fine : callVerdict s e buys sells room ≡ Fine = roomy-verdict (long-roomy g) ∙ sym k ∙ w in
       record {
         answer = rw fine (q .answer);
         session = rw fine (q .session);
@@ -114,3 +112,7 @@ module _ (s : Session) (e : Event) (buys sells room : List ℕ) where
         sold = rw fine (q .sold);
         told = rw fine (q .told);
       }
+
+pub ready : (s : Session) (t : ℕ) (a : Act) (buys sells room : List ℕ) (v : Verdict) → LongEnough buys sells room →
+    v ≡ refusalOf (dayIn s buys sells) (eventAt t a) → v ≡ Fine → Ready s t a buys sells room
+ready s t a buys sells room v g k w = record { fine = sym k ∙ w; buys-long = g .buys-long; sells-long = g .sells-long; room-long = g .room-long }

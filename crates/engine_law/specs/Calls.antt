@@ -31,6 +31,12 @@ use Rattle.engine_law.specs.Outcome.{Outcome, decided}
 unfoldable pub roomy : List ℕ → List ℕ → List ℕ → Bool
 roomy buys sells room = leb tableLength (length buys) ⊓ leb tableLength (length sells) ⊓ leb roomLength (length room)
 
+-- the same as facts
+pub record LongEnough (buys sells room : List ℕ) : Type 0 where
+  pub buys-long : tableLength ≤ length buys
+  pub sells-long : tableLength ≤ length sells
+  pub room-long : roomLength ≤ length room
+
 -- rows 1 to 11, first that applies
 unfoldable pub callVerdict : Session → Event → List ℕ → List ℕ → List ℕ → Verdict
 callVerdict s e buys sells room = firstFailed (unless SmallRoom (roomy buys sells room) ∷ rules (dayIn s buys sells) e)

@@ -2,6 +2,7 @@
 use borrow.Author.Tests.{lt-ltb, le-ltb}
 use Rattle.desk_law.specs.Calls.{soundOn}
 use borrow.Author.Needs.{needs}
+use Rattle.desk_law.proofs.Opens.{sound-answered}
 use Rattle.desk.proofs.calls.kakoludar_sound.Statement.{statement}
 use Rattle.desk.proofs.calls.kakoludar_sound.Tie as tie
 
@@ -27,8 +28,7 @@ flag-of-requires : tie.Need-flag-of-requires
 flag-of-requires c κs = search needs
 
 returns-4 : tie.Need-returns-4
-unfolding soundOn
-returns-4 c = rw (le-ltb _ _ (c .before .before .before .before .before .if1 .left), le-ltb _ _ (c .before .before .before .before .if2 .left), le-ltb _ _ (c .before .before .before .if3 .left), ← c .before .before .unpack .ensures, ← c .before .is-sound .ensures) (c .flag-of .ensures)
+returns-4 c = search sound-answered
 
 pub kakoludar-sound-spec : {M : Type 1} → statement M
 kakoludar-sound-spec =
