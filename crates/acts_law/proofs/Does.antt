@@ -15,7 +15,7 @@ use Rattle.state_law.specs.declared.Session.{Session}
 use Rattle.state_law.specs.Set.{setUnder}
 use Rattle.state_law.specs.Clock.{clockStep}
 use Rattle.state_law.specs.Day.{Day, own, across, dayBy}
-use Rattle.refusal_law.specs.Carried.{carries}
+use Rattle.terms.specs.Carried.{carries}
 use Rattle.acts_law.specs.Acts.{Acted, sweepIn, entered, withdrawn, silent, finished, andThen, stepped, timed, does, act}
 
 -- ---- an act that tells nothing and moves no order

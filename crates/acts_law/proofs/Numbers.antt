@@ -21,7 +21,7 @@ use Rattle.state_law.specs.Clock.{clockStep}
 use Rattle.state_law.specs.Trades.{withTrades}
 use Rattle.state_law.specs.Day.{Day, own, across, dayWith}
 use Rattle.state_law.proofs.Leaves.{trades-leave}
-use Rattle.refusal_law.specs.Carried.{carries}
+use Rattle.terms.specs.Carried.{carries}
 use Rattle.acts_law.specs.Acts.{Acted, sweepIn, fateIn, entered, dropped, sideOf, withdrawn, silent, finished, stepped, timed, does, act}
 use Rattle.acts_law.specs.Asked.{acceptsIn, accepts, numbersTo}
 use Rattle.acts_law.proofs.Does.{sets-alike, enters, ends, does-by, Chains, begun-by, act-by}

@@ -46,7 +46,7 @@ use Rattle.soundness_law.specs.Sound.{sound}
 use Rattle.soundness_law.proofs.Parts.{Parts}
 use Rattle.soundness_law.proofs.Days.{BookOf, sound-day, now-priced}
 use Rattle.soundness_law.proofs.Closes.{close-small, base-small}
-use Rattle.refusal_law.specs.Carried.{carries}
+use Rattle.terms.specs.Carried.{carries}
 use Rattle.refusal_law.proofs.Accepted.{Accepted, time-right, price-right, number-right}
 use Rattle.acts_law.specs.Acts.{Acted, only, slabMoved, slabReport, refMoved, refReport, clockReports, sweepIn, fateIn, entered, ended, dropped, sideOf, withdrawn, silent, cancelReports, closeReport, finished, andThen, stepped, timed, act}
 use Rattle.acts_law.specs.Small.{SmallReport, SmallReports}

@@ -44,7 +44,7 @@ use Rattle.soundness_law.specs.Sound.{sound}
 use Rattle.soundness_law.proofs.Parts.{Parts}
 use Rattle.soundness_law.proofs.Kept.{Tradable, clock-kept, trades-kept, given-kept, under-kept, closed-kept, last-ticked}
 use Rattle.soundness_law.proofs.Days.{BookOf, SoundDay, sound-day, day-sound, each-tradable}
-use Rattle.refusal_law.specs.Carried.{Carried, limitOf, carries}
+use Rattle.terms.specs.Carried.{Carried, limitOf, carries}
 use Rattle.refusal_law.proofs.Accepted.{Accepted, time-right, lots-right, price-right, in-day, numbers-left, tick-right, band-right, place-right}
 use Rattle.acts_law.specs.Acts.{Acted, sweepIn, lastIn, fateIn, entered, dropped, sideOf, silent, finished, stepped, timed, act}
 use Rattle.acts_law.proofs.Does.{Sets, setsUnder, setsNone, sets-alike, enters, ends, own-by, event-by}

@@ -24,7 +24,7 @@ use Rattle.state_law.specs.Now.{percentNow, bandNow, rangeNow}
 use Rattle.state_law.specs.Clock.{clockStep}
 use Rattle.state_law.specs.Trades.{withTrades}
 use Rattle.state_law.specs.Day.{Day, dayOf, dayBy, steppedDay, own, across, dayWith}
-use Rattle.refusal_law.specs.Carried.{carries}
+use Rattle.terms.specs.Carried.{carries}
 
 -- what an act leaves and tells
 pub record Acted : Type 0 where

@@ -10,7 +10,7 @@ use Rattle.book_law.specs.Over.{mine, lotsOf}
 use Rattle.book_law.specs.Told.{total}
 use Rattle.state_law.specs.Day.{Day}
 use Rattle.book_law.specs.Tells.{tells}
-use Rattle.refusal_law.specs.Carried.{carries}
+use Rattle.terms.specs.Carried.{carries}
 
 -- the lots that an act asks for
 abbrev pub wanted : Act → ℕ

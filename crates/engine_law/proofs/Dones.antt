@@ -1,36 +1,30 @@
 -- What each accepted event leaves, from what its calls left.
-use Prim.Native.Nat.{ℕ, _+_, _*_, _/_, _≤_}
+use Prim.Native.Nat.{ℕ, _/_}
 use native.Mathlib.Omega.{arith}
 use mathlib.Core.Path.{_≡_, refl, sym, ap, _∙_}
-use mathlib.Core.Bool.{true, false, _||_}
+use mathlib.Core.Bool.{true}
 use mathlib.Core.List.{List, [], append-nil}
-use lib.Dec.{ltb}
 use lib.ListN.{length}
 use Rattle.terms.specs.declared.Act.{Act}
 use Rattle.terms.specs.declared.Act.the-variants.{Withdraw, Under, Clock, Finish}
 use Rattle.terms.specs.declared.Event.{Event}
 use Rattle.terms.specs.declared.Order.{Order}
-use Rattle.terms.specs.Sizes.{slots}
-use Rattle.tables.specs.Lengths.{recordLength, tableLength}
+use Rattle.tables.specs.Lengths.{recordLength}
 use Rattle.terms.proofs.Logic.{cases}
-use Rattle.tables.specs.Tables.{decode, tableOf, Holds}
+use Rattle.tables.specs.Tables.{decode, tableOf}
 use Rattle.tables.proofs.Slots.{length-decode}
-use Rattle.tables.proofs.Whole.{After}
 use Rattle.book_law.specs.Priority.{rests, removed}
 use Rattle.state_law.specs.declared.Session.{Session}
 use Rattle.state_law.specs.Set.{setUnder, setTime, setClosed}
-use Rattle.state_law.specs.Now.{Steady}
 use Rattle.state_law.specs.code.Tens.{Ten}
 use Rattle.state_law.specs.Clock.{clockStep}
 use Rattle.state_law.specs.Day.{dayOf}
 use Rattle.soundness_law.specs.Sound.{dayIn}
 use Rattle.soundness_law.proofs.Clocked.{steady}
 use Rattle.soundness_law.proofs.Border.{sound-session}
-use Rattle.refusal_law.specs.Carried.{carries}
 use Rattle.refusal_law.specs.Refusals.{finds}
-use Rattle.refusal_law.proofs.Accepted.{in-day}
 use Rattle.acts_law.specs.Acts.{Acted, clockReports, act, dropped, finished}
-use Rattle.acts_law.specs.code.Written.{Written, WithdrawnAs, Finishing, Finished}
+use Rattle.acts_law.specs.code.Written.{Written, Finishing, Finished}
 use Rattle.acts_law.specs.declared.Withdrawn.{Withdrawn}
 use Rattle.acts_law.proofs.Reports.{written-then}
 use Rattle.engine_law.specs.declared.Answer.{Answer}

@@ -28,7 +28,7 @@ use Rattle.soundness_law.proofs.Border.{sound-session}
 use Rattle.soundness_law.proofs.Parts.{parts-made}
 use Rattle.soundness_law.proofs.Kept.{Tradable}
 use Rattle.soundness_law.proofs.Days.{each-tradable}
-use Rattle.refusal_law.specs.Carried.{carries}
+use Rattle.terms.specs.Carried.{carries}
 use Rattle.refusal_law.proofs.Accepted.{Accepted, accepted, time-right, in-day}
 use Rattle.acts_law.specs.Acts.{clockReports, stepped}
 use Rattle.acts_law.specs.code.Written.{Deals}

@@ -14,8 +14,10 @@ use Rattle.terms.specs.declared.Life.the-variants.{AllDay, Ioc}
 use Rattle.terms.specs.declared.Act.{Act}
 use Rattle.terms.specs.declared.Act.the-variants.{Enter, Withdraw, Under, Clock, Finish}
 use Rattle.terms.specs.declared.Event.{Event}
-use Rattle.lines_text_law.specs.Text.{bytes}
+use Rattle.terms.specs.Options.{perhaps}
 use Rattle.terms.specs.Numbers.{Writable}
+use Rattle.terms.specs.Carried.{carries}
+use Rattle.lines_text_law.specs.Text.{bytes}
 use Rattle.lines_text_law.specs.Forms.{fill}
 
 -- ---- settings: "First `cat=gems base=10000 close=10000 settle=10000 tick=5 len=3600000 days=0 under=0`"
@@ -64,16 +66,9 @@ actForm (Under price) = bytes "under price=#\n"
 actForm Clock = bytes "clock\n"
 actForm (Finish settle) = bytes "close settle=#\n"
 
-abbrev pub priceFigures : Kind → List ℕ
-priceFigures (Limit price) = price ∷ []
-priceFigures Market = []
-
+-- the numbers that stand in it: those that the act carries, an order's number, its lots, a price
 abbrev pub actFigures : Act → List ℕ
-actFigures (Enter o) = o .lots ∷ priceFigures (o .kind)
-actFigures (Withdraw number) = number ∷ []
-actFigures (Under price) = price ∷ []
-actFigures Clock = []
-actFigures (Finish settle) = settle ∷ []
+actFigures a = perhaps (carries a .number) ++ (perhaps (carries a .lots) ++ perhaps (carries a .price))
 
 -- "t=# do=", which every event line begins with
 abbrev pub actHead : List ℕ

@@ -18,16 +18,18 @@ use Rattle.terms.specs.declared.Settings.{Settings}
 use Rattle.terms.specs.declared.Side.{Side}
 use Rattle.terms.specs.Refusals.{numberOf}
 use Rattle.terms.specs.Reports.{whyOf}
+use Rattle.terms.specs.Options.{perhaps}
+use Rattle.terms.specs.Carried.{limitOf}
 use Rattle.lines_text_law.specs.Text.{bytes}
 use Rattle.lines_text_law.specs.Forms.{holes}
-use Rattle.lines_reading_law.specs.Lines.{actHead, sideWord, orderForm, priceFigures, actFigures, eventForm, eventFigures, renderEvent, settingsForm, settingsFigures, renderSettings}
+use Rattle.lines_reading_law.specs.Lines.{actHead, sideWord, orderForm, actFigures, eventForm, eventFigures, renderEvent, settingsForm, settingsFigures, renderSettings}
 use Rattle.lines_writing_law.specs.declared.Wrote.{Wrote}
 use Rattle.lines_writing_law.specs.Lines.{orderFigures, saidFigures, saidHead, reportForm, reportFigures, renderReport, refusedFigures, renderRefused, badFigures, renderBad}
 use Rattle.lines_writing_law.specs.Writes.{Writes, WritesForm}
 
 module _ {d d′ : List ℕ} {r : Wrote} where
   pub by-order : (head : List ℕ) (time : ℕ) (o : Entry) (kind : Kind) (life : Life) → o .kind ≡ kind → o .life ≡ life
-      → WritesForm d (head ++ orderForm kind life) (time ∷ o .lots ∷ priceFigures kind) r d′
+      → WritesForm d (head ++ orderForm kind life) (time ∷ o .lots ∷ perhaps (limitOf kind)) r d′
       → WritesForm d (head ++ orderForm (o .kind) (o .life)) (orderFigures time o) r d′
   by-order head time o kind life k l w = rw (k, l) w
 

@@ -9,14 +9,15 @@ use Rattle.terms.specs.declared.Report.{Report}
 use Rattle.terms.specs.declared.Refusal.{Refusal}
 use Rattle.tables.specs.Records.{fieldsOf}
 use Rattle.terms.specs.Refusals.{numberOf}
+use Rattle.terms.specs.Options.{perhaps}
+use Rattle.terms.specs.Carried.{limitOf}
 use Rattle.lines_text_law.specs.Text.{bytes}
 use Rattle.lines_text_law.specs.Forms.{fill, holes}
-use Rattle.lines_reading_law.specs.Lines.{priceFigures}
 
 -- ---- orders: the numbers of an order's line
 
 abbrev pub orderFigures : ℕ → Entry → List ℕ
-orderFigures time o = time ∷ o .lots ∷ priceFigures (o .kind)
+orderFigures time o = time ∷ o .lots ∷ perhaps (limitOf (o .kind))
 
 -- ---- reports: "fields are time, kind, then order numbers, lots, paise or reason"
 

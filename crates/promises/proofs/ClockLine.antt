@@ -29,7 +29,7 @@ use Rattle.state_law.specs.Day.{Day, opened, dayBy}
 use Rattle.state_law.proofs.Steps.{clock-twice}
 use Rattle.soundness_law.specs.Sound.{sound}
 use Rattle.soundness_law.proofs.Days.{SoundDay, sound-day}
-use Rattle.refusal_law.specs.Carried.{carries}
+use Rattle.terms.specs.Carried.{carries}
 use Rattle.refusal_law.specs.Refusals.{numbersRight, inHours, ticksRight, bandRight, finds, lifeHasPlace, hasPlace, hasNumbers, refusalOf}
 use Rattle.refusal_law.proofs.Carried.{any-same}
 use Rattle.refusal_law.proofs.Accepted.{Accepted, accepted, closed-refused}

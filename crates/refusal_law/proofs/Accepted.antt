@@ -25,7 +25,7 @@ use Rattle.state_law.specs.Now.{bandNow}
 use Rattle.state_law.specs.Clock.{clockStep}
 use Rattle.state_law.specs.Day.{Day, own}
 use Rattle.soundness_law.specs.Sound.{sound}
-use Rattle.refusal_law.specs.Carried.{carries}
+use Rattle.terms.specs.Carried.{carries}
 use Rattle.refusal_law.specs.Refusals.{numbersRight, inHours, ticksRight, bandRight, finds, lifeHasPlace, hasPlace, hasNumbers, laterRules, rules, refusalOf}
 
 -- what the row with that number asks for; true where there is no such row

@@ -12,7 +12,7 @@ use Rattle.tables.proofs.Slots.{length-decode}
 use Rattle.state_law.specs.declared.Session.{Session}
 use Rattle.state_law.specs.Day.{own}
 use Rattle.soundness_law.specs.Sound.{dayIn}
-use Rattle.refusal_law.specs.Carried.{carries}
+use Rattle.terms.specs.Carried.{carries}
 use Rattle.refusal_law.specs.Refusals.{lifeHasPlace, hasPlace}
 use Rattle.refusal_law.specs.code.Tabled.{liveOn, placeFor}
 use Rattle.refusal_law.proofs.Carried.{any-same}

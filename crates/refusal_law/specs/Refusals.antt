@@ -22,7 +22,7 @@ use Rattle.book_law.specs.Priority.{rests}
 use Rattle.state_law.specs.Now.{bandNow}
 use Rattle.state_law.specs.Day.{Day, own, steppedDay}
 use Rattle.soundness_law.specs.Sound.{soundBy}
-use Rattle.refusal_law.specs.Carried.{limitOf, carries}
+use Rattle.terms.specs.Carried.{limitOf, carries}
 
 -- the limit passes a test; a market order has none
 abbrev pub ofLimit : (ℕ → Bool) → Kind → Bool

@@ -7,3 +7,4 @@ pub mod Refusals
 pub mod Settings
 pub mod Options
 pub mod code
+pub mod Carried

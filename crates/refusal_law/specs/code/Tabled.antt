@@ -10,7 +10,7 @@ use Rattle.terms.specs.Sizes.{slots, sizes}
 use Rattle.tables.specs.Lengths.{tableLength}
 use Rattle.terms.specs.Options.{ofAny}
 use Rattle.state_law.specs.declared.Session.{Session}
-use Rattle.refusal_law.specs.Carried.{carries}
+use Rattle.terms.specs.Carried.{carries}
 use Rattle.refusal_law.specs.Refusals.{lifeHasPlace}
 
 -- the tables are long enough, and the live counts are no more than the slots of a table
