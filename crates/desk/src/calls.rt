@@ -6,22 +6,22 @@ use desk_packing::settings;
 use engine::apply;
 use engine::looking;
 use engine_law::Answer;
+use engine_law::Applied;
 use state::opening;
 use state_law::Opened;
 use state_law::Session;
 use tables::lengths;
+use terms::Event;
 use terms::Refusal;
 use terms::Side;
 use terms::Verdict;
 ghost use mathlib.Core.Path.{_≡_};
-ghost use mathlib.Core.Bool.{true};
 ghost use Prim.Native.Nat.{_≤_};
 ghost use lib.ListN.{length};
 ghost use Rattle.engine_law.specs.Calls.{viewCall};
-ghost use Rattle.desk_packing_law.specs.Runs.{settingsLength, sessionLength, eventLength};
-ghost use Rattle.desk_packing_law.specs.Sessions.{isSession};
+ghost use Rattle.desk_packing_law.specs.Runs.{settingsLength, sessionLength};
 ghost use Rattle.desk_packing_law.specs.Answers.{answerOf};
-ghost use Rattle.desk_law.specs.Calls.{openedFrom, OpenedAs, strangeVerdict, AppliedOn, soundOn, viewOn};
+ghost use Rattle.desk_law.specs.Calls.{openedFrom, OpenedAs, strangeVerdict, FewReported, LaidApplied, CarriedAs, AppliedOn, soundOn, viewOn};
 
 // The opening that the numbers of settings ask for.
 fn opened(gs: &[u64]) -> Opened
@@ -77,20 +77,11 @@ fn turned_away(buys: &[u64], sells: &[u64], room: &[u64]) -> u64
     desk_answers::refused(Refusal::Unsound)
 }
 
-// Applies an event, where the slices are long enough and the first is a session's.
-fn carried(
-    session: &mut [u64],
-    event: &[u64],
-    buys: &mut [u64],
-    sells: &mut [u64],
-    room: &mut [u64],
-) -> u64
-    requires { ⌜ (sessionLength ≤ length (now session)) × (eventLength ≤ length (now event)) × (isSession (now session) ≡ true) ⌝ }
-    ensures { λ r. ⌜ AppliedOn (now (session .entry)) (now (event .entry)) (now (buys .entry)) (now (sells .entry)) (now (room .entry)) (now (session .exit)) (now (buys .exit)) (now (sells .exit)) (now (room .exit)) r ⌝ }
+// Lays the session after an accepted event, and answers the count of its reports; or answers the refusal, which writes nothing.
+fn lay_applied(session: &mut [u64], applied: Applied) -> u64
+    requires { ⌜ (sessionLength ≤ length (now session)) × FewReported (applied .answer) ⌝ }
+    ensures { λ r. ⌜ LaidApplied applied (now (session .entry)) (now (session .exit)) r ⌝ }
 {
-    let s = sessions::session_of(session);
-    let e = events::unpack(event);
-    let applied = apply::apply(s, e, buys, sells, room);
     let answer = applied.answer;
     let after = applied.session;
     match answer {
@@ -101,6 +92,22 @@ fn carried(
         }
         Answer::Refused(r) => desk_answers::refused(r),
     }
+}
+
+// Applies an event to a session and lays what it is then.
+fn carried(
+    s: Session,
+    e: Event,
+    session: &mut [u64],
+    buys: &mut [u64],
+    sells: &mut [u64],
+    room: &mut [u64],
+) -> u64
+    requires { ⌜ sessionLength ≤ length (now session) ⌝ }
+    ensures { λ r. ⌜ CarriedAs s e (now (session .entry)) (now (buys .entry)) (now (sells .entry)) (now (room .entry)) (now (session .exit)) (now (buys .exit)) (now (sells .exit)) (now (room .exit)) r ⌝ }
+{
+    let applied = apply::apply(s, e, buys, sells, room);
+    lay_applied(session, applied)
 }
 
 // Applies an event and answers the count of its reports, or a refusal, which writes nothing.
@@ -123,7 +130,9 @@ pub extern "C" fn kakoludar_apply(
     if !sessions::is_session(session) {
         return turned_away(buys, sells, room);
     }
-    carried(session, event, buys, sells, room)
+    let s = sessions::session_of(session);
+    let e = events::unpack(event);
+    carried(s, e, session, buys, sells, room)
 }
 
 // Whether a session is sound, with the orders in its tables: 1 or 0.

@@ -1,7 +1,7 @@
 -- Each return of `kakoludar_apply` leaves what the definition says, given the engine's answer.
 use Prim.Native.Nat.{ℕ, _≤_, _<_}
 use native.Mathlib.Omega.{arith}
-use mathlib.Core.Path.{_≡_, refl, sym, _∙_}
+use mathlib.Core.Path.{_≡_, refl, sym, _∙_, subst}
 use mathlib.Core.Bool.{Bool, true, false, not}
 use mathlib.Core.List.{List}
 use borrow.Author.Tests.{lt-ltb, le-ltb, not-true, not-false}
@@ -32,7 +32,7 @@ use Rattle.desk_packing_law.specs.Runs.{sessionLength, eventLength}
 use Rattle.desk_packing_law.specs.Sessions.{sessionNumbers, isSession, sessionOf, sessionFrom}
 use Rattle.desk_packing_law.specs.Events.{eventFrom}
 use Rattle.desk_packing_law.specs.Answers.{countMost, answerOf}
-use Rattle.desk_law.specs.Calls.{strangeVerdict, calledOn, AppliedOn}
+use Rattle.desk_law.specs.Calls.{strangeVerdict, calledOn, AppliedOn, FewReported, LaidApplied, CarriedAs}
 use Rattle.desk_law.proofs.Turned.{no-session-unsound}
 
 -- ---- the engine's answer and the verdict
@@ -147,3 +147,39 @@ module _ (run event buys sells room : List ℕ) (r : ℕ) where
             let w = answered-fine (out .verdict) (length (out .reports)) count (sym q ∙ p .answer) in
             rw on-call
             (record { answer = rw (w .0, ← w .1) x; kept = rw (w .0, ← p .session, ← f) l; bought = p .bought; sold = p .sold; told = p .told })
+
+-- ---- all of it
+
+few-by : (o : Answer) → ((count : ℕ) → o ≡ Answer.Reported count → count ≤ countMost) → FewReported o
+few-by (Answer.Reported count) f = f count refl
+few-by (Answer.Refused r) f = tt
+
+pub few-told : {s : Session} {e : Event} {buys sells room buys′ sells′ room′ : List ℕ} {a : Applied} →
+    AppliedAs s e buys sells room buys′ sells′ room′ a → FewReported (a .answer)
+few-told {s} {e} {buys} {sells} {room} {buys′} {sells′} {room′} {a} p =
+    few-by (a .answer) (λ count q. apply-few s e buys sells room buys′ sells′ room′ a count p q)
+
+pub laid-refused : {a : Applied} {run : List ℕ} {r : ℕ} {n : Refusal} → a .answer ≡ Answer.Refused n → r ≡ answerOf (Refused n) 0 → LaidApplied a run run r
+laid-refused e x = record { answer = rw e x; kept = rw e }
+
+pub laid-done : {a : Applied} {run run′ ns : List ℕ} {r count : ℕ} → a .answer ≡ Answer.Reported count → ns ≡ sessionNumbers (a .session) → run′ ≡ put run 0 ns →
+    r ≡ answerOf Fine count → LaidApplied a run run′ r
+laid-done e f l x = record { answer = rw e x; kept = rw (e, ← f) l }
+
+pub few-count : {o : Answer} {count : ℕ} → FewReported o → o ≡ Answer.Reported count → count ≤ countMost
+few-count f e = rw e at f
+
+module _ (run event buys sells room run′ buys′ sells′ room′ : List ℕ) (s : Session) (e : Event) (r : ℕ) (found : Bool) where
+  pub carried-on : sessionLength ≤ length run → eventLength ≤ length event → found ≡ isSession run → not found ≡ false → s ≡ sessionOf run → e ≡ eventFrom event →
+      CarriedAs s e run buys sells room run′ buys′ sells′ room′ r → AppliedOn run event buys sells room run′ buys′ sells′ room′ r
+  carried-on h k f n i j c = go (c .applied .answer) refl
+    where
+      there : s ≡ sessionFrom run
+      there = that-session run s (told-session run found f n) i
+
+      go : (o : Answer) → c .applied .answer ≡ o → AppliedOn run event buys sells room run′ buys′ sells′ room′ r
+      go (Answer.Reported count) q =
+          apply-done run event buys sells room r h k s e there j buys′ sells′ room′ (c .applied) (c .came) count run′ (sessionNumbers (c .applied .session)) q refl (rw q at (c .laid .kept)) (rw q at (c .laid .answer))
+      go (Answer.Refused m) q =
+          subst (λ (x : List ℕ). AppliedOn run event buys sells room x buys′ sells′ room′ r) (sym (rw q at (c .laid .kept)))
+          (apply-refused run event buys sells room r h k s e there j buys′ sells′ room′ (c .applied) (c .came) m q (rw q at (c .laid .answer)))

@@ -1,10 +1,11 @@
 -- THE CALLS ON A SESSION, on numbers that an app keeps: what each call answers, and what it leaves in every lent slice.
-use Prim.Native.Nat.{ℕ}
+use Prim.Native.Nat.{ℕ, _≤_}
 use mathlib.Core.Path.{_≡_}
 use mathlib.Core.Bool.{cond}
 use mathlib.Core.List.{List, []}
 use lib.Dec.{ltb, eqb}
 use lib.ListN.{length, getD}
+use Rattle.terms.specs.declared.Event.{Event}
 use Rattle.terms.specs.declared.Refusal.the-variants.{SmallRoom, Unsound, SettingsRange}
 use Rattle.terms.specs.declared.Side.the-variants.{Buy, Sell}
 use Rattle.terms.specs.declared.Verdict.{Verdict}
@@ -16,13 +17,15 @@ use Rattle.state_law.specs.declared.Session.{Session}
 use Rattle.state_law.specs.declared.Opened.{Opened}
 use Rattle.state_law.specs.Opening.{openingOf, fixedSession}
 use Rattle.soundness_law.specs.Sound.{sound, dayIn}
+use Rattle.engine_law.specs.declared.Answer.{Answer}
+use Rattle.engine_law.specs.declared.Applied.{Applied}
 use Rattle.engine_law.specs.Outcome.{Outcome}
-use Rattle.engine_law.specs.Calls.{roomy, called, tableBy, viewCall}
+use Rattle.engine_law.specs.Calls.{roomy, called, tableBy, AppliedAs, viewCall}
 use Rattle.desk_packing_law.specs.Runs.{settingsLength, sessionLength, eventLength}
 use Rattle.desk_packing_law.specs.Settings.{isCategory, settingsFrom}
 use Rattle.desk_packing_law.specs.Sessions.{flag, sessionNumbers, sessionFrom}
 use Rattle.desk_packing_law.specs.Events.{eventFrom}
-use Rattle.desk_packing_law.specs.Answers.{answerOf}
+use Rattle.desk_packing_law.specs.Answers.{countMost, answerOf}
 
 -- `long` where both slices have the length that they need, `short` where one has not
 abbrev pub whereLong : {A : Type 0} → List ℕ → ℕ → List ℕ → ℕ → A → A → A
@@ -67,6 +70,31 @@ pub record LeftBy (o : Outcome) (run buys sells room run′ buys′ sells′ roo
 
 abbrev pub AppliedOn : List ℕ → List ℕ → List ℕ → List ℕ → List ℕ → List ℕ → List ℕ → List ℕ → List ℕ → ℕ → Type 0
 AppliedOn run event buys sells room run′ buys′ sells′ room′ r = LeftBy (calledOn run event buys sells room) run buys sells room run′ buys′ sells′ room′ r
+
+-- the engine's answer as a number
+abbrev pub appliedNumber : Answer → ℕ
+appliedNumber (Answer.Reported count) = answerOf Fine count
+appliedNumber (Answer.Refused r) = answerOf (Refused r) 0
+
+-- it counts few reports
+abbrev pub FewReported : Answer → Type 0
+FewReported (Answer.Reported count) = count ≤ countMost
+FewReported (Answer.Refused r) = Unit
+
+-- the session's run by the engine's answer
+abbrev pub runFor : Answer → Session → List ℕ → List ℕ
+runFor (Answer.Reported count) s run = put run 0 (sessionNumbers s)
+runFor (Answer.Refused r) s run = run
+
+pub record LaidApplied (a : Applied) (run run′ : List ℕ) (r : ℕ) : Type 0 where
+  pub answer : r ≡ appliedNumber (a .answer)
+  pub kept : run′ ≡ runFor (a .answer) (a .session) run
+
+-- an event on a session, with the run that the session is laid into
+pub record CarriedAs (s : Session) (e : Event) (run buys sells room run′ buys′ sells′ room′ : List ℕ) (r : ℕ) : Type 0 where
+  pub applied : Applied
+  pub came : AppliedAs s e buys sells room buys′ sells′ room′ applied
+  pub laid : LaidApplied applied run run′ r
 
 -- ---- sound
 
