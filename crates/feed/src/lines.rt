@@ -16,7 +16,7 @@ ghost use lib.ListN.{length};
 ghost use Rattle.feed_law.specs.declared.Stop.{Stop};
 ghost use Rattle.feed_law.specs.Texts.{mostAt};
 ghost use Rattle.feed_law.specs.Turns.{stopAt};
-ghost use Rattle.feed_law.specs.Feeds.{LineTaken, TakenAs, TakenBy, linesOf, fedOf, endedOf, EndsBehind};
+ghost use Rattle.feed_law.specs.Feeds.{LineTaken, TakenAs, TakenBy, takenTo, linesOf, fedOf, endedOf, EndsBehind};
 
 // The output room that the reports of any event fit in.
 pub const TEXT: usize = lengths::REPORTS * sizes::LINE;
@@ -40,6 +40,17 @@ fn stop_at(stage: Stage) -> Stop
         Stage::Awaiting => Stop::Waits,
         Stage::Trading => Stop::Waits,
         Stage::Over => Stop::Over,
+    }
+}
+
+fn taken(run: Run, used: usize, wrote: usize, stop: Stop) -> Taken
+    ensures { λ r. ⌜ r ≡ takenTo run used wrote stop ⌝ }
+{
+    Taken {
+        run: run,
+        used: used,
+        wrote: wrote,
+        stop: stop,
     }
 }
 
@@ -77,12 +88,7 @@ fn while_room(
     while at < bytes.len() {
         let stands = now.stage;
         if out.len() - wrote < most_at(stands) {
-            return Taken {
-                run: now,
-                used: at,
-                wrote: wrote,
-                stop: Stop::Full,
-            };
+            return taken(now, at, wrote, Stop::Full);
         }
         let t = line_at(now, bytes, at, wrote, buys, sells, room, out);
         let used = t.used;
@@ -102,12 +108,7 @@ fn while_room(
         at += used;
     }
     let stage = now.stage;
-    Taken {
-        run: now,
-        used: at,
-        wrote: wrote,
-        stop: stop_at(stage),
-    }
+    taken(now, at, wrote, stop_at(stage))
 }
 
 // Takes the whole lines of some bytes, prints what they say, and answers how far it came: the rest of the bytes is to be handed in again,
@@ -123,12 +124,7 @@ pub fn take_lines(
     ensures { λ r. ⌜ TakenBy fedOf run (now (buys .entry)) (now (sells .entry)) (now (room .entry)) (now (bytes .entry)) (now (out .entry)) (now (buys .exit)) (now (sells .exit)) (now (room .exit)) (now (out .exit)) r ⌝ }
 {
     if !apply::is_roomy(buys, sells, room) {
-        return Taken {
-            run: run,
-            used: 0,
-            wrote: 0,
-            stop: Stop::Refused(Refusal::SmallRoom),
-        };
+        return taken(run, 0, 0, Stop::Refused(Refusal::SmallRoom));
     }
     while_room(run, bytes, buys, sells, room, out)
 }
@@ -144,24 +140,14 @@ fn finish(t: Taken, bytes: usize, out: &mut [u8]) -> Taken
     let stage = run.stage;
     let session = run.session;
     if out.len() - wrote < sizes::LINE {
-        return Taken {
-            run: run,
-            used: used,
-            wrote: wrote,
-            stop: Stop::Full,
-        };
+        return taken(run, used, wrote, Stop::Full);
     }
     let told = printing::tell_end(stage, bytes - used, &mut out[wrote..]);
     let over = Run {
         stage: Stage::Over,
         session: session,
     };
-    Taken {
-        run: over,
-        used: used,
-        wrote: wrote + told,
-        stop: Stop::Over,
-    }
+    taken(over, used, wrote + told, Stop::Over)
 }
 
 // The end behind lines that were taken, by why they stopped.

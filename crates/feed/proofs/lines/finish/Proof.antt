@@ -1,5 +1,5 @@
-use Rattle.feed_law.proofs.Ending.{end-filled, end-told}
 use borrow.Author.Needs.{needs}
+use Rattle.feed_law.proofs.Ending.{end-filled, end-told}
 use Rattle.feed.proofs.lines.finish.Statement.{statement}
 use Rattle.feed.proofs.lines.finish.Tie as tie
 
@@ -7,6 +7,9 @@ ruleset answers = (needs, end-filled, end-told)
 
 sub-if1 : tie.Need-sub-if1
 sub-if1 c = search answers
+
+taken-requires : tie.Need-taken-requires
+taken-requires c κs = search answers
 
 returns : tie.Need-returns
 returns c = search answers
@@ -26,8 +29,11 @@ part-tell-end-end c = search answers
 tell-end-requires : tie.Need-tell-end-requires
 tell-end-requires c κs = search answers
 
-add-t11 : tie.Need-add-t11
-add-t11 c = search answers
+add-taken : tie.Need-add-taken
+add-taken c = search answers
+
+taken-requires-2 : tie.Need-taken-requires-2
+taken-requires-2 c κs = search answers
 
 same-length : tie.Need-same-length
 same-length c = search answers
@@ -40,12 +46,14 @@ finish-spec =
     tie.close
     (tie.spec
     sub-if1
+    taken-requires
     returns
     sub-tell-end
     sub-tell-end-2
     part-tell-end-start
     part-tell-end-end
     tell-end-requires
-    add-t11
+    add-taken
+    taken-requires-2
     same-length
     returns-2)

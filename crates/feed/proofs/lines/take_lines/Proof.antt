@@ -8,6 +8,9 @@ ruleset answers = (needs, took-none, took-lines)
 is-roomy-requires : tie.Need-is-roomy-requires
 is-roomy-requires c κs = search answers
 
+taken-requires : tie.Need-taken-requires
+taken-requires c κs = search answers
+
 same-length : tie.Need-same-length
 same-length c = search answers
 
@@ -43,6 +46,7 @@ take-lines-spec =
     tie.close
     (tie.spec
     is-roomy-requires
+    taken-requires
     same-length
     same-length-2
     same-length-3

@@ -31,6 +31,9 @@ sub-if1 c = search answers
 most-at-requires : tie.Need-most-at-requires Inv-loop μ-loop
 most-at-requires c κs = search answers
 
+taken-requires : tie.Need-taken-requires Inv-loop μ-loop
+taken-requires c κs = search answers
+
 same-length : tie.Need-same-length Inv-loop μ-loop
 same-length c = search answers
 
@@ -82,6 +85,9 @@ loop-again c = (search answers, search answers, search answers, search answers, 
 stop-at-requires-2 : tie.Need-stop-at-requires-2 Inv-loop μ-loop
 stop-at-requires-2 c κs = search answers
 
+taken-requires-2 : tie.Need-taken-requires-2 Inv-loop μ-loop
+taken-requires-2 c κs = search answers
+
 same-length-9 : tie.Need-same-length-9 Inv-loop μ-loop
 same-length-9 c = search answers
 
@@ -106,6 +112,7 @@ while-room-spec =
     loop-holds
     sub-if1
     most-at-requires
+    taken-requires
     same-length
     same-length-2
     same-length-3
@@ -123,6 +130,7 @@ while-room-spec =
     loop-less
     loop-again
     stop-at-requires-2
+    taken-requires-2
     same-length-9
     same-length-10
     same-length-11
