@@ -43,5 +43,11 @@ events =
 
 -- THE LISTING
 pub listing : told (opened settings) events ≡ reports
-unfolding _⊓_ firstFailed settingsRanged settingsTicked settingsValid percentOf lowAt highAt coolingAfter factorial term terms growth theoretical theoreticalOr minuteAfter boundaries reckoned inRange tallied tallyAll nearest remembered tapeAfter lastOr closePrice nextBase ahead headBehind sorted insert rests removed leftOf sweep tradeReports ownLastOr fateOf orderSound eachSound distinct uncrossed bookSound openedSession widenedBy coolingBy clockStep withTrade withTrades timeSound countsSound slabSound numbersSound every rememberedSound halfSound minuteSound clockSound tapeSound sessionSound counted soundBy numbersRight inHours ticksRight bandRight finds hasPlace hasNumbers refusalOf clockReports sweepIn fateIn entered dropped cancelReports finished act outcome told
+unfolding _⊓_ firstFailed settingsRanged settingsTicked settingsValid percentOf lowAt highAt coolingAfter factorial term terms growth
+    theoretical theoreticalOr minuteAfter boundaries reckoned inRange tallied tallyAll nearest remembered tapeAfter lastOr
+    closePrice nextBase ahead headBehind sorted insert rests removed leftOf sweep tradeReports ownLastOr fateOf orderSound
+    eachSound distinct uncrossed bookSound openedSession widenedBy coolingBy clockStep withTrade withTrades timeSound countsSound
+    slabSound numbersSound every rememberedSound halfSound minuteSound clockSound tapeSound sessionSound counted soundBy
+    numbersRight inHours ticksRight bandRight finds hasPlace hasNumbers refusalOf clockReports sweepIn fateIn entered dropped
+    cancelReports finished act outcome told
 listing = refl

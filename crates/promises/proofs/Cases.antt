@@ -22,5 +22,9 @@ use Rattle.lines_reading_law.specs.Answers.{readSettings, readEvent}
 use Rattle.promises.specs.Cases.{SmallCases}
 
 pub small-cases : SmallCases
-unfolding _⊓_ firstFailed settingsRanged settingsTicked settingsValid percentOf lowAt highAt coolingAfter factorial term terms growth theoretical theoreticalOr minuteAfter boundaries reckoned inRange tallied tallyAll nearest remembered tapeAfter lastOr closePrice sorted eachSound distinct uncrossed bookSound openedSession widenedBy coolingBy clockStep withTrade withTrades timeSound countsSound slabSound numbersSound every rememberedSound halfSound minuteSound clockSound tapeSound sessionSound counted soundBy numbersRight inHours ticksRight bandRight finds hasPlace hasNumbers refusalOf outcome word at settingsGrammar eventGrammar readSettings readEvent
+unfolding _⊓_ firstFailed settingsRanged settingsTicked settingsValid percentOf lowAt highAt coolingAfter factorial term terms growth
+    theoretical theoreticalOr minuteAfter boundaries reckoned inRange tallied tallyAll nearest remembered tapeAfter lastOr closePrice
+    sorted eachSound distinct uncrossed bookSound openedSession widenedBy coolingBy clockStep withTrade withTrades timeSound countsSound
+    slabSound numbersSound every rememberedSound halfSound minuteSound clockSound tapeSound sessionSound counted soundBy numbersRight
+    inHours ticksRight bandRight finds hasPlace hasNumbers refusalOf outcome word at settingsGrammar eventGrammar readSettings readEvent
 small-cases = (refl, (refl, (refl, (refl, (refl, (refl, (refl, (refl, (refl, (refl, (refl, (refl, tt))))))))))))
