@@ -10,7 +10,7 @@ ghost use mathlib.Core.Path.{_≡_};
 ghost use Prim.Native.Nat.{_≤_};
 ghost use lib.ListN.{length};
 ghost use Rattle.desk_packing_law.specs.Runs.{eventLength};
-ghost use Rattle.desk_packing_law.specs.Events.{sideNumber, kindNumber, lifeNumber, limitOf, eventNumbers, toldIf, orderFrom, entryFrom, foundFrom, foundIn, eventFrom};
+ghost use Rattle.desk_packing_law.specs.Events.{sideNumber, kindNumber, lifeNumber, limitNumber, eventNumbers, toldIf, orderFrom, entryFrom, foundFrom, foundIn, eventFrom};
 
 fn of_side(side: Side) -> u64
     ensures { λ r. ⌜ r ≡ sideNumber side ⌝ }
@@ -41,7 +41,7 @@ fn of_life(life: Life) -> u64
 
 // A limit order's price; 0 for a market order.
 fn limit_of(kind: Kind) -> u64
-    ensures { λ r. ⌜ r ≡ limitOf kind ⌝ }
+    ensures { λ r. ⌜ r ≡ limitNumber kind ⌝ }
 {
     match kind {
         Kind::Limit(price) => price,

@@ -18,13 +18,13 @@ use Rattle.terms.specs.declared.Side.the-variants.{Buy, Sell}
 use Rattle.terms.proofs.Logic.{by, split}
 use Rattle.desk_packing_law.specs.declared.FoundEvent.{FoundEvent}
 use Rattle.desk_packing_law.specs.Runs.{eventLength}
-use Rattle.desk_packing_law.specs.Events.{sideNumber, kindNumber, lifeNumber, limitOf, actNumbers, eventNumbers, toldIf, orderFrom, entryFrom, foundFrom, foundIn, eventFrom}
+use Rattle.desk_packing_law.specs.Events.{sideNumber, kindNumber, lifeNumber, limitNumber, actNumbers, eventNumbers, toldIf, orderFrom, entryFrom, foundFrom, foundIn, eventFrom}
 use Rattle.desk_packing_law.proofs.Listed.{first-listed}
 
 -- ---- an event is read back from its numbers
 
 entry-back : (t : ℕ) (side : Side) (kind : Kind) (life : Life) (lots : ℕ) →
-    foundFrom t (sideNumber side) (kindNumber kind) (lifeNumber life) lots (limitOf kind)
+    foundFrom t (sideNumber side) (kindNumber kind) (lifeNumber life) lots (limitNumber kind)
     ≡ FoundEvent.Told (record { time = t; act = Enter (record { side = side; kind = kind; life = life; lots = lots }) })
 unfolding foundFrom
 entry-back t Buy (Limit price) AllDay lots = refl
@@ -67,7 +67,7 @@ only-if ns false t a f = tt
 abbrev six : ℕ → ℕ → ℕ → ℕ → ℕ → ℕ → List ℕ
 six t w k l a p = t ∷ w ∷ k ∷ l ∷ a ∷ p ∷ []
 
-only-order : (t : ℕ) (side : Side) (kind : Kind) (l lots p : ℕ) (unused : Bool) → (unused ≡ true → p ≡ limitOf kind) →
+only-order : (t : ℕ) (side : Side) (kind : Kind) (l lots p : ℕ) (unused : Bool) → (unused ≡ true → p ≡ limitNumber kind) →
     Only (six t (sideNumber side) (kindNumber kind) l lots p) (orderFrom unused t side kind l lots)
 only-order t side kind l lots p unused f =
     let P = Only (six t (sideNumber side) (kindNumber kind) l lots p) in

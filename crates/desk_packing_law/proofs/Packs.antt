@@ -24,7 +24,7 @@ use Rattle.desk_packing_law.specs.declared.FoundEvent.{FoundEvent}
 use Rattle.desk_packing_law.specs.Runs.{sessionLength, layout, settingsBase, clockBase, liveBase, reckoningBase, tapeBase, tenAt}
 use Rattle.desk_packing_law.specs.Settings.{settingsNumbers, settingsAt, isCategory, categoryFrom}
 use Rattle.desk_packing_law.specs.Sessions.{flag, liveNumbers, reckoningNumbers, tapeNumbers, clockFrom, liveFrom, reckoningFrom, tapeFrom, sessionNumbers, isSession, sessionOf, sessionFrom}
-use Rattle.desk_packing_law.specs.Events.{sideNumber, kindNumber, lifeNumber, limitOf, actNumbers, eventNumbers, foundIn, greatest, eventFrom}
+use Rattle.desk_packing_law.specs.Events.{sideNumber, kindNumber, lifeNumber, limitNumber, actNumbers, eventNumbers, foundIn, greatest, eventFrom}
 
 -- ---- a session, section by section
 
@@ -95,7 +95,7 @@ packed-right s row closed e f = ap (λ (r : ℕ). packed s r closed) e ∙ ap (p
 
 module _ (e : Event) where
   pub packs-entry : (n : Entry) (side kind life limit : ℕ) → e .act ≡ Enter n → side ≡ sideNumber (n .side) → kind ≡ kindNumber (n .kind) →
-      life ≡ lifeNumber (n .life) → limit ≡ limitOf (n .kind) → (e .time ∷ side ∷ kind ∷ life ∷ n .lots ∷ limit ∷ []) ≡ eventNumbers e
+      life ≡ lifeNumber (n .life) → limit ≡ limitNumber (n .kind) → (e .time ∷ side ∷ kind ∷ life ∷ n .lots ∷ limit ∷ []) ≡ eventNumbers e
   unfolding eventNumbers
   packs-entry n side kind life limit h a b c d = rw (h, a, b, c, d)
 

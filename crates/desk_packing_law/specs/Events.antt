@@ -28,13 +28,13 @@ abbrev pub lifeNumber : Life → ℕ
 lifeNumber AllDay = 1
 lifeNumber Ioc = 2
 
-abbrev pub limitOf : Kind → ℕ
-limitOf (Limit price) = price
-limitOf Market = 0
+abbrev pub limitNumber : Kind → ℕ
+limitNumber (Limit price) = price
+limitNumber Market = 0
 
 -- the five numbers after the time
 abbrev pub actNumbers : Act → List ℕ
-actNumbers (Enter n) = sideNumber (n .side) ∷ kindNumber (n .kind) ∷ lifeNumber (n .life) ∷ n .lots ∷ limitOf (n .kind) ∷ []
+actNumbers (Enter n) = sideNumber (n .side) ∷ kindNumber (n .kind) ∷ lifeNumber (n .life) ∷ n .lots ∷ limitNumber (n .kind) ∷ []
 actNumbers (Withdraw number) = 3 ∷ 0 ∷ 0 ∷ number ∷ 0 ∷ []
 actNumbers (Under price) = 4 ∷ 0 ∷ 0 ∷ 0 ∷ price ∷ []
 actNumbers Clock = 5 ∷ 0 ∷ 0 ∷ 0 ∷ 0 ∷ []
