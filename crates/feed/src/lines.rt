@@ -93,18 +93,17 @@ fn while_room(
         let t = line_at(now, bytes, at, wrote, buys, sells, room, out);
         let used = t.used;
         let told = t.wrote;
-        let after = t.run;
+        now = t.run;
         wrote += told;
         if used == 0 {
-            let stage = after.stage;
+            let stage = now.stage;
             return Taken {
-                run: after,
+                run: now,
                 used: at,
                 wrote: wrote,
                 stop: stop_at(stage),
             };
         }
-        now = after;
         at += used;
     }
     let stage = now.stage;
