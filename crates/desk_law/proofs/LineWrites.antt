@@ -20,7 +20,7 @@ use Rattle.lines_text_law.specs.Numerals.{allWritable}
 use Rattle.lines_reading_law.specs.Lines.{renderEvent, renderSettings, eventFigures, settingsFigures}
 use Rattle.records_law.specs.declared.ReadRecord.{ReadRecord}
 use Rattle.records_law.specs.Back.{RecordRead}
-use Rattle.records_law.proofs.Told.{told-right, told-only, six-at}
+use Rattle.records_law.proofs.Told.{told-first}
 use Rattle.lines_writing_law.specs.declared.Wrote.{Wrote}
 use Rattle.lines_writing_law.specs.Lines.{renderReport, reportFigures}
 use Rattle.lines_writing_law.specs.Writes.{lineVerdict, wroteOf, roomOf, Writes}
@@ -29,7 +29,7 @@ use Rattle.desk_packing_law.specs.Runs.{settingsLength, eventLength}
 use Rattle.desk_packing_law.specs.Settings.{isCategory, settingsFrom}
 use Rattle.desk_packing_law.specs.Events.{foundIn, eventFrom}
 use Rattle.desk_packing_law.specs.Answers.{countMost, answerOf}
-use Rattle.desk_law.specs.Writes.{wroteNumber, Few, WrittenOn, settingsVerdictOn, SettingsWrittenOn, eventVerdictOn, EventWrittenOn, reportIn, reportVerdictOn, ReportWrittenOn}
+use Rattle.desk_law.specs.Writes.{wroteNumber, Few, WrittenOn, settingsVerdictOn, SettingsWrittenOn, eventVerdictOn, EventWrittenOn, reportVerdictOn, ReportWrittenOn}
 use Rattle.lines_writing_law.proofs.Short.{event-short, settings-short, report-short}
 
 -- ---- lines of any sort
@@ -111,13 +111,6 @@ module _ (room : List ℕ) (r : ℕ) where
   unfolding lineVerdict firstFailed allWritable
   no-line-done h x = rw (le-leb lineRoom (length room) h) x
 
--- what the reader of records answers is what the definition computes
-report-is : (run : List ℕ) (o : ReadRecord) → recordLength ≤ length run → RecordRead (take recordLength (drop 0 run)) o → o ≡ reportIn run
-unfolding reportIn
-report-is run o h p =
-    told-only (take recordLength run) o (reportIn run) p
-    (rw (six-at run 0 (omega arith)) (told-right (getD run 0 0) (getD run 1 0) (getD run 2 0) (getD run 3 0) (getD run 4 0) (getD run 5 0)))
-
 module _ (run room : List ℕ) (r : ℕ) where
   pub report-no-run : length run < recordLength → r ≡ answerOf (Refused SmallRoom) 0 → ReportWrittenOn run room room r
   unfolding reportVerdictOn
@@ -127,13 +120,13 @@ module _ (run room : List ℕ) (r : ℕ) where
     pub report-none : o ≡ ReadRecord.Nothing → r ≡ answerOf (lineVerdict room []) 0 → ReportWrittenOn run room room r
     unfolding reportVerdictOn
     report-none t x =
-        rw (le-ltb (length run) recordLength h, ← report-is run o h k, t) (record { answer = x; laid = none-written (lineVerdict room []) room })
+        rw (le-ltb (length run) recordLength h, ← told-first run o h k, t) (record { answer = x; laid = none-written (lineVerdict room []) room })
 
     pub report-written : (p : Report) (w : Wrote) (room′ : List ℕ) → o ≡ ReadRecord.Told p → Writes room (renderReport p) (reportFigures p) w room′ →
         r ≡ wroteNumber w → ReportWrittenOn run room room′ r
     unfolding reportVerdictOn
     report-written p w room′ t q x =
-        rw (← report-is run o h k, t) (writes-on _ room (renderReport p) (reportFigures p) room′ w r (rw (le-ltb (length run) recordLength h)) q x)
+        rw (← told-first run o h k, t) (writes-on _ room (renderReport p) (reportFigures p) room′ w r (rw (le-ltb (length run) recordLength h)) q x)
 
 pub report-few : (p : Report) (room room′ : List ℕ) (w : Wrote) → Writes room (renderReport p) (reportFigures p) w room′ → Few w
 report-few p room room′ w q = writes-few room (renderReport p) (reportFigures p) room′ w (omega (arith, report-short p)) q

@@ -14,7 +14,7 @@ use Rattle.lines_writing_law.specs.declared.Wrote.{Wrote}
 use Rattle.lines_writing_law.specs.Lines.{renderReport, reportFigures}
 use Rattle.lines_writing_law.specs.Writes.{lineVerdict, roomOf}
 use Rattle.records_law.specs.declared.ReadRecord.{ReadRecord}
-use Rattle.records_law.specs.Back.{reportFrom}
+use Rattle.records_law.specs.Back.{reportIn}
 use Rattle.desk_packing_law.specs.declared.FoundEvent.{FoundEvent}
 use Rattle.desk_packing_law.specs.Runs.{settingsLength, eventLength}
 use Rattle.desk_packing_law.specs.Settings.{isCategory, settingsFrom}
@@ -60,9 +60,6 @@ abbrev pub EventWrittenOn : List ℕ → List ℕ → List ℕ → ℕ → Type 
 EventWrittenOn run room room′ r = WrittenOn (eventVerdictOn run room) (renderEvent (eventFrom run)) room room′ r
 
 -- ---- a report, from its record: 1 if the slice is too short, then 16 and 17. For numbers that are no report's no line is written
-
-unfoldable pub reportIn : List ℕ → ReadRecord
-reportIn ns = reportFrom (getD ns 0 0) (getD ns 1 0) (getD ns 2 0) (getD ns 3 0) (getD ns 4 0) (getD ns 5 0)
 
 abbrev pub toldVerdict : ReadRecord → List ℕ → Verdict
 toldVerdict (ReadRecord.Told p) room = lineVerdict room (reportFigures p)
