@@ -43,19 +43,23 @@ percent-changes s t h =
     (λ e. let z : not (eqb p p) ≡ true = rw (widened-same (s .clock .widened) (s .clock .cooling) t e) at h in
     no-both (eqb p p) (eq-eqb p p refl) (not-true _ z))
 
--- ---- trades leave the settings, the time, the slab, the reference and the numbers given
+-- ---- trades leave all but the cooling-off, the minute and the tape
 
 pub record Untouched (s s′ : Session) : Type 0 where
   pub settings : s′ .settings ≡ s .settings
   pub time : s′ .clock .time ≡ s .clock .time
   pub closed : s′ .clock .closed ≡ s .clock .closed
   pub widened : s′ .clock .widened ≡ s .clock .widened
+  pub under : s′ .clock .under ≡ s .clock .under
   pub reference : s′ .reckoning .reference ≡ s .reckoning .reference
+  pub buys : s′ .live .buys ≡ s .live .buys
+  pub sells : s′ .live .sells ≡ s .live .sells
   pub given : s′ .live .given ≡ s .live .given
 
 pub trades-leave : (s : Session) (fills : List Order) → Untouched s (withTrades s fills)
 unfolding withTrades withTrade
-trades-leave s [] = record { settings = refl; time = refl; closed = refl; widened = refl; reference = refl; given = refl }
+trades-leave s [] =
+    record { settings = refl; time = refl; closed = refl; widened = refl; under = refl; reference = refl; buys = refl; sells = refl; given = refl }
 trades-leave s (f ∷ fs) =
     let u : Untouched (withTrade s (f .price) (f .lots)) (withTrades (withTrade s (f .price) (f .lots)) fs) =
     trades-leave (withTrade s (f .price) (f .lots)) fs in
@@ -64,6 +68,9 @@ trades-leave s (f ∷ fs) =
       time = u .time;
       closed = u .closed;
       widened = u .widened;
+      under = u .under;
       reference = u .reference;
+      buys = u .buys;
+      sells = u .sells;
       given = u .given;
     }
