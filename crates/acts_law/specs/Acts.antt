@@ -92,7 +92,7 @@ dropped s number why side mine theirs =
       reports = ended (s .clock .time) number (leftOf number mine) why ∷ [];
     }
 
--- the side on which the order of that number rests, known to rest on one of the two
+-- the side on which an order rests, given the buys: it is among these, or else among the sells
 abbrev pub sideOf : ℕ → List Order → Side
 sideOf number buys = cond (rests number buys) Buy Sell
 
