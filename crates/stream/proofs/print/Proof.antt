@@ -1,3 +1,4 @@
+-- A run to standard output answers nothing of a comparison.
 use borrow.Author.Needs.{needs}
 use Rattle.stream_law.proofs.Through.{through-prints}
 use Rattle.stream.proofs.print.Statement.{statement}
