@@ -48,8 +48,8 @@ unfoldable pub listenAll : Listener → List Report → Listener
 listenAll l [] = l
 listenAll l (r ∷ rs) = listenAll (listen l r) rs
 
--- What a slab report means: a trade at an end of the initial band came long enough before it; until then the initial band was in force; and it
--- tells the enhanced band, which holds every price of the initial one.
+-- What a slab report means: a trade at an end of the initial band came long enough before it; until then the initial band was in force; and
+-- it tells the enhanced band, which holds every price of the initial one.
 pub record FineSlab (g : Settings) (l : Listener) (t : ℕ) (band : Band) : Type 0 where
   pub touched : touchedBy (initialBand g) t (l .past) ≡ true
   pub before : l .band ≡ initialBand g

@@ -1,7 +1,7 @@
-// acts_law: the law of what an accepted event does to a day: an order comes in, an order is cancelled, the day closes; and the reports of each.
-// It has no code, and may use terms, tables and the laws from rules_law to refusal_law. It promises: no lot is made or lost, numbers are given
-// in order, every trade is where settings and reports allow it, a slab is told only where the band is widened, and the reports of an event
-// stand in document 01's order and fit the room.
+// acts_law: the law of what an accepted event does to a day (an order comes in, one is cancelled, the day closes), and of its reports.
+// It has no code, and may use terms, tables and the laws from rules_law to refusal_law. It promises: no lot is made or lost, numbers are
+// given in order, every trade is where settings and reports allow it, a slab is told only where the band is widened, and the reports of an
+// event stand in document 01's order and fit the room.
 
 use matching_law::Matched;
 use state_law::Session;

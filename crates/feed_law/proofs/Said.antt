@@ -1,4 +1,4 @@
--- The lines for refused events and bad lines are always printed, since their numbers can be written. (For reports: `promises`, `calls-writable`.)
+-- The lines for refused events and bad lines are always printed, since their numbers can be written. (Reports: `promises`, `calls-writable`.)
 use Prim.Native.Nat.{ℕ, _≤_}
 use native.Mathlib.Omega.{arith}
 use mathlib.Core.Path.{_≡_}

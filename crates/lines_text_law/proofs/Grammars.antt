@@ -97,8 +97,8 @@ module _ {E : Type 0} where
   some (either b g h) = let s = some g in (s .0, b ∷ s .1, s-this (s .2))
   some (number g) = let s = some (g 0) in (s .0, numeral 0 ++ s .1, s-number 0 (omega arith) (s .2))
 
--- The reason for an answer about the bytes l: a line stands at their start; or they begin one; or a part a of them begins one, and after a the
--- byte x is wrong, whatever comes later.
+-- The reason for an answer about the bytes l: a line stands at their start; or they begin one; or a part a of them begins one, and after a
+-- the byte x is wrong, whatever comes later.
 pub data Seen {E : Type 0} (g : Grammar E) (l : List ℕ) (p : ℕ) : Answer E → Type 0 where
   was-whole : (e : E) (m : ℕ) (bs r : List ℕ) → Spells g e bs → l ≡ bs ++ r → m ≡ p + length bs → Seen g l p (whole e m)
   was-unfinished : (e : E) (t : List ℕ) → Spells g e (l ++ t) → Seen g l p unfinished
@@ -194,8 +194,8 @@ module _ {E : Type 0} where
   unfolding lastly
   s-last w f v h = s-word w (s-number v h (s-word (bytes "\n") s-stop))
 
--- Every line that the grammar spells, with what c puts in front, is the line that r gives to its value, and f holds of the value: there is one
--- equation for each end of the grammar.
+-- Every line that the grammar spells, with what c puts in front, is the line that r gives to its value, and f holds of the value: there is
+-- one equation for each end of the grammar.
 module _ {E : Type 0} (r : E → List ℕ) (f : E → Type 0) where
   abbrev pub Agrees : Grammar E → (List ℕ → List ℕ) → Type 0
   Agrees (stop e) c = (c [] ≡ r e) × f e

@@ -1,5 +1,5 @@
 // lines_writing_reports: what is said is written into a lent line room: the line of a report, of a refused event, of a bad line.
-// It may use terms, lines_writing and lines_writing_law, and what these use. It promises, for any value and room, what lines_writing promises.
+// It may use terms, lines_writing and lines_writing_law, and what these use. It promises of any value and room what lines_writing does.
 
 use lines_writing::forms;
 use lines_writing_law::Wrote;

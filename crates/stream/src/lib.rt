@@ -1,9 +1,9 @@
 // stream: the bytes of a descriptor, however many, go through a fixed buffer to feed; what is printed goes to standard output, or is held
 // against an expected output.
-// It may use io, descriptors, stream_sink and stream_feed, and what these use. It promises that it is safe and ends; that the buffer always has
-// room, so that a read of no bytes is the end of the input; and that there are bytes (the proof takes those that were read) for which all is
-// sent that the program prints, and for which a comparison answers "same" just where that is what was expected; or it answers that not all
-// could be read.
+// It may use io, descriptors, stream_sink and stream_feed, and what these use. It promises that it is safe and ends; that the buffer always
+// has room, so that a read of no bytes is the end of the input; and that there are bytes (the proof takes those that were read) for which
+// all is sent that the program prints, and for which a comparison answers "same" just where that is what was expected; or it answers that
+// not all could be read.
 
 use descriptors::Got;
 use descriptors::reading;

@@ -1,6 +1,6 @@
 // stream_feed: bytes that were read go to feed, and what feed prints goes to the sink. It knows of no descriptor but through the sink.
-// It may use feed and what feed uses, stream_law and stream_sink. It promises, of any bytes and any expected output: what was sent and what is
-// still to be printed make up what the program prints; all whole lines are taken; and at the end all is sent that the program prints.
+// It may use feed and what feed uses, stream_law and stream_sink. It promises, of any bytes and any expected output: what was sent and what
+// is still to be printed make up what the program prints; all whole lines are taken; and at the end all is sent that the program prints.
 
 use feed::lines;
 use feed_law::Run;

@@ -46,7 +46,7 @@ abbrev pub acceptedReports : Session → Entry → List Order → List Report
 acceptedReports s n os =
     reportAt (s .clock .time) (Accept (s .live .given + 1)) ∷ tradeReports (s .clock .time) (n .side) (s .live .given + 1) (sweepIn s n os .fills)
 
--- The table across and the room after the trades; a session can remember the trades from their records, and they are the trades that were made.
+-- the table across and the room after the trades; from their records a session can remember the trades, and they are those that were made
 pub record CrossedAs (s : Session) (n : Entry) (os : List Order) (t room : List ℕ) (at : ℕ) (t′ room′ : List ℕ) (r : Crossed) : Type 0 where
   pub book : t′ ≡ tableOf (sweepIn s n os .rest) t
   pub count : r .matched .count ≡ length (sweepIn s n os .rest)
