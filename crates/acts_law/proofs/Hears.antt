@@ -126,7 +126,7 @@ module _ (g : Settings) (k : Known) where
   pub one-tells : (l : Listener) (r : Report) → Fine g l r → Knows g (listen l r) k → Tells g l (r ∷ []) k
   one-tells l r f h = next-tells l r [] f (none-tells (listen l r) h)
 
-  -- two runs of reports, one after the other, after which the listener knows what holds after the second
+  -- reports after which the listener knows k, and then others after which he knows k′, are one run after which he knows k′
   pub append-tells : (k′ : Known) (l : Listener) (xs ys : List Report) → Tells g l xs k →
       (Knows g (listenAll l xs) k → Tells g (listenAll l xs) ys k′) → Tells g l (xs ++ ys) k′
   append-tells k′ l xs ys h f =

@@ -20,7 +20,7 @@ use Rattle.acts_law.specs.Acts.{ended}
 use Rattle.acts_law.specs.Asked.{accepts, numbersTo}
 use Rattle.acts_law.specs.Heard.{lastSaid, initialBand, bandSaid, referenceSaid, touchedBy, slabsTold}
 
--- `cat=gems base=10000 close=10000 settle=10000 tick=5 len=3600000 days=0 under=0`
+-- the settings of the listing: `cat=gems base=10000 close=10000 settle=10000 tick=5 len=3600000 days=0 under=0`
 abbrev pub settings : Settings
 settings = record { category = Gems; base = 10000; close = 10000; settle = 10000; tick = 5; length = 3600000; days = 0; under = 0 }
 

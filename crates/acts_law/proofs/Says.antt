@@ -299,7 +299,7 @@ timed-tells d t m l k =
 slab-initial : (d : Day) → sound d ≡ true → (eqb (d .session .clock .widened) 0 || eqb (d .session .clock .cooling) 0) ≡ true
 slab-initial d h = sound-day d h .parts .timed .initial
 
--- EACH REPORT IS FINE by what was told before it
+-- EACH REPORT IS FINE, given what was told before it
 pub act-tells : (d : Day) (e : Event) (l : Listener) → sound d ≡ true → d .session .clock .time ≤ e .time → KnowsOf (d .session .settings) l (d .session) →
     TellsOf (d .session .settings) l (act d e .reports) (act d e .day .session)
 unfolding clockStep

@@ -132,7 +132,7 @@ finished s time settle buys sells =
 abbrev pub andThen : Acted → Acted → Acted
 andThen a b = record { day = b .day; reports = a .reports ++ b .reports }
 
--- the clock steps
+-- the clock steps are made, and their reports told
 abbrev pub stepped : Day → ℕ → Acted
 stepped d t = record { day = steppedDay d t; reports = clockReports (d .session) (clockStep (d .session) t) }
 

@@ -63,7 +63,7 @@ fn order_of(number: u64, price: u64, lots: u64) -> Order
     }
 }
 
-// The remainder takes its place on its own side.
+// Puts the remainder in its place on its own side.
 fn rest(mine: &mut [u64], n: usize, side: Side, o: Order) -> usize
     requires { ⌜ Holds n (now mine) × (n < slots) ⌝ }
     ensures { λ r. ⌜ RestedAs side o n (now (mine .entry)) (now (mine .exit)) r ⌝ }

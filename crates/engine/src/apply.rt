@@ -1,4 +1,4 @@
-// An event on a session and lent numbers.
+// An event is applied to a session and lent numbers.
 use acts::accepted;
 use engine_law::Answer;
 use engine_law::Applied;

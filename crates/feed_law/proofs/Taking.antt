@@ -51,7 +51,7 @@ turned-as {t} {out} {buys} {sells} {room} {out′} e s w u p =
       printed = subst (λ (x : Turned). Prints out (t .text) (x .wrote) out′) (sym e) p;
     }
 
--- nothing printed leaves the room as it was
+-- where nothing is printed, the room stays as it was
 nothing : (out : List ℕ) → Prints out [] 0 out
 nothing out = record { count = refl; laid = refl }
 

@@ -1,7 +1,7 @@
 // lines_reading: session lines are read. Each reader takes one sort of line, from the start of the bytes that it is handed.
 // It may use terms, lines_text, lines_reading_law and lines_reading_settings. It promises, for any bytes: a value and the length of its
 // line; 14 exactly where the bytes begin a line and hold no whole one; 15 else, with the length of the longest start that begins a line.
-// What a line is, is what is written for a value.
+// The line of a value is what is written for it.
 
 pub mod events;
 

@@ -93,7 +93,7 @@ fn put_piece(room: &mut [u8], from: Spot, b: u8, numbers: &[u64]) -> Spot
     }
 }
 
-// Puts a form, filled with the numbers from the spot's on, and answers the spot after it.
+// Puts a form, filled with the numbers that are not used yet, and answers the spot after it.
 pub fn put_form(room: &mut [u8], from: Spot, form: &[u8], numbers: &[u64]) -> Spot
     requires { ⌜ Fits (now room) from (now form) (now numbers) ⌝ }
     ensures { λ r. ⌜ PutFrom (now (room .entry)) from (fill (now (form .entry)) (drop (from .used) (now (numbers .entry)))) (holes (now (form .entry))) (now (room .exit)) r ⌝ }

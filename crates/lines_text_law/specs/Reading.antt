@@ -6,11 +6,11 @@ use Rattle.lines_text_law.specs.Grammar.{Answer, whole, unfinished, wron
 
 -- L e b says that b is the line of e
 module _ {E : Type 0} (L : E → List ℕ → Type 0) where
-  -- "begin a line"
+  -- the bytes "begin a line": some line starts with them
   abbrev pub Begins : List ℕ → Type 0
   Begins b = (e : E) × (rest : List ℕ) × L e (b ++ rest)
 
-  -- "hold .. whole one"
+  -- the bytes "hold .. whole one": some line stands at their start
   abbrev pub Contains : List ℕ → Type 0
   Contains b = (e : E) × (n : ℕ) × (n ≤ length b) × L e (take n b)
 

@@ -1,4 +1,4 @@
--- What writing a line into a lent room does, whatever the line.
+-- What writing a line into a lent room does, whatever the line is.
 use Prim.Native.Nat.{ℕ, _+_, _≤_}
 use mathlib.Core.Path.{_≡_}
 use mathlib.Core.List.{List, [], _∷_, _++_}

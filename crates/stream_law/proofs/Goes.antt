@@ -159,7 +159,7 @@ module _ (run : Run) (buys sells room bytes out : List ℕ) (v : feedVerdict buy
   unfolding fedOf
   as-fed = subst (λ (x : Verdict). HandedAs (fedBy x run buys sells room bytes out) expected to buys′ sells′ r) v k
 
-  -- what is printed after it is the same, whether calls or days are asked
+  -- what is printed after it is the same in the world of calls as in that of days
   by-days : (more : List ℕ) → printedFrom calls (f .stage) (f .world) (drop (f .used) bytes ++ more) ≡ toPrint after more
   by-days more =
       let a = as-fed in

@@ -79,7 +79,7 @@ handing-stops g t k e m = over-as (handing-on g t k) e (stops-there g t k m)
 
 -- ---- a buffer: its bytes up to an end are handed over, and the rest is moved to its front
 
--- where to read on is the answer, the run is not over and the sink is open
+-- where more is to be read, the run is not over and the sink is open
 open-if : (b : Bool) → cond b Reading.On Reading.Done ≡ Reading.On → b ≡ true
 open-if true e = refl
 open-if false e = absurd (let z : _≡_ {A = ℕ} 0 1 = cc in omega arith)

@@ -1,4 +1,4 @@
--- What is sent in parts stands as what is sent whole.
+-- A sink stands the same after a text that is sent in parts as after the whole text.
 use Prim.Native.Nat.{ℕ, _+_}
 use native.Mathlib.Omega.{arith}
 use native.Mathlib.Nat.{zero-add, add-assoc}

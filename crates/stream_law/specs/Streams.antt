@@ -187,7 +187,7 @@ pub record Compares (expected : List ℕ) (r : Finish) : Type 0 where
   pub input : List ℕ
   pub tells : Tells (printed input) expected r
 
--- THE CONTRACT of `print`: it answers nothing of a comparison
+-- THE CONTRACT of `print`: it answers whether all was read and printed, and never as a comparison does
 abbrev pub PrintedAs : Finish → Type 0
 PrintedAs Finish.Printed = Unit {0}
 PrintedAs Finish.Same = ⊥

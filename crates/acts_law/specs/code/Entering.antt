@@ -1,4 +1,4 @@
--- What code leaves in the lent numbers when an order comes in.
+-- What code finds and leaves in the lent numbers when an order comes in.
 use Prim.Native.Nat.{ℕ, _+_, _*_, _≤_, _<_}
 use mathlib.Core.Path.{_≡_}
 use mathlib.Core.List.{List, _∷_}

@@ -1,4 +1,4 @@
--- What an accepted event begins and ends with, in the lent numbers.
+-- What an accepted event finds and leaves in the lent numbers, where it begins and where it ends.
 use Prim.Native.Nat.{ℕ, _+_, _/_, _*_, _≤_}
 use mathlib.Core.Path.{_≡_}
 use mathlib.Core.List.{List}
