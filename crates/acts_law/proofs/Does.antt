@@ -25,7 +25,7 @@ pub data Sets (s : Session) : Act → Session → Type 0 where
   setsUnder : (price : ℕ) → Sets s (Under price) (setUnder s price)
   setsNone : Sets s Clock s
 
--- such an act carries no order, and all of the session but the underlying and the cooling-off stays
+-- such an act carries no order, does not close the day, and leaves these parts of the session as they are
 pub record Alike (s : Session) (a : Act) (s′ : Session) : Type 0 where
   pub entry : carries a .entry ≡ none
   pub stays : carries a .closes ≡ false

@@ -151,7 +151,7 @@ pub opened-stands : (g : Settings) →
 unfolding standingNow openedSession percentOf lastOr lastLots
 opened-stands g = refl
 
--- until the band is widened, it is the initial one
+-- the band that is shown is the initial one until it is widened, and then the enhanced one
 pub initial-stands : (s : Session) → s .clock .widened ≡ 0 → standingNow s .band ≡ initialBand (s .settings)
 unfolding standingNow percentOf
 initial-stands s e = rw e

@@ -108,7 +108,7 @@ module _ {s : Session} {t : ℕ} {a : Act} {buys sells room : List ℕ} (r : Rea
         let b = book-fits (s′ .live .given) (s′ .settings .tick) (bandNow s′) (day .buys) (day .sells) (start .book) in
         deals-of (s .settings .tick) (day .sells) (each-tradable s′ (day .sells) (clocked-after .valid) (each-fits (s′ .live .given) (s′ .settings .tick) (bandNow s′) (day .sells) (b .each-sell)))
 
--- ---- the clock steps, in the order in which code makes them
+-- ---- the clock steps that code makes
 
 module _ {s : Session} {t : ℕ} {buys sells room : List ℕ} (g : Begins s t buys sells room) where
   pub steps-in : {s′ : Session} → s′ ≡ clockStep s t → Stepping s s′ buys sells room

@@ -49,7 +49,7 @@ module _ {buf₀ : List ℕ} {start i : ℕ} {buf : List ℕ} (m : Moved buf₀ 
             ∙ drop-drop 1 i buf₀;
       }
 
--- a part that ends before n can be cut at either end first
+-- the bytes before start and those from n on can be cut off in either order
 pub drop-take : (s : List ℕ) (start n : ℕ) → start ≤ n → drop start (take n s) ≡ take (n - start) (drop start s)
 drop-take s zero n h = let e : n ≡ n - 0 = omega arith in ap (λ (k : ℕ). take k s) e
 drop-take [] (suc start) zero h = absurd (omega arith)
