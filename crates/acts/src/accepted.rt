@@ -1,4 +1,4 @@
-// An event that no row refuses: the clock steps, the act, and their reports.
+// An event that no row refuses: the clock steps and the act are carried out, and their reports written.
 use acts_cancels::closing;
 use acts_cancels::withdrawing;
 use acts_orders::entering;
@@ -23,7 +23,7 @@ ghost use Rattle.engine_law.specs.Calls.{eventAt, Ready, ActedAs};
 ghost use Rattle.acts_law.specs.code.Entering.{Entering};
 ghost use Rattle.engine_law.specs.code.Steps.{Stepping, SteppedAs, Begins, BegunAs, QuietAs, OrderedAs, EntersOn, OrderedOn, Withdrawing, CancelledAs};
 
-// What every event but the close begins with: the tables' tails are cleared, and the clock steps are reported.
+// Clears the tables' tails and reports the clock steps, as every event but the close does first.
 fn step_in(old: Session, s: Session, buys: &mut [u64], sells: &mut [u64], room: &mut [u64]) -> usize
     requires { ⌜ Stepping old s (now buys) (now sells) (now room) ⌝ }
     ensures { λ r. ⌜ SteppedAs old s (now (buys .entry)) (now (sells .entry)) (now (room .entry)) (now (buys .exit)) (now (sells .exit)) (now (room .exit)) r ⌝ }
@@ -35,7 +35,7 @@ fn step_in(old: Session, s: Session, buys: &mut [u64], sells: &mut [u64], room: 
     telling::tell_clock(room, 0, old, s)
 }
 
-// An event begins: the clock steps, and their reports.
+// Begins an event: the clock steps are made and reported.
 fn begin(s: Session, t: u64, buys: &mut [u64], sells: &mut [u64], room: &mut [u64]) -> Begun
     requires { ⌜ Begins s t (now buys) (now sells) (now room) ⌝ }
     ensures { λ r. ⌜ BegunAs s t (now (buys .entry)) (now (sells .entry)) (now (room .entry)) (now (buys .exit)) (now (sells .exit)) (now (room .exit)) r ⌝ }
@@ -48,7 +48,7 @@ fn begin(s: Session, t: u64, buys: &mut [u64], sells: &mut [u64], room: &mut [u6
     }
 }
 
-// Under and clock: the clock steps alone, and perhaps another underlying.
+// Carries out under or clock: the clock steps, and at most another underlying.
 fn only_clock(
     s: Session,
     t: u64,
@@ -68,7 +68,7 @@ fn only_clock(
     counting::done(r, nbuys, nsells, b.at)
 }
 
-// A cancel behind the clock steps.
+// Removes an order after the clock steps.
 fn withdraw(
     s: Session,
     number: u64,
@@ -87,7 +87,7 @@ fn withdraw(
     counting::done(s, w.buys, w.sells, w.at)
 }
 
-// A cancel.
+// Carries out a cancel: the clock steps, then the removal.
 fn cancel(
     s: Session,
     t: u64,
@@ -106,7 +106,7 @@ fn cancel(
     withdraw(stepped, number, t, buys, nbuys, sells, nsells, room, b.at)
 }
 
-// A buy behind the clock steps: its own side is that of the buys.
+// Carries out a buy after the clock steps: its own side is that of the buys.
 fn buy(
     s: Session,
     n: Entry,
@@ -125,7 +125,7 @@ fn buy(
     counting::done(session, r.mine, r.theirs, r.at)
 }
 
-// A sell behind the clock steps: its own side is that of the sells.
+// Carries out a sell after the clock steps: its own side is that of the sells.
 fn sell(
     s: Session,
     n: Entry,
@@ -144,7 +144,7 @@ fn sell(
     counting::done(session, r.theirs, r.mine, r.at)
 }
 
-// An order behind the clock steps, by its side.
+// Carries out an order after the clock steps, as a buy or as a sell.
 fn enter(
     s: Session,
     n: Entry,
@@ -165,7 +165,7 @@ fn enter(
     }
 }
 
-// An order.
+// Carries out an order: the clock steps, then the buy or the sell.
 fn order(
     s: Session,
     t: u64,
@@ -184,7 +184,7 @@ fn order(
     enter(stepped, n, buys, nbuys, sells, nsells, room, b.at)
 }
 
-// The session of a day that is closed. The trades that it remembers have ten places.
+// The session of a day that is closed. The tape has ten places for the trades that it remembers.
 fn closed(s: Session, t: u64) -> Session
     ensures { λ r. ⌜ (r ≡ setClosed (setTime s t) true) × Ten s ⌝ }
 {
@@ -194,7 +194,7 @@ fn closed(s: Session, t: u64) -> Session
     r
 }
 
-// The close.
+// Carries out the close: every order is cancelled, and the closing prices are reported.
 fn close(
     s: Session,
     t: u64,
@@ -211,7 +211,7 @@ fn close(
     counting::done(after, 0, 0, at)
 }
 
-// By what the event does.
+// Carries out an accepted event, by its act.
 pub fn carry_out(
     s: Session,
     e: Event,

@@ -7,7 +7,7 @@ ghost use Rattle.tables.specs.Tables.{decode};
 ghost use Rattle.acts_law.specs.Acts.{finished};
 ghost use Rattle.acts_law.specs.code.Written.{Written, Finishing, Finished};
 
-// The cancels of the buys, those of the sells and the close report. The place behind them is the answer.
+// Writes the cancels of the buys, those of the sells and the close report, and answers the place behind them.
 fn tell_close(
     s: Session,
     time: u64,
@@ -28,7 +28,7 @@ fn tell_close(
     telling::tell(room, sold, time, Said::Close(closing))
 }
 
-// These reports, and both tables empty.
+// Writes these reports, and leaves both tables empty.
 pub fn finish(
     s: Session,
     time: u64,

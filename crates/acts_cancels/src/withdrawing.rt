@@ -8,7 +8,7 @@ ghost use Rattle.tables.specs.Lengths.{recordLength};
 ghost use Rattle.tables.specs.Tables.{decode, Holds};
 ghost use Rattle.acts_law.specs.code.Written.{RestsIn, WithdrawnAs};
 
-// The order of that number goes from the buys, or else from the sells; it rests on one of the two.
+// Removes the order of that number from the buys, or else from the sells; it rests on one of the two.
 pub fn withdraw(
     number: u64,
     time: u64,

@@ -1,5 +1,5 @@
--- The close: "Close applies no slab or reference step. It cancels all, buys then sells in priority order, why 5, then reports close price and
--- next base." A cancel: why 1.
+-- What the close and a cancel tell and leave. "Close applies no slab or reference step. It cancels all, buys then sells in priority order,
+-- why 5, then reports close price and next base." "Cancel removes a resting order, why 1."
 use Prim.Native.Nat.{ℕ}
 use mathlib.Core.Path.{_≡_, refl, sym, ap, _∙_}
 use mathlib.Core.Bool.{true, false}
@@ -20,7 +20,7 @@ use Rattle.book_law.specs.Tells.{tells}
 use Rattle.state_law.specs.Day.{Day}
 use Rattle.acts_law.specs.Acts.{Acted, dropped, cancelReports, closeReport, finished, does, act}
 
--- ---- what reports tell as cancelled, in their order: number, lots and the paper's number of the reason
+-- ---- the cancels that reports tell, in their order: number, lots and the paper's number of the reason
 
 abbrev pub cancelIn : Said → List (List ℕ)
 cancelIn x = maybe [] (λ e. (e .number ∷ e .lots ∷ whyOf (e .why) ∷ []) ∷ []) (tells x .ended)
@@ -38,19 +38,19 @@ told-append (x ∷ xs) ys =
 
 -- ---- a cancel
 
--- "Cancel removes a resting order, why 1.": what is told, and the orders that are left
+-- "Cancel removes a resting order, why 1.": the one cancel that is told, and the orders that are left
 pub record Cancelled (number lots : ℕ) (a : Acted) (buys sells : List Order) : Type 0 where
   pub told : cancelsTold (a .reports) ≡ (number ∷ lots ∷ 1 ∷ []) ∷ []
   pub bought : a .day .buys ≡ buys
   pub sold : a .day .sells ≡ sells
 
--- it goes from the buys, if it rests there,
+-- the order goes from the buys, if it rests there,
 pub cancels-buy : (d : Day) (number : ℕ) → rests number (d .buys) ≡ true →
     Cancelled number (leftOf number (d .buys)) (does d (Withdraw number)) (removed number (d .buys)) (d .sells)
 unfolding cancelsTold dropped
 cancels-buy d number e = rw e (record { told = refl; bought = refl; sold = refl })
 
--- and else from the sells
+-- or else from the sells
 pub cancels-sell : (d : Day) (number : ℕ) → rests number (d .buys) ≡ false →
     Cancelled number (leftOf number (d .sells)) (does d (Withdraw number)) (d .buys) (removed number (d .sells))
 unfolding cancelsTold dropped
@@ -58,7 +58,7 @@ cancels-sell d number e = rw e (record { told = refl; bought = refl; sold = refl
 
 -- ---- the close
 
--- an order as it is told there
+-- a cancel at the close, as it is told: number, lots, why 5
 abbrev pub endsToday : Order → List ℕ
 endsToday o = o .number ∷ o .lots ∷ 5 ∷ []
 
@@ -71,7 +71,7 @@ map-append : (xs ys : List Order) → map endsToday (xs ++ ys) ≡ map endsToday
 map-append [] ys = refl
 map-append (x ∷ xs) ys = ap (λ (l : List (List ℕ)). endsToday x ∷ l) (map-append xs ys)
 
--- the close of any day, at any time
+-- the event that closes the day at some time
 abbrev closeAt : ℕ → ℕ → Event
 closeAt time settle = record { time = time; act = Finish settle }
 
@@ -90,7 +90,7 @@ module _ (d : Day) (time settle : ℕ) where
       ∙ (λ i. each-told time (d .buys) i ++ sold i)
       ∙ sym (map-append (d .buys) (d .sells))
 
-  -- the last report tells the close price and the next base by the trades of the day, the previous close and today's settlement
+  -- the last report tells the close price and the next base, from the trades of the day, the previous close and today's settlement
   pub close-last : (rs : List Report) × (act d (closeAt time settle) .reports
       ≡ rs ++ (reportAt time (Close (closingOf (d .session .settings .tick) (d .session .settings .close) (d .session .tape) settle)) ∷ []))
   unfolding act finished
@@ -99,8 +99,8 @@ module _ (d : Day) (time settle : ℕ) where
     sym (append-assoc (cancelReports DayEnd time (d .buys)) (cancelReports DayEnd time (d .sells)) _),
   )
 
--- what the closed session keeps: all but its time, the closed mark and the live counts. A cooling-off that runs, or has run out, stays as it
--- is, and so do the percent and the reference
+-- A closed session keeps all but its time, the closed mark and the live counts. A cooling-off stays as it is, whether it runs or has run
+-- out, and so do the percent and the reference.
 pub record Closed (d : Day) (time : ℕ) (d′ : Day) : Type 0 where
   pub orders : (d′ .buys ≡ []) × (d′ .sells ≡ [])
   pub live : (d′ .session .live .buys ≡ 0) × (d′ .session .live .sells ≡ 0)

@@ -1,5 +1,5 @@
--- A law of what events do, piece by piece: what comes before the act, then the act, which is an order, a cancel, a change of the
--- session alone, or the close.
+-- How a law of events is proved piece by piece: first what comes before the act, then the act, which is an order, a cancel, a change of
+-- the session alone, or the close.
 use Prim.Native.Nat.{ℕ}
 use mathlib.Core.Path.{_≡_, refl, ap}
 use mathlib.Core.Bool.{Bool, true, false}
@@ -20,12 +20,12 @@ use Rattle.acts_law.specs.Acts.{Acted, sweepIn, entered, withdrawn, sile
 
 -- ---- an act that tells nothing and moves no order
 
--- what it makes of the session
+-- the session that such an act makes
 pub data Sets (s : Session) : Act → Session → Type 0 where
   setsUnder : (price : ℕ) → Sets s (Under price) (setUnder s price)
   setsNone : Sets s Clock s
 
--- it carries no order, and all but the underlying and the cooling-off stays
+-- such an act carries no order, does not close the day, and leaves these parts of the session as they are
 pub record Alike (s : Session) (a : Act) (s′ : Session) : Type 0 where
   pub entry : carries a .entry ≡ none
   pub stays : carries a .closes ≡ false
@@ -51,7 +51,7 @@ enters d n = entered (d .session) n (own (n .side) d) (sweepIn (d .session) n (a
 abbrev pub ends : Day → ℕ → Acted
 ends d settle = finished (d .session) (d .session .clock .time) settle (d .buys) (d .sells)
 
--- a property of what an act does
+-- a property of what an act does is proved act by act
 pub does-by : (P : Acted → Type 0) (d : Day) (a : Act) →
     ((n : Entry) → a ≡ Enter n → P (enters d n)) →
     ((number : ℕ) → a ≡ Withdraw number → P (withdrawn d number)) →
@@ -76,11 +76,11 @@ across-by Sell s d = refl
 
 -- ---- an event
 
--- a relation of a day and what is done on it that holds of two things one after the other, if of each
+-- a relation of a day and what is done on it chains: if it holds of two things done one after the other, it holds of both together
 abbrev pub Chains : (Day → Acted → Type 0) → Type 0
 Chains R = (d : Day) (a b : Acted) → R d a → R (a .day) b → R d (andThen a b)
 
--- a property of what an event does: of the time alone, or of the clock steps, and the act behind it
+-- a property of what an event does is proved for its two courses: the time alone and then the act, or the clock steps and then the act
 pub begun-by : (P : Acted → Type 0) (d : Day) (e : Event) →
     (carries (e .act) .closes ≡ true → P (andThen (timed d (e .time)) (does (timed d (e .time) .day) (e .act)))) →
     (carries (e .act) .closes ≡ false → P (andThen (stepped d (e .time)) (does (stepped d (e .time) .day) (e .act)))) →
@@ -88,12 +88,12 @@ pub begun-by : (P : Acted → Type 0) (d : Day) (e : Event) →
 unfolding act
 begun-by P d e f g = by (λ (b : Acted). P (andThen b (does (b .day) (e .act)))) (carries (e .act) .closes) _ _ f g
 
--- a relation that chains: it holds of an event if it holds of the time alone, of the clock steps and of the act
+-- a relation that chains holds of an event if it holds of the time alone, of the clock steps and of the act
 pub act-by : (R : Day → Acted → Type 0) → Chains R → (d : Day) (e : Event) → R d (timed d (e .time)) → R d (stepped d (e .time)) →
     ((d : Day) → R d (does d (e .act))) → R d (act d e)
 act-by R chain d e time clock doing = begun-by (R d) d e (λ h. chain d _ _ time (doing _)) (λ h. chain d _ _ clock (doing _))
 
--- a property of what an event does, act by act
+-- a property of what an event does is proved act by act
 pub event-by : (P : Acted → Type 0) (d : Day) (e : Event) →
     ((n : Entry) → e .act ≡ Enter n → P (andThen (stepped d (e .time)) (enters (stepped d (e .time) .day) n))) →
     ((number : ℕ) → e .act ≡ Withdraw number → P (andThen (stepped d (e .time)) (withdrawn (stepped d (e .time) .day) number))) →
@@ -111,14 +111,14 @@ event-by P d e f w q g =
     (λ h. does-by (λ (x : Acted). P (andThen (stepped d (e .time)) x)) (stepped d (e .time) .day) (e .act) f w q
     (λ settle z. no-both (ends-day (e .act)) (ap ends-day z) h))
 
--- the two ways of an event
+-- an event that closes the day is the time alone and then the act; any other is the clock steps and then the act
 pub act-closes : (d : Day) (e : Event) → carries (e .act) .closes ≡ true → act d e ≡ andThen (timed d (e .time)) (does (timed d (e .time) .day) (e .act))
 act-closes d e h = begun-by (λ (x : Acted). x ≡ andThen (timed d (e .time)) (does (timed d (e .time) .day) (e .act))) d e (λ k. refl) (λ k. no-both _ h k)
 
 pub act-goes : (d : Day) (e : Event) → carries (e .act) .closes ≡ false → act d e ≡ andThen (stepped d (e .time)) (does (stepped d (e .time) .day) (e .act))
 act-goes d e h = begun-by (λ (x : Acted). x ≡ andThen (stepped d (e .time)) (does (stepped d (e .time) .day) (e .act))) d e (λ k. no-both _ k h) (λ k. refl)
 
--- an act that ends the day does so with a settlement price
+-- an act that closes the day is a close with a settlement price
 pub closing : (d : Day) (a : Act) → carries a .closes ≡ true → (settle : ℕ) × (a ≡ Finish settle)
 closing d a h =
     let ends-day : Act → Bool = λ x. carries x .closes in

@@ -1,4 +1,4 @@
--- A cancel and the close, from what their calls leave.
+-- A cancel and the close are what the definitions say, given what their calls leave.
 use Prim.Native.Nat.{ℕ, _+_, _-_, _*_, _≤_}
 use native.Mathlib.Omega.{arith}
 use mathlib.Core.Path.{_≡_, sym}
@@ -23,14 +23,14 @@ use Rattle.acts_law.proofs.Reports.{written-length, written-then, lengt
 
 -- ---- a cancel
 
--- an order that rests is one of the n orders of its side, and leaves one less
+-- an order that rests is one of the n orders of its side, and one order fewer is left there
 some : (number n : ℕ) (t : List ℕ) → rests number (decode n t) ≡ true → 1 ≤ n
 some number n t e = omega (arith, length-removed number (decode n t) e, length-decode n t)
 
 left : (number n : ℕ) (t : List ℕ) → rests number (decode n t) ≡ true → n - 1 ≡ length (removed number (decode n t))
 left number n t e = omega (arith, length-removed number (decode n t) e, length-decode n t)
 
--- where it rests, by what `is_resting` answered for the buys
+-- the side on which it rests, from what `is_resting` answered for the buys
 here : (found : Bool) (number : ℕ) (buys : List Order) → found ≡ rests number buys → found ≡ true → rests number buys ≡ true
 here found number buys e f = rw f at (sym e)
 
@@ -88,7 +88,7 @@ module _ {s : Session} (time : ℕ) {tb ts room : List ℕ} (g : Finishing s tb 
   length-bought : length room₁ ≡ length room
   length-bought = written-length room 0 (cancelReports DayEnd time (decode (s .live .buys) tb)) room₁ bought w fits-buys
 
-  -- there is room for the sells' cancels behind the buys',
+  -- there is room for the cancels of the sells behind those of the buys,
   pub sells-fit : bought + recordLength * s .live .sells ≤ length room₁
   sells-fit =
       omega (arith, g .room-long, g .steady .clocked .buys-few, g .steady .clocked .sells-few, behind-all room 0 time (s .live .buys) tb room₁ bought w, length-bought)
@@ -100,7 +100,7 @@ module _ {s : Session} (time : ℕ) {tb ts room : List ℕ} (g : Finishing s tb 
     length-sold : length room₂ ≡ length room₁
     length-sold = written-length room₁ bought (cancelReports DayEnd time (decode (s .live .sells) ts)) room₂ sold v fits-sells
 
-    -- and for the close report behind those
+    -- and for the close report behind both
     pub close-fits : sold + recordLength ≤ length room₂
     close-fits =
         omega (arith, g .room-long, g .steady .clocked .buys-few, g .steady .clocked .sells-few, behind-all room 0 time (s .live .buys) tb room₁ bought w, behind-all room₁ bought time (s .live .sells) ts room₂ sold v, length-bought, length-sold)
@@ -117,7 +117,7 @@ module _ {s : Session} (time : ℕ) {tb ts room : List ℕ} (g : Finishing s tb 
         (written-then room₁ bought sells room₂ sold last room₃ next v (rw d at z) fits-sells)
         fits-buys
 
--- no order is left in the tables
+-- where both tables are left without orders, the close is done
 pub all-finished : {s : Session} {time settle : ℕ} {buys sells : List Order} {tb ts room tb₁ ts₁ room₁ : List ℕ} {next : ℕ} →
     Written room 0 (finished s time settle buys sells .reports) room₁ next → tb₁ ≡ tableOf (decode 0 tb) tb → ts₁ ≡ tableOf (decode 0 ts) ts →
     Finished s time settle buys sells tb ts room tb₁ ts₁ room₁ next

@@ -1,4 +1,4 @@
--- The whole of an order: what its calls ask, and what they leave.
+-- An order from its acceptance to its remainder: its calls may be made, and together they leave what the definition says.
 use Prim.Native.Nat.{ℕ, _+_}
 use native.Mathlib.Omega.{arith}
 use mathlib.Core.Path.{_≡_, refl, _∙_}
@@ -25,7 +25,7 @@ use Rattle.acts_law.specs.code.Written.{fateFrom, takesPlace, Settling, 
 use Rattle.acts_law.specs.code.Entering.{acceptedReports, Meeting, MetAs, Entering, EnteredAs}
 use Rattle.acts_law.proofs.Reports.{written-length, written-then}
 
--- only an order that lives all day takes a place
+-- only an order that lives all day takes a place on its side
 places : (life : Life) (kind : Kind) (band : Band) (last left : ℕ) (out : Bool) → takesPlace (fateFrom life kind band last left out) ≡ true → life ≡ AllDay
 places AllDay kind band last left out e = refl
 places Ioc kind band last left out e =

@@ -1,5 +1,5 @@
--- An event on a sound day has at most so many reports as the room has place for: a slab, a ref, an acceptance, a trade with each order
--- across, and one for the remainder; or, at the close, a cancel for each order and the closing prices.
+-- An event on a sound day has no more reports than the room can hold: a slab, a ref, an acceptance, a trade with each order across, and
+-- one for the remainder; or, at the close, a cancel for each order and the closing prices.
 use Prim.Native.Nat.{ℕ, _+_, _≤_}
 use native.Mathlib.Omega.{arith}
 use mathlib.Core.Path.{_≡_, refl}
@@ -76,7 +76,7 @@ ends-few d settle =
     let end : List Report = closeReport (d .session) t settle ∷ [] in
     omega (arith, length-append bs (ss ++ end), length-append ss end, cancels-few DayEnd t (d .buys), cancels-few DayEnd t (d .sells))
 
--- the orders across are of the two sides
+-- the orders across are no more than those of the two sides
 across-few : (side : Side) (d : Day) → length (across side d) ≤ length (d .buys) + length (d .sells)
 across-few Buy d = omega arith
 across-few Sell d = omega arith
@@ -90,7 +90,7 @@ does-few d a =
     (λ s q. omega arith)
     (λ settle e. omega (arith, ends-few d settle))
 
--- an event on any day has a report for each order, and four
+-- an event on any day has at most four reports more than there are orders
 pub act-each : (d : Day) (e : Event) → length (act d e .reports) ≤ 4 + (length (d .buys) + length (d .sells))
 act-each d e =
     let s : Session = d .session in

@@ -1,5 +1,5 @@
--- What a listener who knows the settings and hears each report knows: the band and the reference of the session, and that no slab
--- report comes before a trade at an end of the initial band has had its cooling-off. So each trade is inside what was told before it.
+-- What a listener knows who has the settings and hears each report: the band and the reference of the session, and that a slab report comes
+-- only after a trade at an end of the initial band and its cooling-off. So each trade is inside what was told before it.
 use Prim.Native.Nat.{ℕ, _+_, _≤_}
 use native.Mathlib.Omega.{arith}
 use native.Mathlib.Nat.{le-refl}
@@ -28,7 +28,7 @@ use Rattle.acts_law.specs.Heard.{initialBand, enhancedBand, bandAfter, r
 
 -- ---- the listener
 
--- the band and the reference so far, the time of the last report, and the reports, newest first
+-- the band and the reference as told, the time of the last report, and the reports that were heard, newest first
 pub record Listener : Type 0 where
   pub band : Band
   pub reference : ℕ
@@ -48,21 +48,21 @@ unfoldable pub listenAll : Listener → List Report → Listener
 listenAll l [] = l
 listenAll l (r ∷ rs) = listenAll (listen l r) rs
 
--- what a slab report comes to: it follows a trade at an end of the initial band, that was the band until then, and it tells the enhanced
--- one, which holds every price of the one before
+-- What a slab report means: a trade at an end of the initial band came long enough before it; until then the initial band was in force; and
+-- it tells the enhanced band, which holds every price of the initial one.
 pub record FineSlab (g : Settings) (l : Listener) (t : ℕ) (band : Band) : Type 0 where
   pub touched : touchedBy (initialBand g) t (l .past) ≡ true
   pub before : l .band ≡ initialBand g
   pub told : band ≡ enhancedBand g
   pub wider : (x : ℕ) → inBand (l .band) x ≡ true → inBand band x ≡ true
 
--- what must hold of a report, by what was heard before it: a trade is in the band and in the range
+-- what must hold of a report, given what was heard before it: a trade is in the band and in the range
 abbrev pub FineSaid : Settings → Listener → ℕ → Said → Type 0
 FineSaid g l t x =
     If (λ deal. (inBand (l .band) (deal .price) ≡ true) × (inRange (rangeOf (slabOf (g .category)) (l .reference)) (deal .price) ≡ true)) (tells x .deal)
     × If (FineSlab g l t) (tells x .band)
 
--- and no time is before that of the report before
+-- and its time is not before that of the report before it
 abbrev pub Fine : Settings → Listener → Report → Type 0
 Fine g l r = (l .time ≤ r .time) × FineSaid g l (r .time) (r .said)
 
@@ -74,7 +74,7 @@ EachFine g l (r ∷ rs) = Fine g l r × EachFine g (listen l r) rs
 abbrev pub Cooled : Settings → ℕ → List Report → Type 0
 Cooled g cooling past = (eqb cooling 0 || touchedBy (initialBand g) cooling past) ≡ true
 
--- what of a session a listener follows
+-- what a listener follows of a session
 pub record Known : Type 0 where
   pub band : Band
   pub reference : ℕ
@@ -84,7 +84,7 @@ pub record Known : Type 0 where
 abbrev pub knownOf : Session → Known
 knownOf s = record { band = bandNow s; reference = s .reckoning .reference; time = s .clock .time; cooling = s .clock .cooling }
 
--- the listener knows it
+-- what the listener has heard is what the session has
 pub record Knows (g : Settings) (l : Listener) (k : Known) : Type 0 where
   pub band-same : l .band ≡ k .band
   pub reference-same : l .reference ≡ k .reference
@@ -94,7 +94,7 @@ pub record Knows (g : Settings) (l : Listener) (k : Known) : Type 0 where
 abbrev pub KnowsOf : Settings → Listener → Session → Type 0
 KnowsOf g l s = Knows g l (knownOf s)
 
--- reports that are fine from l on, after which the listener knows this
+-- these reports are fine after all that was heard, and after them the listener knows k
 pub record Tells (g : Settings) (l : Listener) (rs : List Report) (k : Known) : Type 0 where
   pub fine : EachFine g l rs
   pub known : Knows g (listenAll l rs) k
@@ -126,7 +126,7 @@ module _ (g : Settings) (k : Known) where
   pub one-tells : (l : Listener) (r : Report) → Fine g l r → Knows g (listen l r) k → Tells g l (r ∷ []) k
   one-tells l r f h = next-tells l r [] f (none-tells (listen l r) h)
 
-  -- after the first part the listener knows this, after the second that
+  -- reports after which the listener knows k, and then others after which he knows k′, are one run after which he knows k′
   pub append-tells : (k′ : Known) (l : Listener) (xs ys : List Report) → Tells g l xs k →
       (Knows g (listenAll l xs) k → Tells g (listenAll l xs) ys k′) → Tells g l (xs ++ ys) k′
   append-tells k′ l xs ys h f =
@@ -142,7 +142,7 @@ fine-at g l (x ∷ xs) later r f = fine-at g (listen l x) xs later r (f .1)
 
 -- ---- touches
 
--- one that is over by a time is over by each later one
+-- a touch whose cooling-off is over by some time is over by every later time
 passes-too : {A : Type 0} (f g : A → Bool) → ((x : A) → f x ≡ true → g x ≡ true) → (x : Option A) → maybe false f x ≡ true → maybe false g x ≡ true
 passes-too f g h none e = e
 passes-too f g h (some x) e = h x e
@@ -170,7 +170,7 @@ cooled-more g cooling r past h =
     (λ z. rw z refl)
     (λ z. rw z (or-last (touchedIn (initialBand g) cooling (r .time) (r .said)) _ (λ y. rw z at h)))
 
--- ---- a trade that touches an end of the initial band begins what the listener then knows of
+-- ---- a trade at an end of the initial band begins a cooling-off that the listener knows of
 
 pub cooled-trade : (g : Settings) (widened cooling time : ℕ) (deal : Deal) (past : List Report) → Cooled g cooling past →
     Cooled g (coolingAfter widened cooling time (bandAt (g .base) (g .tick) (percentOf (slabOf (g .category)) widened)) (deal .price))
@@ -195,13 +195,13 @@ cooled-trade g widened cooling time deal past h =
 
 -- ---- reports that say nothing of band and reference
 
--- such a report
+-- the report leaves the band and the reference that the listener has, and is always fine
 pub record Plain (g : Settings) (x : Said) : Type 0 where
   pub band : (b : Band) → bandAfter b x ≡ b
   pub reference : (p : ℕ) → referenceAfter p x ≡ p
   pub fine : (l : Listener) (t : ℕ) → FineSaid g l t x
 
--- at a time
+-- such a report at the time t
 abbrev pub PlainAt : Settings → ℕ → Report → Type 0
 PlainAt g t r = Plain g (r .said) × (r .time ≡ t)
 
@@ -217,7 +217,7 @@ knows-more g k l r p h =
 pub plain-fine : (g : Settings) (k : Known) (l : Listener) (r : Report) → PlainAt g (k .time) r → Knows g l k → Fine g l r
 plain-fine g k l r p h = (omega (arith, p .1, h .time-past), p .0 .fine l (r .time))
 
--- a run of them leaves what is known
+-- after a run of such reports the listener knows what he knew before
 pub plain-tells : (g : Settings) (k : Known) (rs : List Report) → EachTold (PlainAt g (k .time)) rs → (l : Listener) → Knows g l k → Tells g l rs k
 unfolding EachTold
 plain-tells g k [] p l h = none-tells g k l h

@@ -1,5 +1,5 @@
--- What an order is judged by, and from when on an underlying counts: its own limit and mark, the last trade or the previous settlement, the
--- band after the clock steps, the reference until the next boundary.
+-- What is in force when an order is judged: its own limit and mark, the last trade price or the previous settlement, the band after the clock
+-- steps. A new underlying counts from the next boundary on.
 use Prim.Native.Nat.{ℕ, _≤_}
 use mathlib.Core.Path.{_≡_, refl}
 use mathlib.Core.Bool.{true, false}
@@ -37,7 +37,7 @@ last-settlement s e = rw (eq-eqb (s .tape .trades) 0 e)
 pub last-trade : (s : Session) (price lots : ℕ) → Ten s → lastIn (withTrade s price lots) ≡ price
 last-trade s price lots ten = last-traded _ s price lots ten
 
--- ---- the trades of an order: within its own limit, or within the mark that goes from its own first trade
+-- ---- the trades of an order are within its own limit, or within the mark that is measured from its own first trade
 
 pub within-limit : (s : Session) (side : Side) (limit : ℕ) (life : Life) (lots : ℕ) (theirs : List Order) →
     EachPrice (WithinLimit side limit) (sweepIn s (record { side = side; kind = Limit limit; life = life; lots = lots }) theirs .fills)
@@ -49,7 +49,7 @@ pub within-mark : (s : Session) (side : Side) (life : Life) (lots : ℕ) (theirs
 unfolding sweepIn
 within-mark s side life lots theirs p = market-within side _ lots theirs p
 
--- ---- the remainder of a day market order: "If that price is outside the band it is cancelled, why 4", by the band of the session
+-- ---- a day market order's remainder is judged by the session's band: "If that price is outside the band it is cancelled, why 4."
 
 abbrev dayMarket : Side → ℕ → Entry
 dayMarket side lots = record { side = side; kind = Market; life = AllDay; lots = lots }
@@ -64,7 +64,7 @@ module _ (s : Session) (side : Side) (lots : ℕ) (w : Swept) (left : 1 ≤ w .l
   unfolding fateIn
   ends-outside e = why-four (bandNow s) (lastIn s) w left ranged e
 
--- ---- "under (a new underlying, at least 1)": it is known from here on, and moves the reference at the next boundary, not at once
+-- ---- "under (a new underlying, at least 1)": it is known at once, and moves the reference only at the next boundary
 
 pub under-waits : (d : Day) (t price : ℕ) →
     (act d (record { time = t; act = Under price }) .day .session .clock .under ≡ price)
@@ -72,7 +72,7 @@ pub under-waits : (d : Day) (t price : ℕ) →
 unfolding act
 under-waits d t price = (refl, refl)
 
--- ---- "Under and clock have no report of their own": a clock event makes the clock steps, and nothing else
+-- ---- "Under and clock have no report of their own": a clock event makes the clock steps and does nothing else
 
 pub clock-only : (d : Day) (t : ℕ) →
     (act d (record { time = t; act = Clock }) .day ≡ dayOf (clockStep (d .session) t) (d .buys) (d .sells))

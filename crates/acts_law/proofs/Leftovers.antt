@@ -1,4 +1,4 @@
--- A remainder settled, in each of its four cases.
+-- A remainder is settled as the definition says, in each of the four cases.
 use Prim.Native.Nat.{ℕ, _+_, _<_}
 use native.Mathlib.Omega.{arith}
 use mathlib.Core.Path.{_≡_, sym}
@@ -23,7 +23,7 @@ pub rested : {side : Side} {o : Order} {n : ℕ} {t t′ : List ℕ} → t′ �
 rested {side} {o} {n} {t} e = record { book = e; counted = omega (arith, length-insert side o (decode n t), length-decode n t) }
 
 module _ {n at : ℕ} {t room : List ℕ} {fate : Fate} where
-  -- a remainder that rests, at its limit or turned into one, has a place
+  -- there is a place for a remainder that rests, at its own limit or at the one that it turns into
   pub rest-asks : {price : ℕ} → Settling n t room at fate → fate ≡ Rests price → n < slots
   rest-asks g e = g .place (rw e)
 

@@ -1,5 +1,5 @@
--- The reports of document 01's listing, and what a reader of them makes of them by the definitions that the promises are said in: lots traded
--- and cancelled, numbers given, the band, the reference, a touch of the band, a widening.
+-- The reports of document 01's listing, read by the definitions in which the promises are stated: lots traded and cancelled, numbers given,
+-- the band, the reference, a touch of the band, a widening.
 use Prim.Native.Nat.{ℕ}
 use mathlib.Core.Path.{_≡_, refl}
 use mathlib.Core.Bool.{true, false}
@@ -20,7 +20,7 @@ use Rattle.acts_law.specs.Acts.{ended}
 use Rattle.acts_law.specs.Asked.{accepts, numbersTo}
 use Rattle.acts_law.specs.Heard.{lastSaid, initialBand, bandSaid, referenceSaid, touchedBy, slabsTold}
 
--- `cat=gems base=10000 close=10000 settle=10000 tick=5 len=3600000 days=0 under=0`
+-- the settings of the listing: `cat=gems base=10000 close=10000 settle=10000 tick=5 len=3600000 days=0 under=0`
 abbrev pub settings : Settings
 settings = record { category = Gems; base = 10000; close = 10000; settle = 10000; tick = 5; length = 3600000; days = 0; under = 0 }
 
@@ -44,7 +44,7 @@ reports =
     ∷ reportAt 3600000 (Close (record { price = 10300; base = 10200 }))
     ∷ []
 
--- order 4 asked for six lots: five traded, one was cancelled; of order 1 all four traded
+-- order 4 asked for six lots, of which five traded and one was cancelled; all four lots of order 1 traded
 pub lots-told : traded 4 reports ∷ cancelled 4 reports ∷ traded 1 reports ∷ cancelled 1 reports ∷ [] ≡ 5 ∷ 1 ∷ 4 ∷ 0 ∷ []
 unfolding total
 lots-told = refl
@@ -53,7 +53,7 @@ pub numbers-told : (accepts reports ≡ 1 ∷ 2 ∷ 3 ∷ 4 ∷ []) × (numbersT
 unfolding accepts numbersTo
 numbers-told = (refl, refl)
 
--- before any report, the band is the initial one and the reference the base; after all of them, what was told last
+-- before any report, the band is the initial one and the reference is the base; after all reports, both are what was told last
 pub band-told : (bandSaid settings [] ≡ record { low = 9700; high = 10300 }) × (bandSaid settings reports ≡ record { low = 9400; high = 10600 })
 unfolding lastSaid lowAt highAt
 band-told = (refl, refl)
@@ -62,7 +62,7 @@ pub reference-told : map (λ n. referenceSaid settings (take n reports)) (0 ∷ 
 unfolding lastSaid theoreticalOr theoretical growth terms term factorial
 reference-told = refl
 
--- where an underlying is known, the reference is the theoretical price at first: 10000 in 73 days
+-- where an underlying is known, the opening reference is the theoretical price: here that of 10000 with 73 days to maturity
 abbrev settingsKnown : Settings
 settingsKnown = record { category = Gems; base = 10000; close = 10000; settle = 10000; tick = 5; length = 3600000; days = 73; under = 10000 }
 
@@ -70,7 +70,7 @@ pub theoretical-told : referenceSaid settingsKnown [] ≡ 10202
 unfolding lastSaid theoreticalOr theoretical growth terms term factorial
 theoretical-told = refl
 
--- the trade at 10300 at 61000 touches the initial band, and its cooling-off is over at 961000, not before; no trade before it touches it
+-- the trade at 10300 at time 61000 is the first that touches the initial band; its cooling-off is over at 961000 and not before
 pub touch-told :
     map (λ t. touchedBy (initialBand settings) t reports) (960999 ∷ 961000 ∷ []) ≡ false ∷ true ∷ []
 unfolding touchedBy lowAt highAt
@@ -80,7 +80,7 @@ pub no-touch-told : map (λ n. touchedBy (initialBand settings) 961000 (take n r
 unfolding touchedBy lowAt highAt
 no-touch-told = refl
 
--- and the band is widened once
+-- the band is widened once
 pub widened-told : slabsTold reports ≡ 1
 unfolding total
 widened-told = refl

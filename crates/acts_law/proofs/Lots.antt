@@ -1,5 +1,5 @@
--- No lot is made or lost by an act: what is asked and what rested before is what is told as traded or cancelled, and what rests
--- afterwards. Assumes nothing, not even a sound day.
+-- No act makes or loses a lot: the lots that are asked for and those that rested before are the lots told as traded or cancelled and those
+-- that rest afterwards. This holds on any day, sound or not.
 use Prim.Native.Nat.{ℕ, _+_}
 use native.Mathlib.Omega.{arith}
 use mathlib.Core.Path.{_≡_, refl, sym, ap, _∙_}
@@ -29,7 +29,7 @@ use Rattle.acts_law.specs.Asked.{wanted, askedIn, askedBy, resting}
 use Rattle.acts_law.proofs.Does.{sets-alike, enters, ends, does-by, Chains, begun-by, act-by}
 use Rattle.acts_law.proofs.Pieces.{each-append, clock-each, trades-each, fate-each, cancels-each, finished-each, total-none}
 
--- what the cancels of a side tell as cancelled
+-- the cancels of a side tell as cancelled the lots that its orders had
 cancels-cancelled : (id : ℕ) (why : Why) (time : ℕ) (os : List Order) → cancelled id (cancelReports why time os) ≡ lotsOf id os
 unfolding total cancelReports tally
 cancels-cancelled id why time [] = refl
@@ -37,7 +37,7 @@ cancels-cancelled id why time (o ∷ os) = omega (arith, cancels-cancelled id wh
 
 -- ---- an act
 
--- what is told and left, against the lots that are asked for and those that rested before
+-- the lots that are told and those left are the lots that were asked for and those that rested before
 abbrev pub Accounted : ℕ → ℕ → Day → Acted → Type 0
 Accounted lots id d a =
     total (askedIn id lots) (a .reports) + resting id d ≡ traded id (a .reports) + cancelled id (a .reports) + resting id (a .day)
@@ -64,7 +64,7 @@ clock-kept lots id d t =
       total-none (cancelledIn id) (clockReports s s′) (clock-each _ s s′ refl refl),
     )
 
--- the orders of a day, whichever side is one's own
+-- the orders of a day are those of the order's own side and those across, whichever side is its own
 resting-own : (id : ℕ) (side : Side) (d : Day) → resting id d ≡ lotsOf id (own side d) + lotsOf id (across side d)
 resting-own id Buy d = refl
 resting-own id Sell d = omega arith
@@ -74,13 +74,13 @@ resting-with : (id : ℕ) (side : Side) (s : Session) (mine theirs : List Order)
 resting-with id Buy s mine theirs = refl
 resting-with id Sell s mine theirs = omega arith
 
--- an order's trades and its remainder
+-- an order's trades and its remainder account for its lots and for those of the orders that it meets
 entry-balanced : (s : Session) (n : Entry) (id : ℕ) (mine theirs : List Order) →
     Balanced id (s .clock .time) (n .side) (s .live .given + 1) (n .lots) mine theirs (sweepIn s n theirs) (fateIn s n (sweepIn s n theirs))
 unfolding sweepIn fateIn
 entry-balanced s n id mine theirs = entered-balanced id (s .clock .time) (taker (n .side) (n .kind) _) (s .live .given + 1) (n .lots) (n .life) _ _ mine theirs
 
--- what an order asks for
+-- an accepted order asks for its lots under the number that it is given
 entered-asks : (s : Session) (n : Entry) (id lots : ℕ) (mine₀ : List Order) (w : Swept) →
     total (askedIn id lots) (entered s n mine₀ w .reports) ≡ mine id (s .live .given + 1) lots
 unfolding entered total
@@ -158,7 +158,7 @@ act-kept id d e =
     act-by (Accounted (wanted (e .act)) id) (kept-then (wanted (e .act)) id) d e (omega arith) (clock-kept (wanted (e .act)) id d (e .time))
     (λ d′. does-kept id d′ (e .act))
 
--- ---- what an act asks for is of the next number
+-- ---- an act asks for lots only under the next number
 
 does-asks : (id : ℕ) (d : Day) (a : Act) → askedBy id a (does d a .reports) ≡ mine id (d .session .live .given + 1) (wanted a)
 unfolding total dropped

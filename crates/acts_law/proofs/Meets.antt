@@ -1,4 +1,4 @@
--- An order accepted and matched: what its calls ask, and what they leave.
+-- An order is accepted and matched: its calls may be made, and together they leave what the definition says.
 use Prim.Native.Nat.{ℕ, _+_, _*_, _≤_}
 use native.Mathlib.Omega.{arith}
 use mathlib.Core.Path.{_≡_, ap, _∙_, refl}
@@ -38,7 +38,7 @@ use Rattle.acts_law.specs.code.Entering.{incomingIn, Meeting, CrossedAs,
 use Rattle.acts_law.proofs.Reports.{written-length, written-then}
 use Rattle.acts_law.proofs.Recalled.{recalls, deals-each}
 
--- behind a place stands what was put there
+-- what is put at a place stands there, and what stood behind it follows
 behind : (t : List ℕ) (at : ℕ) (vs : List ℕ) → at ≤ length t → drop at (put t at vs) ≡ vs ++ drop (length vs) (drop at t)
 unfolding put
 behind t at vs h = drop-at (take at t) (vs ++ drop (length vs) (drop at t)) at (simp length-take (omega arith))
@@ -132,7 +132,7 @@ module _ (s : Session) (band : Band) (n : Entry) (count : ℕ) (t room : List �
           recalled = rw (trades-is, stands) (recalls (s .clock .time) (n .side) (s .live .given + 1) (drop (length (recordsOf trade-reports)) (drop first room₁)) (setGiven s (s .live .given + 1)) (swept .fills));
         }
 
--- as the band in force is the one that code has
+-- the band that code hands on is the one in force, so the trades may be made under it
 pub cross-asks : {s : Session} {band : Band} {count at : ℕ} {t room : List ℕ} → Meeting s band count t room at → Meeting s (bandNow s) count t room at
 cross-asks g =
     record { banded = refl; given-few = g .given-few; ranged = g .ranged; holds = g .holds; space = g .space; fits = g .fits; deals = g .deals }

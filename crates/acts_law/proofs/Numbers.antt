@@ -1,5 +1,5 @@
--- Order numbers are given in order: the numbers up to those given before an act, with those that its reports accept, are the numbers
--- up to those given after it.
+-- Order numbers are given in order: the numbers given before an act, followed by those that its reports accept, are the numbers given
+-- after it.
 use Prim.Native.Nat.{ℕ, _+_}
 use native.Mathlib.Numerals.{add-one}
 use mathlib.Core.Path.{_≡_, refl, sym, ap, _∙_}
@@ -34,7 +34,7 @@ accepts-append (x ∷ xs) ys =
     ap (λ (l : List ℕ). acceptsIn (x .said) ++ l) (accepts-append xs ys)
     ∙ sym (append-assoc (acceptsIn (x .said)) (accepts xs) (accepts ys))
 
--- reports none of which accepts
+-- reports of which none is an acceptance accept no numbers
 accepts-none : (rs : List Report) → EachTold (λ r. acceptsIn (r .said) ≡ []) rs → accepts rs ≡ []
 unfolding accepts EachTold
 accepts-none [] h = refl
@@ -49,7 +49,7 @@ given-with : (side : Side) (s : Session) (mine theirs : List Order) → dayWith 
 given-with Buy s mine theirs = refl
 given-with Sell s mine theirs = refl
 
--- an order has the next number
+-- an order is given the next number
 enter-given : (d : Day) (n : Entry) → enters d n .day .session .live .given ≡ d .session .live .given + 1
 unfolding entered
 enter-given d n =
@@ -77,7 +77,7 @@ enter-counts d n =
     (fate-each _ (s .clock .time) number (w .left) fate (λ o. refl) (λ e. refl))) in
     ap (λ (l : List ℕ). numbersTo (s .live .given) ++ (number ∷ l)) none ∙ next-number (s .live .given) ∙ ap numbersTo (sym (enter-given d n))
 
--- what gives no number
+-- a thing whose reports accept no order gives no number
 none-counts : (d : Day) (a : Acted) → EachTold (λ r. acceptsIn (r .said) ≡ []) (a .reports) → a .day .session .live .given ≡ d .session .live .given → Counts d a
 none-counts d a e f =
     ap (λ (l : List ℕ). numbersTo (d .session .live .given) ++ l) (accepts-none (a .reports) e)
@@ -109,7 +109,7 @@ act-counts d e =
     (none-counts d (stepped d (e .time)) (clock-each _ s (clockStep s (e .time)) refl refl) refl)
     (λ d′. does-counts d′ (e .act))
 
--- ---- how many are given: one more by an order
+-- ---- an order adds one to the numbers given, any other act none
 
 abbrev pub givenBy : ℕ → Act → ℕ
 givenBy given a = maybe given (λ n. given + 1) (carries a .entry)

@@ -1,5 +1,5 @@
--- What holds of each of a run of reports, piece by piece: the clock steps, an order with its trades and its remainder, cancels. Assumes
--- nothing.
+-- A property of each report is proved piece by piece: for the clock steps, for an order with its trades and its remainder, for cancels.
+-- This holds on any day, sound or not.
 use Prim.Native.Nat.{ℕ, _+_}
 use native.Mathlib.Omega.{arith}
 use mathlib.Core.Path.{_≡_, refl}
@@ -23,7 +23,7 @@ use Rattle.book_law.specs.Told.{total}
 use Rattle.state_law.specs.declared.Session.{Session}
 use Rattle.acts_law.specs.Acts.{only, slabMoved, slabReport, refMoved, refReport, clockReports, fateIn, entered, cancelReports, closeReport, finished}
 
--- it holds of each report
+-- each report has the property
 unfoldable pub EachTold : (Report → Type 0) → List Report → Type 0
 EachTold P [] = Unit {0}
 EachTold P (r ∷ rs) = P r × EachTold P rs
@@ -87,7 +87,7 @@ module _ (P : Report → Type 0) where
       each-append (cancelReports DayEnd time buys) (cancelReports DayEnd time sells ++ (closeReport s time settle ∷ [])) (cancels-each DayEnd time buys cancel)
       (each-append (cancelReports DayEnd time sells) (closeReport s time settle ∷ []) (cancels-each DayEnd time sells cancel) (close _, tt))
 
--- a sum that none of the reports adds to
+-- a sum to which none of the reports adds anything is 0
 pub total-none : (f : Said → ℕ) (rs : List Report) → EachTold (λ r. f (r .said) ≡ 0) rs → total f rs ≡ 0
 unfolding total EachTold
 total-none f [] h = refl

@@ -1,5 +1,5 @@
 -- "Order: slab (when the percent changed), ref (only if the value changed over the event), accept, trades, then convert or cancel"; at the
--- close the cancels, then the closing prices. So stand the reports of each event on any day.
+-- close the cancels, then the closing prices. The reports of each event stand in this order, on any day.
 use Prim.Native.Nat.{ℕ, _+_, _≤_}
 use native.Mathlib.Omega.{arith}
 use mathlib.Core.Path.{_≡_, refl}
@@ -31,7 +31,7 @@ rank (Convert order) = 5
 rank (Cancel ended) = 5
 rank (Close closing) = 6
 
--- none has a lower rank than the one before it, the first none below `least`
+-- no report has a lower rank than the one before it, and the first has at least the rank `least`
 unfoldable pub InOrder : ℕ → List Report → Type 0
 InOrder least [] = Unit {0}
 InOrder least (r ∷ rs) = (least ≤ rank (r .said)) × InOrder (rank (r .said)) rs

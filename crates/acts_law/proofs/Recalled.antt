@@ -1,4 +1,4 @@
--- Trades read back from their records: one after the other into the session, and they are the fills that were reported.
+-- Trades are read back from their records into the session one by one, and they are the fills that were reported.
 use Prim.Native.Nat.{ℕ, zero, suc, _+_, _-_, _*_, _≤_, _<_}
 use native.Mathlib.Omega.{arith}
 use mathlib.Core.Path.{_≡_, refl, sym, ap, _∙_}
@@ -27,7 +27,7 @@ use Rattle.acts_law.specs.code.Written.{fillAt, fillsAt, Deals, EachDeal
 fewer : (s : Session) (j k : ℕ) → j ≤ k → TradesFit s k → TradesFit s j
 fewer s j k h f = omega arith
 
--- a number of the record that begins at a place
+-- a number of a record is read at its own place, counted from where the record begins
 read-at : (room : List ℕ) (p k : ℕ) → getD (drop p room) k 0 ≡ getD room (p + k) 0
 read-at room p k = getD-drop p room k 0
 
@@ -45,7 +45,7 @@ recall-from {s} {band} {room} {at} {n} g =
     record { could = g; places = omega arith; fits = rw z (g .fits); banded = g .banded; rest = rw (z, p) }
 
 module _ {band : Band} {room : List ℕ} {at n i : ℕ} {s₀ s : Session} (h : i < n) (r : Recalling band room at n s₀ s i) where
-  -- what the code reads is what the record has
+  -- the trade that the code reads is one that the session can take
   deals-at : Deals (record { number = 0; price = getD room (at + recordLength * i + 5) 0; lots = getD room (at + recordLength * i + 4) 0 })
   deals-at =
       let d = r .could .deals .at i h in
@@ -55,7 +55,7 @@ module _ {band : Band} {room : List ℕ} {at n i : ℕ} {s₀ s : Session} (h : 
   pub trade-asks : TradesFit s 1 × (band ≡ bandNow s) × (getD room (at + recordLength * i + 5) 0 ≤ priceMost) × (getD room (at + recordLength * i + 4) 0 ≤ lotsMost)
   trade-asks = (fewer s 1 (n - i) (omega arith) (r .fits), r .banded, deals-at .price-small, deals-at .lots-small)
 
-  -- one trade more
+  -- one more trade is remembered
   pub recall-next : {s′ : Session} → s′ ≡ withTrade s (getD room (at + recordLength * i + 5) 0) (getD room (at + recordLength * i + 4) 0) → Recalling band room at n s₀ s′ (i + 1)
   unfolding fillsAt withTrades
   recall-next w =
@@ -85,7 +85,7 @@ recall-all band room at n i s₀ s r h =
 abbrev fillReport : ℕ → Side → ℕ → Order → Report
 fillReport time side number f = reportAt time (Trade (dealOf side number f))
 
--- the record of a fill has its lots and its price, whichever side came in
+-- the record of a fill holds its lots and its price, whichever side came in
 module _ (time number : ℕ) (f : Order) (l : List ℕ) where
   reads-fill : (side : Side) → fillAt (recordOf (fillReport time side number f) ++ l) ≡ record { number = 0; price = f .price; lots = f .lots }
   unfolding recordOf
@@ -98,7 +98,7 @@ module _ (time number : ℕ) (f : Order) (l : List ℕ) where
   skips-fill Sell = refl
 
 module _ (time : ℕ) (side : Side) (number : ℕ) (r : List ℕ) where
-  -- read back, they are the same to the session
+  -- remembered from their records, the fills change the session as they do by themselves
   pub recalls : (s : Session) (fs : List Order) → withTrades s (fillsAt (length fs) (recordsOf (tradeReports time side number fs) ++ r)) ≡ withTrades s fs
   unfolding withTrades fillsAt tradeReports recordsOf
   recalls s [] = refl
@@ -109,7 +109,7 @@ module _ (time : ℕ) (side : Side) (number : ℕ) (r : List ℕ) where
       ∙ ((λ i. withTrades (withTrade s (reads-fill time number f l side i .price) (reads-fill time number f l side i .lots)) (fillsAt (length fs) (skips-fill time number f l side i)))
       ∙ recalls (withTrade s (f .price) (f .lots)) fs)
 
-  -- and fit as the fills do
+  -- a trade read from its record is one that the session can take if the fill is
   pub deals-each : (fs : List Order) → Each Deals fs → (k : ℕ) → k < length fs → Deals (fillAt (drop (recordLength * k) (recordsOf (tradeReports time side number fs) ++ r)))
   unfolding tradeReports recordsOf
   deals-each [] e k h = absurd (omega arith)

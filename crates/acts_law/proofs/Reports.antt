@@ -1,4 +1,4 @@
--- Reports in the room, one behind the other.
+-- Reports are written into the room one behind the other, and stand there in their order.
 use Prim.Native.Nat.{ℕ, _+_, _*_, _≤_, _<_}
 use native.Mathlib.Omega.{arith}
 use borrow.Author.Tests.{eq-eqb, ne-eqb}
@@ -41,7 +41,7 @@ pub written-length : (room : List ℕ) (at : ℕ) (rs : List Report) (room₁ : 
     Written room at rs room₁ n → at + recordLength * length rs ≤ length room → length room₁ ≡ length room
 written-length room at rs room₁ n w h = rw (w .laid) (length-put room at (recordsOf rs) (omega (arith, length-records rs)))
 
--- reports behind reports
+-- reports written behind other reports stand as one run
 pub written-then : (room : List ℕ) (at : ℕ) (rs : List Report) (room₁ : List ℕ) (n : ℕ) (ss : List Report) (room₂ : List ℕ) (m : ℕ) →
     Written room at rs room₁ n → Written room₁ n ss room₂ m → at + recordLength * length rs ≤ length room → Written room at (rs ++ ss) room₂ m
 written-then room at rs room₁ n ss room₂ m v w h =
@@ -52,7 +52,7 @@ written-then room at rs room₁ n ss room₂ m v w h =
 
 -- ---- a report that is only made where two numbers differ
 
--- what a test of two answers says of what they are
+-- where two numbers that code compares are alike, so are the values that they stand for
 pub alike : (p q a b : ℕ) → p ≡ a → q ≡ b → p ≡ q → a ≡ b
 alike p q a b e f g = sym e ∙ g ∙ f
 
@@ -76,11 +76,11 @@ module _ (room : List ℕ) (at : ℕ) (b : Bool) (r : Report) (room₁ : List �
   fits : at + recordLength * length (only b r) ≤ length room
   fits = omega (arith, only-few b r)
 
-  -- there is room for one more,
+  -- behind it, whether it was made or not, there is room for one more report,
   pub only-leaves : n + recordLength ≤ length room₁
   only-leaves = omega (arith, only-few b r, w .behind, written-length room at (only b r) room₁ n w fits)
 
-  -- which stands behind it
+  -- and reports that follow it stand behind it
   pub only-then : (ss : List Report) (room₂ : List ℕ) (m : ℕ) → Written room₁ n ss room₂ m → Written room at (only b r ++ ss) room₂ m
   only-then ss room₂ m v = written-then room at (only b r) room₁ n ss room₂ m w v fits
 
@@ -100,7 +100,7 @@ pub cancels-none : (room : List ℕ) (at : ℕ) (why : Why) (time n : ℕ) (t : 
 unfolding cancelReports
 cancels-none room at why time n t = written-none room at
 
--- the first i orders are told
+-- the first i orders of the side are told as cancelled
 module _ (room : List ℕ) (at : ℕ) (why : Why) (time n : ℕ) (t : List ℕ) (i : ℕ) (room₁ : List ℕ) (next : ℕ)
     (w : Written room at (cancelReports why time (take i (decode n t))) room₁ next) where
   pub cancels-all : i ≤ n → n ≤ i → Written room at (cancelReports why time (decode n t)) room₁ next

@@ -67,7 +67,7 @@ slab-tells g l k k′ false h m p e f c =
     none-tells g k′ l
     (record { band-same = h .band-same ∙ e refl; reference-same = h .reference-same ∙ p; time-past = omega (arith, h .time-past); cooled = c })
 
--- what is known, with another reference
+-- what is known, but with another reference
 abbrev withReference : ℕ → Known → Known
 withReference p k = record { band = k .band; reference = p; time = k .time; cooling = k .cooling }
 
@@ -89,7 +89,7 @@ ref-tells g l k p false h e =
 unchanged : (a b : ℕ) → not (eqb a b) ≡ false → a ≡ b
 unchanged a b e = eqb-true a b (not-false (eqb a b) e)
 
--- a cooling-off that is over was begun long enough before
+-- a cooling-off that is over was begun by a touch that lies its full length back
 over-touched : (g : Settings) (c t : ℕ) (past : List Report) → Cooled g c past → overBy c t ≡ true → touchedBy (initialBand g) t past ≡ true
 over-touched g c t past h e =
     let p = split (not (eqb c 0)) (leb c t) e in
@@ -131,7 +131,7 @@ clock-tells s t l h i k =
 
 -- ---- trades
 
--- a price at which a trade is fine
+-- a trade at this price is fine: it is in the band and in the range
 abbrev Good : Session → ℕ → Type 0
 Good s p = (inBand (bandNow s) p ≡ true) × (inRange (rangeNow s) p ≡ true)
 
@@ -177,7 +177,7 @@ plain-cancel g e = record { band = λ b. refl; reference = λ p. refl; fine = λ
 plain-close : (g : Settings) (c : Closing) → Plain g (Close c)
 plain-close g c = record { band = λ b. refl; reference = λ p. refl; fine = λ l t. (tt, tt) }
 
--- the values that a listener knows, of a day with a side's own orders and those across
+-- what a listener knows of a session he knows of the day that it makes with a side's own orders and those across
 tells-with : (g : Settings) (l : Listener) (rs : List Report) (side : Side) (s : Session) (mine theirs : List Order) → TellsOf g l rs s →
     TellsOf g l rs (dayWith side s mine theirs .session)
 tells-with g l rs Buy s mine theirs k = k
@@ -187,7 +187,7 @@ each-both : (P Q : ℕ → Type 0) (os : List Order) → EachPrice P os → Each
 each-both P Q [] h k = tt
 each-both P Q (o ∷ os) h k = ((h .0, k .0), each-both P Q os (h .1) (k .1))
 
--- the fills of an order that meets orders in the band are in the band and in the range
+-- an order that meets orders in the band trades in the band and in the range
 fills-good : (s : Session) (n : Entry) (theirs : List Order) → EachPrice (λ p. inBand (bandNow s) p ≡ true) theirs →
     EachPrice (Good s) (sweepIn s n theirs .fills)
 unfolding sweepIn
@@ -226,7 +226,7 @@ dropped-tells s number why side mine theirs l k =
     tells-with (s .settings) l (r ∷ []) side s (removed number mine) theirs
     (plain-tells (s .settings) (knownOf s) (r ∷ []) (each-one _ r (plain-cancel (s .settings) _, refl)) l k)
 
--- an act that only sets the session: the underlying is no concern of a listener
+-- an act that only sets the session tells a listener nothing: the underlying is no concern of his
 sets-tells : {s s′ : Session} {a : Act} → Sets s a s′ → (l : Listener) → KnowsOf (s .settings) l s → TellsOf (s .settings) l [] s′
 sets-tells {s} (setsUnder price) l k = none-tells (s .settings) (knownOf s) l k
 sets-tells {s} setsNone l k = none-tells (s .settings) (knownOf s) l k
@@ -241,14 +241,14 @@ ends-tells d settle l k =
 
 -- ---- an act
 
--- what a listener can tell from what is done on a day
+-- from what is done on a day, a listener who knew the day before knows the day after
 abbrev Heard : Settings → Day → Acted → Type 0
 Heard g d a = (l : Listener) → KnowsOf g l (d .session) → TellsOf g l (a .reports) (a .day .session)
 
 heard-then : (g : Settings) → Chains (Heard g)
 heard-then g d a b h k l m = append-tells g (knownOf (a .day .session)) (knownOf (b .day .session)) l (a .reports) (b .reports) (h l m) (λ q. k _ q)
 
--- the orders across are in the band
+-- the orders of both sides are in the band
 abbrev Banded : Day → Type 0
 Banded d = (side : Side) → EachPrice (λ p. inBand (bandNow (d .session)) p ≡ true) (across side d)
 
@@ -279,7 +279,7 @@ across-banded side d h =
     banded Buy s f = inside s (d .sells) (each-fits (s .live .given) (s .settings .tick) (bandNow s) (d .sells) (f .each-sell))
     banded Sell s f = inside s (d .buys) (each-fits (s .live .given) (s .settings .tick) (bandNow s) (d .buys) (f .each-buy))
 
--- and stay in it over the clock steps
+-- and they stay in it over the clock steps
 still-banded : (d : Day) (t : ℕ) → sound d ≡ true → Banded (stepped d t .day)
 still-banded d t h side =
     rw (across-by side (clockStep (d .session) t) d)
@@ -289,7 +289,7 @@ still-banded d t h side =
 timed-banded : (d : Day) (t : ℕ) → sound d ≡ true → Banded (timed d t .day)
 timed-banded d t h side = rw (across-by side (setTime (d .session) t) d) (across-banded side d h)
 
--- the time alone
+-- where only the time moves on, nothing new is to be known
 timed-tells : (d : Day) (t : ℕ) → d .session .clock .time ≤ t → Heard (d .session .settings) d (timed d t)
 timed-tells d t m l k =
     none-tells (d .session .settings) (knownOf (setTime (d .session) t)) l
@@ -299,7 +299,7 @@ timed-tells d t m l k =
 slab-initial : (d : Day) → sound d ≡ true → (eqb (d .session .clock .widened) 0 || eqb (d .session .clock .cooling) 0) ≡ true
 slab-initial d h = sound-day d h .parts .timed .initial
 
--- EACH REPORT IS FINE by what was told before it
+-- EACH REPORT IS FINE, given what was told before it
 pub act-tells : (d : Day) (e : Event) (l : Listener) → sound d ≡ true → d .session .clock .time ≤ e .time → KnowsOf (d .session .settings) l (d .session) →
     TellsOf (d .session .settings) l (act d e .reports) (act d e .day .session)
 unfolding clockStep

@@ -1,5 +1,5 @@
--- Every number in a report of an accepted event is small: times, order numbers, lots, prices, the ends of a band, a reference, closing
--- prices. Each is within a bound that the refusals or a sound session give.
+-- Every number in a report of an accepted event can be written: times, order numbers, lots, prices, the ends of a band, a reference,
+-- closing prices. Each is within a bound that the refusals or a sound session give.
 use Prim.Native.Nat.{ℕ, _+_, _≤_}
 use native.Mathlib.Omega.{arith}
 use mathlib.Core.Path.{_≡_, ap}
@@ -71,7 +71,7 @@ why-small OutOfRange = omega arith
 why-small OutsideBand = omega arith
 why-small DayEnd = omega arith
 
--- four fields that are small
+-- a record with four small fields can be written
 four : (a b c d : ℕ) → a ≤ writtenMost → b ≤ writtenMost → c ≤ writtenMost → d ≤ writtenMost → Writable (a ∷ b ∷ c ∷ d ∷ [])
 four a b c d h k l m = (h, (k, (l, (m, tt))))
 
@@ -125,7 +125,7 @@ clock-small s s′ p =
 
 -- ---- an order
 
--- an order that rests or trades
+-- the number, the price and the lots of an order that rests or trades can be written
 record Small (o : Order) : Type 0 where
   number : o .number ≤ numbersMost
   price : o .price ≤ priceMost
@@ -166,7 +166,7 @@ module _ (t number left : ℕ) (h : t ≤ timeMost) (n : number ≤ numbersMost)
   ends-small : (why : Why) → SmallReports (ended t number left why ∷ [])
   ends-small why = one-small (ended t number left why) (cancel-small t number left why h n l)
 
-  -- a price to which a remainder turns is in the band
+  -- the price at which a remainder becomes a limit is in the band, so it can be written
   turns-small : (price : ℕ) → inBand band price ≡ true →
       SmallReports (reportAt t (Convert (record { number = number; price = price; lots = left })) ∷ [])
   turns-small price e =
@@ -219,7 +219,7 @@ left-of-small number [] e = omega arith
 left-of-small number (o ∷ os) e =
     by (λ (x : ℕ). x ≤ lotsMost) (eqb (o .number) number) (o .lots) (leftOf number os) (λ z. e .0 .lots) (λ z. left-of-small number os (e .1))
 
--- the orders of a sound book
+-- the orders of a sound book can be written
 record Books (d : Day) : Type 0 where
   buys : Each Small (d .buys)
   sells : Each Small (d .sells)
@@ -263,7 +263,7 @@ finished-small d t settle h m u l =
 
 -- ---- an event
 
--- EVERY NUMBER IN A REPORT CAN BE WRITTEN. The session's array holds ten prices
+-- EVERY NUMBER IN A REPORT CAN BE WRITTEN, given that the session's array holds ten prices
 pub act-small : (d : Day) (e : Event) → Accepted d e → length (d .session .tape .prices) ≡ 10 → SmallReports (act d e .reports)
 unfolding SmallReports
 act-small d e k l =

@@ -50,7 +50,7 @@ use Rattle.acts_law.specs.Acts.{Acted, sweepIn, lastIn, fateIn, entered,
 use Rattle.acts_law.proofs.Does.{Sets, setsUnder, setsNone, sets-alike, enters, ends, own-by, event-by}
 use Rattle.acts_law.proofs.Few.{swept-few}
 
--- ---- what an act starts from: the day after the clock steps, its numbers and its book sound
+-- ---- what an act starts from: the day after the clock steps, whose numbers and book are sound
 
 pub record Ready (d : Day) : Type 0 where
   pub parts : Parts (d .session)
@@ -71,18 +71,18 @@ ready d t h k m u =
 
 -- ---- an order
 
--- the book of a side's own orders and those across, by the three fields of a session that it is judged by
+-- the book of a side's own orders and those across is sound, by the three fields of a session that decide it
 abbrev BookBy : Side → List Order → List Order → ℕ → Settings → ℕ → Type 0
 BookBy side own across given g widened =
     bookSound given (g .tick) (bandAt (g .base) (g .tick) (percentOf (slabOf (g .category)) widened))
     (onSide side own across) (onSide (otherSide side) own across) ≡ true
 
--- what the refusals leave of an order
+-- what is known of an order that no row refused
 abbrev Admits : Session → Life → Kind → ℕ → ℕ → Type 0
 Admits s life kind lots count = Admitted life kind (s .settings .tick) (bandNow s) lots (lastIn s) count
 
 module _ (s : Session) (d : Day) (h : BookOf s (d .buys) (d .sells)) (life : Life) (kind : Kind) (range : Range) (lots : ℕ) where
-  -- its sweep, by whatever range
+  -- its sweep, whatever the range is
   abbrev meets : Side → Swept
   meets side = sweep (taker side kind range) 0 lots (across side d)
 
@@ -143,7 +143,7 @@ dropped-stays d number why Sell r =
     day-sound Sell s (removed number (d .sells)) (d .buys) (r .parts)
     (removed-sound (s .live .given) (s .settings .tick) (bandNow s) (d .buys) (d .sells) (r .book) Sell number)
 
--- what an act that only sets the session makes of its numbers
+-- an act that only sets the session leaves its numbers sound
 sets-parts : {s s′ : Session} {a : Act} → Sets s a s′ → ((p : ℕ) → carries a .price ≡ some p → p ≤ priceMost) → Parts s → Parts s′
 sets-parts {s} (setsUnder price) h p = under-kept s price (h price refl) p
 sets-parts setsNone h p = p
@@ -169,7 +169,7 @@ module _ (d : Day) (e : Event) (k : Accepted d e) where
       ready d (e .time) (k .whole) (leb-true (d .session .clock .time) (e .time) (k .forward)) (time-right d e k)
       (or-last (d .session .clock .closed) (ltb (e .time) (d .session .settings .length)) (λ z. in-day d e k c))
 
-  -- the steps leave the tick, so a limit is judged by the session's
+  -- the steps leave the tick as it is, so a limit is judged by the session's tick
   pub lets : (n : Entry) → e .act ≡ Enter n → Let (stepped d (e .time) .day) n
   unfolding clockStep
   lets n z =

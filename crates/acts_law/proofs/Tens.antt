@@ -1,4 +1,4 @@
--- The arrays of a session have ten numbers after every event that is accepted.
+-- The arrays of a session hold ten numbers after every accepted event.
 use Prim.Native.Nat.{_+_}
 use mathlib.Core.List.{List}
 use Rattle.terms.specs.declared.Act.{Act}

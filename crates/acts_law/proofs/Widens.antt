@@ -1,5 +1,5 @@
--- "In the base it widens once": an event tells as many slab reports as it widens the band, and no event narrows it. A slab is told just where
--- the percent changed, a reference just where the value changed.
+-- "In the base it widens once": no event tells more slab reports than it makes widenings, and none narrows the band. A slab is told just
+-- where the percent changed, a reference just where the value changed.
 use Prim.Native.Nat.{ℕ, _+_, _≤_}
 use native.Mathlib.Omega.{arith}
 use native.Mathlib.Nat.{le-refl}
@@ -36,7 +36,7 @@ use Rattle.acts_law.proofs.Pieces.{entered-each, finished-each, total-n
 
 -- ---- the clock steps
 
--- a sum over a report that comes only if it is wanted
+-- a report that is made only under a condition counts just where the condition holds
 total-only : (f : Said → ℕ) (b : Bool) (r : Report) → total f (only b r) ≡ cond b (f (r .said)) 0
 unfolding total
 total-only f true r = omega arith
@@ -85,7 +85,7 @@ ref-if-changed s s′ =
 
 -- ---- how often the band is widened
 
--- no more slab reports than widenings, so none where the band is as often widened as before
+-- there are no more slab reports than widenings, so there is none where the band is not widened
 abbrev pub Widens : Day → Acted → Type 0
 Widens d a = slabsTold (a .reports) + d .session .clock .widened ≤ a .day .session .clock .widened
 
@@ -112,7 +112,7 @@ clock-widens d t =
     let over : overBy (s .clock .cooling) t ≡ true = percent-changes s t (rw e) in
     omega (arith, widened-over (s .clock .widened) (s .clock .cooling) t over))
 
--- an act, which leaves the band as it is, tells no slab
+-- an act leaves the band as it is, and tells no slab
 still-widens : (d : Day) (a : Acted) → slabsTold (a .reports) ≡ 0 → a .day .session .clock .widened ≡ d .session .clock .widened → Widens d a
 still-widens d a e f = omega arith
 

@@ -1,4 +1,4 @@
--- Document 01, "Events": what an accepted event does to a day, and its reports in their order.
+-- Document 01, "Events": what an accepted event does to a day, and its reports in the order in which they stand.
 use Prim.Native.Nat.{ℕ, _+_}
 use mathlib.Core.Bool.{Bool, true, false, cond, not}
 use mathlib.Core.List.{List, [], _∷_, _++_}
@@ -26,12 +26,12 @@ use Rattle.state_law.specs.Trades.{withTrades}
 use Rattle.state_law.specs.Day.{Day, dayOf, dayBy, steppedDay, own, across, dayWith}
 use Rattle.terms.specs.Carried.{carries}
 
--- what an act leaves and tells
+-- the day that an act leaves, and the reports that it tells
 pub record Acted : Type 0 where
   pub day : Day
   pub reports : List Report
 
--- ---- the clock steps' reports
+-- ---- the reports of the clock steps
 
 abbrev pub only : Bool → Report → List Report
 only true r = r ∷ []
@@ -56,7 +56,7 @@ clockReports s s′ = only (slabMoved s s′) (slabReport s′) ++ only (refMove
 
 -- ---- an order
 
--- it meets the orders across
+-- the order is matched with the orders across
 unfoldable pub sweepIn : Session → Entry → List Order → Swept
 sweepIn s n theirs = sweep (taker (n .side) (n .kind) (rangeNow s)) 0 (n .lots) theirs
 
@@ -84,7 +84,7 @@ entered s n mine w =
 abbrev pub ended : ℕ → ℕ → ℕ → Why → Report
 ended time number lots why = reportAt time (Cancel (record { number = number; lots = lots; why = why }))
 
--- a resting order leaves its side, for a reason
+-- a resting order leaves its side, and its cancel is told with a reason
 unfoldable pub dropped : Session → ℕ → Why → Side → List Order → List Order → Acted
 dropped s number why side mine theirs =
     record {
@@ -92,7 +92,7 @@ dropped s number why side mine theirs =
       reports = ended (s .clock .time) number (leftOf number mine) why ∷ [];
     }
 
--- the side on which an order rests
+-- the side on which an order rests, given the buys: it is among these, or else among the sells
 abbrev pub sideOf : ℕ → List Order → Side
 sideOf number buys = cond (rests number buys) Buy Sell
 
@@ -109,7 +109,7 @@ silent s d = record { day = dayOf s (d .buys) (d .sells); reports = [] }
 
 -- ---- the close
 
--- orders cancelled in priority order, for a reason
+-- the cancels of a side's orders, in priority order, with a reason
 unfoldable pub cancelReports : Why → ℕ → List Order → List Report
 cancelReports why time [] = []
 cancelReports why time (o ∷ os) = ended time (o .number) (o .lots) why ∷ cancelReports why time os
@@ -128,15 +128,15 @@ finished s time settle buys sells =
 
 -- ---- an accepted event
 
--- one thing, and another that was done on the day that it left
+-- one thing is done, and then another on the day that the first one left
 abbrev pub andThen : Acted → Acted → Acted
 andThen a b = record { day = b .day; reports = a .reports ++ b .reports }
 
--- the clock steps
+-- the clock steps are made, and their reports told
 abbrev pub stepped : Day → ℕ → Acted
 stepped d t = record { day = steppedDay d t; reports = clockReports (d .session) (clockStep (d .session) t) }
 
--- the time alone
+-- the time moves on, and nothing else changes
 abbrev pub timed : Day → ℕ → Acted
 timed d t = record { day = dayBy (setTime (d .session) t) d; reports = [] }
 
@@ -144,7 +144,7 @@ timed d t = record { day = dayBy (setTime (d .session) t) d; reports = [] }
 abbrev pub begun : Day → ℕ → Act → Acted
 begun d t a = cond (carries a .closes) (timed d t) (stepped d t)
 
--- the act itself, on the day at its time
+-- the act itself, on the day as it stands at the event's time
 abbrev pub does : Day → Act → Acted
 does d (Enter n) = entered (d .session) n (own (n .side) d) (sweepIn (d .session) n (across (n .side) d))
 does d (Withdraw number) = withdrawn d number

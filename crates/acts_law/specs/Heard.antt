@@ -1,5 +1,5 @@
--- What settings and reports alone say: the band, the reference, whether an end of the initial band has been touched, how often the band
--- was widened. Nothing here speaks of a session.
+-- What can be known from settings and reports alone: the band, the reference, whether an end of the initial band was touched, how often
+-- the band was widened. Nothing here speaks of a session.
 use Prim.Native.Nat.{ℕ, _+_}
 use mathlib.Core.Bool.{Bool, false, _&&_, _||_}
 use mathlib.Core.List.{List, [], _∷_}
@@ -15,7 +15,7 @@ use Rattle.rules_law.specs.Reference.{openingReference, rangeOf}
 use Rattle.book_law.specs.Tells.{tells}
 use Rattle.book_law.specs.Told.{total}
 
--- the last word of the reports on something: what it was, changed by each report in turn
+-- what the reports say of something in the end: what it was at first, changed by each report in turn
 unfoldable pub lastSaid : {A : Type 0} → (A → Said → A) → A → List Report → A
 lastSaid change x [] = x
 lastSaid change x (r ∷ rs) = lastSaid change (change x (r .said)) rs
@@ -25,7 +25,7 @@ lastSaid change x (r ∷ rs) = lastSaid change (change x (r .said)) rs
 abbrev pub initialBand : Settings → Band
 initialBand g = bandAt (g .base) (g .tick) (slabOf (g .category) .initial)
 
--- and the one "initial plus enhanced"
+-- the band at "initial plus enhanced" percent
 abbrev pub enhancedBand : Settings → Band
 enhancedBand g = bandAt (g .base) (g .tick) (slabOf (g .category) .initial + slabOf (g .category) .enhanced)
 
@@ -43,21 +43,21 @@ referenceAfter reference x = maybe reference (λ told. told) (tells x .reference
 abbrev pub referenceSaid : Settings → List Report → ℕ
 referenceSaid g rs = lastSaid referenceAfter (openingReference (g .base) (g .under) (g .days)) rs
 
--- the range by the initial percent and that reference
+-- the range at the initial percent around that reference
 abbrev pub rangeSaid : Settings → List Report → Range
 rangeSaid g rs = rangeOf (slabOf (g .category)) (referenceSaid g rs)
 
--- ---- "a trade exactly at either end", whose cooling-off of 900,000 ms is over by time t
+-- ---- "A trade exactly at either end" of a band, whose cooling-off of 900,000 ms is over by time t
 
 abbrev pub touchedIn : Band → ℕ → ℕ → Said → Bool
 touchedIn band t time x = maybe false (λ deal. touches band (deal .price) && leb (time + coolingLength) t) (tells x .deal)
 
--- one of the reports tells it
+-- one of the reports tells such a trade
 unfoldable pub touchedBy : Band → ℕ → List Report → Bool
 touchedBy band t [] = false
 touchedBy band t (r ∷ rs) = touchedIn band t (r .time) (r .said) || touchedBy band t rs
 
--- ---- how many slab reports stand among these
+-- ---- how many of the reports are slab reports
 
 abbrev pub slabIn : Said → ℕ
 slabIn x = maybe 0 (λ band. 1) (tells x .band)

@@ -1,18 +1,18 @@
-// acts_law: the law of what an accepted event does to a day: an order entered, cancelled, the day closed, and the reports of each.
-// It has no code and may use the laws below it, tables, rules and matching. It promises: no lot is made or lost, numbers are given in order,
-// every trade is where settings and reports allow it, no slab is told but where the band is widened, and the reports of an event stand in
-// document 01's order and fit the room.
+// acts_law: the law of what an accepted event does to a day (an order comes in, one is cancelled, the day closes), and of its reports.
+// It has no code, and may use terms, tables and the laws from rules_law to refusal_law. It promises: no lot is made or lost, numbers are
+// given in order, every trade is where settings and reports allow it, a slab is told only where the band is widened, and the reports of an
+// event stand in document 01's order and fit the room.
 
 use matching_law::Matched;
 use state_law::Session;
 
-// The live orders of a side, and the place in the room behind the last report.
+// How many live orders a side has, and the place in the room behind the last report.
 pub struct Placed {
     pub count: usize,
     pub at: usize,
 }
 
-// The live orders of both sides after a cancel, and the place behind its report.
+// How many live orders each side has after a cancel, and the place in the room behind its report.
 pub struct Withdrawn {
     pub buys: usize,
     pub sells: usize,

@@ -1,4 +1,4 @@
-// An order that comes in: accepted, matched with the counter side, its remainder settled.
+// An order that comes in: it is accepted and matched with the counter side, and its remainder is settled.
 use crate::leftover;
 use acts_law::Crossed;
 use acts_law::Entered;
@@ -24,7 +24,7 @@ ghost use Rattle.state_law.specs.Trades.{withTrades};
 ghost use Rattle.acts_law.specs.code.Written.{fillsAt, Remembering};
 ghost use Rattle.acts_law.specs.code.Entering.{incomingIn, Meeting, CrossedAs, MetAs, Entering, EnteredAs};
 
-// The order as it meets the counter side: with the next number, the range, and the price that stands for its last trade.
+// The order as it meets the counter side: its number, the range, and the price that stands for its last trade before it has one.
 fn incoming(s: Session, n: Entry, number: u64) -> Incoming
     ensures { λ r. ⌜ r ≡ incomingIn s n number ⌝ }
 {
@@ -44,7 +44,7 @@ fn incoming(s: Session, n: Entry, number: u64) -> Incoming
     }
 }
 
-// The session after the order has its number and its trades, whose records stand in the room from a place on.
+// The session after the order is given its number and its trades are remembered; their records stand in the room from `at` on.
 fn numbered(s: Session, band: Band, room: &[u64], at: usize, trades: usize) -> Session
     requires { ⌜ (s .live .given < numbersMost) × Remembering (setGiven s (s .live .given + 1)) band (now room) at trades ⌝ }
     ensures { λ r. ⌜ r ≡ withTrades (setGiven s (s .live .given + 1)) (fillsAt trades (drop at (now (room .entry)))) ⌝ }
@@ -55,7 +55,7 @@ fn numbered(s: Session, band: Band, room: &[u64], at: usize, trades: usize) -> S
     remembering::remember(given, band, room, at, trades)
 }
 
-// Accepted and matched: the accept report, the trades in the room, the counter table.
+// Accepts the order and matches it: the accept report and the trades go to the room, and the counter table is what is left of it.
 fn cross(
     s: Session,
     n: Entry,
@@ -77,7 +77,7 @@ fn cross(
     }
 }
 
-// The same, and the session.
+// Accepts and matches the order, and remembers its trades in the session.
 fn meet(
     s: Session,
     band: Band,
@@ -103,7 +103,7 @@ fn meet(
     }
 }
 
-// The whole of an order; mine is its own side's table, theirs the other one.
+// Carries an order out, from its acceptance to its remainder; `mine` is the table of its own side, `theirs` the other one.
 pub fn enter(
     s: Session,
     n: Entry,

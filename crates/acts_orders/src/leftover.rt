@@ -17,7 +17,7 @@ ghost use Rattle.tables.specs.Tables.{decode, Holds};
 ghost use Rattle.book_law.specs.Matching.{fateOfLeft};
 ghost use Rattle.acts_law.specs.code.Written.{fateFrom, RestedAs, Settling, Settled};
 
-// A market order that lives all day turns into a limit at its last price, if that is in the band.
+// A market order that lives all day turns into a limit at its last price if that is in the band; else it is cancelled.
 fn turned(band: Band, last: u64) -> Fate
     ensures { λ r. ⌜ r ≡ fateOfLeft Life.AllDay Kind.Market band last ⌝ }
 {
@@ -27,7 +27,7 @@ fn turned(band: Band, last: u64) -> Fate
     Fate::Ends(Why::OutsideBand)
 }
 
-// By life and kind.
+// What becomes of a remainder that did not stop out of range: its life and its kind decide.
 fn by_life(life: Life, kind: Kind, band: Band, last: u64) -> Fate
     ensures { λ r. ⌜ r ≡ fateOfLeft life kind band last ⌝ }
 {
@@ -63,7 +63,7 @@ fn order_of(number: u64, price: u64, lots: u64) -> Order
     }
 }
 
-// The remainder takes its place on its own side.
+// Puts the remainder in its place on its own side.
 fn rest(mine: &mut [u64], n: usize, side: Side, o: Order) -> usize
     requires { ⌜ Holds n (now mine) × (n < slots) ⌝ }
     ensures { λ r. ⌜ RestedAs side o n (now (mine .entry)) (now (mine .exit)) r ⌝ }
@@ -73,7 +73,7 @@ fn rest(mine: &mut [u64], n: usize, side: Side, o: Order) -> usize
     count
 }
 
-// The remainder takes its place, or is reported cancelled.
+// Settles the remainder: it takes its place, or is reported as cancelled, or there is none.
 pub fn settle(
     mine: &mut [u64],
     n: usize,

@@ -1,5 +1,5 @@
 // acts_orders: an order that comes in: it meets the counter side, and what is left of it rests, turns into a limit or is cancelled.
-// It may use acts_law, matching, state and acts_reports. It promises: tables, room and session are what acts_law makes of the day.
+// It may use acts_law, rules, state, book, matching and acts_reports. It promises: tables, room and session are those of acts_law.
 
 pub mod entering;
 pub mod leftover;

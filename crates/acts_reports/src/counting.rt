@@ -1,4 +1,4 @@
-// What an accepted event comes to.
+// The answer to an accepted event.
 use engine_law::Answer;
 use engine_law::Applied;
 use state_law::Session;
@@ -6,7 +6,7 @@ use tables::lengths;
 ghost use mathlib.Core.Path.{_≡_};
 ghost use Rattle.engine_law.specs.code.Steps.{doneAt};
 
-// The session with its live counts, and the count of the reports that end at a place of the room.
+// The session with its new live counts, and how many reports there are, from the place where they end in the room.
 pub fn done(s: Session, nbuys: usize, nsells: usize, at: usize) -> Applied
     ensures { λ r. ⌜ r ≡ doneAt s nbuys nsells at ⌝ }
 {

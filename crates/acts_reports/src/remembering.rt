@@ -1,4 +1,4 @@
-// The trades of a sweep, read back from their records and remembered in the session.
+// The trades of a sweep are read back from their records and remembered in the session.
 use state::trades;
 use state_law::Session;
 use tables::lengths;

@@ -1,4 +1,4 @@
-// Reports into the room, one behind the other.
+// Reports are written into the room, one behind the other.
 use state::force;
 use state_law::Session;
 use tables::lengths;
@@ -19,7 +19,7 @@ ghost use Rattle.state_law.specs.Now.{Clocked};
 ghost use Rattle.acts_law.specs.Acts.{only, slabMoved, slabReport, clockReports, ended, cancelReports};
 ghost use Rattle.acts_law.specs.code.Written.{Written};
 
-// One report; the place behind it is the answer.
+// Writes one report into the room, and answers the place behind it.
 pub fn tell(room: &mut [u64], at: usize, time: u64, said: Said) -> usize
     requires { ⌜ at + recordLength ≤ length (now room) ⌝ }
     ensures { λ r. ⌜ Written (now (room .entry)) at (reportAt time said ∷ []) (now (room .exit)) r ⌝ }
@@ -36,7 +36,7 @@ pub fn tell(room: &mut [u64], at: usize, time: u64, said: Said) -> usize
     next
 }
 
-// Slab, when the percent changed.
+// Writes a slab report where the percent changed.
 fn tell_slab(room: &mut [u64], at: usize, old: Session, s: Session) -> usize
     requires { ⌜ (at + recordLength ≤ length (now room)) × Clocked s ⌝ }
     ensures { λ r. ⌜ Written (now (room .entry)) at (only (slabMoved old s) (slabReport s)) (now (room .exit)) r ⌝ }
@@ -48,7 +48,7 @@ fn tell_slab(room: &mut [u64], at: usize, old: Session, s: Session) -> usize
     tell(room, at, s.clock.time, Said::Slab(band))
 }
 
-// Ref, if the value changed.
+// Writes a ref report where the value changed.
 fn tell_ref(room: &mut [u64], at: usize, old: u64, s: Session) -> usize
     requires { ⌜ at + recordLength ≤ length (now room) ⌝ }
     ensures { λ r. ⌜ Written (now (room .entry)) at (only (not (eqb old (s .reckoning .reference))) (reportAt (s .clock .time) (Said.Ref (s .reckoning .reference)))) (now (room .exit)) r ⌝ }
@@ -60,7 +60,7 @@ fn tell_ref(room: &mut [u64], at: usize, old: u64, s: Session) -> usize
     tell(room, at, s.clock.time, Said::Ref(reference))
 }
 
-// The reports of the clock steps from one session to the next.
+// Writes the reports of the clock steps that lead from one session to the next.
 pub fn tell_clock(room: &mut [u64], at: usize, old: Session, s: Session) -> usize
     requires { ⌜ (at + recordLength * 2 ≤ length (now room)) × Clocked s ⌝ }
     ensures { λ r. ⌜ Written (now (room .entry)) at (clockReports old s) (now (room .exit)) r ⌝ }
@@ -69,7 +69,7 @@ pub fn tell_clock(room: &mut [u64], at: usize, old: Session, s: Session) -> usiz
     tell_ref(room, behind, old.reckoning.reference, s)
 }
 
-// The cancel of an order.
+// Writes the cancel of an order.
 pub fn tell_cancel(
     room: &mut [u64],
     at: usize,
@@ -89,7 +89,7 @@ pub fn tell_cancel(
     tell(room, at, time, Said::Cancel(e))
 }
 
-// The cancels of all orders of a side, in priority order, at the day's end.
+// Writes the cancels of all orders of a side, in priority order, at the day's end.
 pub fn cancel_all(room: &mut [u64], at: usize, time: u64, t: &[u64], n: usize) -> usize
     requires { ⌜ (n ≤ slots) × (tableLength ≤ length (now t)) × (at + recordLength * n ≤ length (now room)) ⌝ }
     ensures { λ r. ⌜ Written (now (room .entry)) at (cancelReports Why.DayEnd time (decode n (now (t .entry)))) (now (room .exit)) r ⌝ }

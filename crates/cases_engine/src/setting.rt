@@ -59,7 +59,8 @@ fn in_session(s: Session, field: u64, v: u64) -> Session {
         return r;
     }
     if field == 9 {
-        r.clock.closed = v == 1;
+        let closed = v == 1;
+        r.clock.closed = closed;
         return r;
     }
     if field == 10 {

@@ -1,4 +1,4 @@
-// An event on a session and lent numbers.
+// An event is applied to a session and lent numbers.
 use acts::accepted;
 use engine_law::Answer;
 use engine_law::Applied;
@@ -10,7 +10,7 @@ use terms::Verdict;
 ghost use mathlib.Core.Path.{_≡_};
 ghost use Rattle.engine_law.specs.Calls.{AppliedAs, roomy, LongEnough};
 
-// Both tables and the room are long enough.
+// Whether both tables and the room are long enough.
 pub fn is_roomy(buys: &[u64], sells: &[u64], room: &[u64]) -> bool
     ensures { λ r. ⌜ r ≡ roomy (now (buys .entry)) (now (sells .entry)) (now (room .entry)) ⌝ }
 {
@@ -20,7 +20,7 @@ pub fn is_roomy(buys: &[u64], sells: &[u64], room: &[u64]) -> bool
     bought & sold & told
 }
 
-// A refusal: the session that was given, and nothing written.
+// The answer of a refusal: the session that was given, with nothing written.
 fn refused(r: Refusal, s: Session) -> Applied
     ensures { λ a. ⌜ a ≡ record { answer = Answer.Refused r; session = s } ⌝ }
 {
@@ -30,7 +30,7 @@ fn refused(r: Refusal, s: Session) -> Applied
     }
 }
 
-// An event for which the tables and the room are long enough: rows 2 to 11, or what the event does.
+// Judges an event for which the tables and the room are long enough: rows 2 to 11 refuse it, or it is carried out.
 fn judged(s: Session, e: Event, buys: &mut [u64], sells: &mut [u64], room: &mut [u64]) -> Applied
     requires { ⌜ LongEnough (now buys) (now sells) (now room) ⌝ }
     ensures { λ r. ⌜ AppliedAs s e (now (buys .entry)) (now (sells .entry)) (now (room .entry)) (now (buys .exit)) (now (sells .exit)) (now (room .exit)) r ⌝ }

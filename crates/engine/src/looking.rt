@@ -5,7 +5,7 @@ use terms::Side;
 ghost use mathlib.Core.Path.{_≡_};
 ghost use Rattle.engine_law.specs.Calls.{viewCall};
 
-// The live part of the named table; the empty part for a session that is not sound or a short table.
+// The live part of the named side's table; for a session that is not sound, or a short table, the empty part.
 pub fn view<'a>(side: Side, s: Session, buys: &'a [u64], sells: &'a [u64]) -> &'a [u64]
     ensures { λ r. ⌜ now r ≡ viewCall side s (now (buys .entry)) (now (sells .entry)) ⌝ }
 {

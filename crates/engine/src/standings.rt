@@ -62,7 +62,7 @@ fn none() -> Standing
     }
 }
 
-// A refusal, and no standing.
+// The answer of a refusal, with every number of the standing zero.
 fn refused(r: Refusal) -> Stood
     ensures { λ a. ⌜ a ≡ record { verdict = Refused r; standing = noStanding } ⌝ }
 {
@@ -73,7 +73,7 @@ fn refused(r: Refusal) -> Stood
     }
 }
 
-// Where a session stands: 1 for a short table, 2 for a session that is not sound.
+// Answers where a session stands: refusal 1 for a short table, 2 for a session that is not sound.
 pub fn standing(s: Session, buys: &[u64], sells: &[u64]) -> Stood
     ensures { λ r. ⌜ r ≡ standingCall s (now (buys .entry)) (now (sells .entry)) ⌝ }
 {

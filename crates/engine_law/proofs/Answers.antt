@@ -1,5 +1,5 @@
--- What a call answers, by the paper's numbers: its number is that of the first row that applies, its count that of its reports. Assumes
--- nothing.
+-- What a call answers, by the paper's numbers: its number is that of the first row that applies, its count is that of its reports. This
+-- holds of any session, sound or not.
 use Prim.Native.Nat.{ℕ}
 use mathlib.Core.Path.{_≡_, refl, ap, _∙_}
 use mathlib.Core.List.{List}
@@ -17,12 +17,12 @@ use Rattle.engine_law.specs.Outcome.{decided}
 use Rattle.engine_law.specs.Answers.{answerCode, answerCount}
 use Rattle.engine_law.specs.Calls.{callVerdict, called, answerBy, AppliedAs}
 
--- a verdict has the number of its answer, whatever was counted
+-- an answer has the number of its verdict, whatever was counted
 pub code-by : (v : Verdict) (count : ℕ) → answerCode (answerBy v count) ≡ codeOf v
 code-by Fine count = refl
 code-by (Refused r) count = refl
 
--- and the reports of a verdict are as many as are counted: a refusal has none
+-- an answer counts the reports of its verdict: a refusal has none
 count-by : (v : Verdict) (d : Day) (a : Acted) →
     answerCount (answerBy (decided v d a .verdict) (length (decided v d a .reports))) ≡ length (decided v d a .reports)
 count-by Fine d a = refl

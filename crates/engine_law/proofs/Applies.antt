@@ -1,5 +1,5 @@
--- What a call comes to, by its verdict: a refused one answers its row and leaves everything as it was; an accepted one leaves what the
--- act leaves.
+-- What a call leaves follows from its verdict: a refused call answers its row and leaves everything as it was; an accepted one leaves what
+-- the act leaves.
 use Prim.Native.Nat.{ℕ, _≤_}
 use mathlib.Core.Path.{_≡_, sym, _∙_}
 use mathlib.Core.Bool.{Bool, true, false, not}
@@ -30,13 +30,13 @@ use Rattle.engine_law.proofs.Kept.{outcome-small}
 
 -- ---- what a call comes to
 
--- with room enough, to the outcome of its event,
+-- with tables and room long enough, a call comes to the outcome of its event,
 pub called-outcome : (s : Session) (e : Event) (buys sells room : List ℕ) → roomy buys sells room ≡ true →
     called s e buys sells room ≡ outcome (dayIn s buys sells) e
 unfolding called callVerdict outcome refusalOf firstFailed
 called-outcome s e buys sells room h = rw h
 
--- and without, to nothing
+-- and without, it changes and reports nothing
 pub called-short : (s : Session) (e : Event) (buys sells room : List ℕ) → roomy buys sells room ≡ false →
     called s e buys sells room ≡ decided (Refused SmallRoom) (dayIn s buys sells) (act (dayIn s buys sells) e)
 unfolding called callVerdict firstFailed
@@ -66,7 +66,7 @@ unfolding roomy
 long-roomy g = make (make (le-leb _ _ (g .buys-long)) (le-leb _ _ (g .sells-long))) (le-leb _ _ (g .room-long))
 
 module _ (s : Session) (e : Event) (buys sells room : List ℕ) where
-  -- row 1 applies, or the other rows decide
+  -- row 1 refuses a call where it applies; where it does not, the other rows decide
   pub small-verdict : roomy buys sells room ≡ false → callVerdict s e buys sells room ≡ Refused SmallRoom
   unfolding callVerdict firstFailed
   small-verdict h = rw h
@@ -88,7 +88,7 @@ module _ (s : Session) (e : Event) (buys sells room : List ℕ) where
         told = rw v (sym (put-none room 0));
       }
 
-  -- code tests `found`, which is whether there is room, and then has the verdict `v` of the other rows
+  -- code tests `found`, which says whether tables and room are long enough, and then has the verdict `v` of the other rows
 
   pub too-small : (found : Bool) (a : Applied) → found ≡ roomy buys sells room → not found ≡ true →
       a ≡ record { answer = Answer.Refused SmallRoom; session = s } → AppliedAs s e buys sells room buys sells room a

@@ -1,4 +1,4 @@
--- The reports of a call are few, and one that is not refused has room for them.
+-- The reports of a call are few, and a call that is not refused has room for them.
 use Prim.Native.Nat.{ℕ, _≤_}
 use native.Mathlib.Omega.{arith}
 use mathlib.Core.Path.{_≡_}
@@ -17,14 +17,14 @@ use Rattle.engine_law.proofs.Applies.{called-outcome, called-short}
 use Rattle.engine_law.proofs.Kept.{outcome-few}
 
 module _ (s : Session) (e : Event) (buys sells room : List ℕ) where
-  -- its reports are no more than the room has place for
+  -- there are no more reports than the room can hold
   pub called-few : length (called s e buys sells room .reports) ≤ reportsMost
   called-few =
       cases (roomy buys sells room)
       (λ h. rw (called-outcome s e buys sells room h) (outcome-few (dayIn s buys sells) e))
       (λ h. rw (called-short s e buys sells room h) (omega arith))
 
-  -- and one that is not refused has room
+  -- a call that is not refused has tables and room that are long enough
   pub fine-roomy : called s e buys sells room .verdict ≡ Fine → roomy buys sells room ≡ true
   fine-roomy v = cases (roomy buys sells room) (λ h. h) (λ h. absurd (refused (rw (called-short s e buys sells room h) at v)))
     where

@@ -1,4 +1,4 @@
--- What each accepted event leaves, from what its calls left.
+-- What each accepted event leaves is what the definition says, given what its calls leave.
 use Prim.Native.Nat.{ℕ, _/_}
 use native.Mathlib.Omega.{arith}
 use mathlib.Core.Path.{_≡_, refl, sym, ap, _∙_}
@@ -34,7 +34,7 @@ use Rattle.engine_law.specs.Calls.{eventAt, Ready, ActedAs}
 use Rattle.engine_law.specs.code.Steps.{doneAt, Begins, BegunAs, QuietAs, Withdrawing, CancelledAs}
 use Rattle.engine_law.proofs.Starts.{accepts, begins, after-buys, after-sells, same-room, behind-clock, clock-space}
 
--- ---- the answer of every act
+-- ---- the answer to every act
 
 pub done-as : (a : Acted) (s : Session) (bs ss : List Order) (nbuys nsells at : ℕ) (buys sells room buys′ sells′ room′ : List ℕ) →
     a .day ≡ dayOf s bs ss → nbuys ≡ length bs → nsells ≡ length ss → buys′ ≡ tableOf bs buys → sells′ ≡ tableOf ss sells → Written room 0 (a .reports) room′ at →
@@ -78,7 +78,7 @@ module _ (s : Session) (e : Event) {buys sells room buys₁ sells₁ room₁ : L
   unfolding act clockStep
   clock-acted h q = rw h (quiet-done Clock q refl (append-nil (clockReports s (clockStep s (e .time)))))
 
--- neither ends the day
+-- neither closes the day, so both begin with the clock steps
 pub under-begins : {s : Session} {t price : ℕ} {a : Act} {buys sells room : List ℕ} → Ready s t a buys sells room → a ≡ Under price → Begins s t buys sells room
 under-begins r h = begins r (rw h)
 
@@ -98,7 +98,7 @@ module _ {s : Session} {t number : ℕ} {buys sells room buys₁ sells₁ room�
         rests = record { somewhere = rw (after-buys k .reads, after-sells k .reads) (accepts r .found) };
       }
 
-  -- what was withdrawn, in the words of the definition, by the side on which the order rests
+  -- the cancel leaves what the definition says, whichever side the order rests on
   pub cancel-acted : {buys₂ sells₂ room₂ : List ℕ} {a : Applied} → CancelledAs number t (b .session) (s .live .buys) buys₁ (s .live .sells) sells₁ room₁ (b .at) buys₂ sells₂ room₂ a →
       ActedAs (act (dayIn s buys sells) (eventAt t (Withdraw number))) buys sells room buys₂ sells₂ room₂ a
   unfolding act dropped clockStep

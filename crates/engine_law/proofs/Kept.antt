@@ -1,6 +1,6 @@
--- What an event comes to: a refused one changes nothing and tells nothing; an accepted one leaves a sound day, keeps every lot, gives
--- numbers in order, tells nothing that is not fine and no slab but where it widens the band, has no more reports than the room has place
--- for, and no number in them that cannot be written. Each law is for any day.
+-- What holds of every event on any day. A refused event changes nothing and tells nothing. An accepted one leaves a sound day, keeps every
+-- lot, gives numbers in order, tells nothing that is not fine, and a slab only where it widens the band; it has no more reports than the room
+-- can hold, and no number in them that cannot be written.
 use Prim.Native.Nat.{ℕ, _+_, _≤_, _<_}
 use native.Mathlib.Omega.{arith}
 use native.Mathlib.Nat.{le-refl}
@@ -47,7 +47,7 @@ use Rattle.engine_law.specs.Outcome.{Outcome, decided, outcome}
 
 -- ---- the two cases of an event
 
--- a law of an outcome: of an accepted event, by what it passed; of a refused one, by the day as it is
+-- a law of outcomes is proved for an accepted event, from what it passed, and for a refused one, which leaves the day as it is
 by-verdict : (P : Outcome → Type 0) (d : Day) (e : Event) → (Accepted d e → P (decided Fine d (act d e))) →
     ((r : Refusal) → P (decided (Refused r) d (act d e))) → P (outcome d e)
 unfolding outcome
@@ -73,7 +73,7 @@ outcome-verdict d e = go (refusalOf d e)
     go Fine = refl
     go (Refused r) = refl
 
--- so on a day that is not sound, on which 2 refuses every event, all stays as it is
+-- so every event leaves an unsound day as it is, since 2 refuses it
 pub unsound-nothing : (d : Day) (e : Event) → sound d ≡ false → (outcome d e .day ≡ d) × (outcome d e .reports ≡ [])
 unsound-nothing d e h = refused-nothing d e Unsound (outcome-verdict d e ∙ unsound-refused d e h)
 
@@ -141,12 +141,12 @@ outcome-forward d e =
 pub outcome-few : (d : Day) (e : Event) → length (outcome d e .reports) ≤ reportsMost
 outcome-few d e = by-verdict (λ (o : Outcome). length (o .reports) ≤ reportsMost) d e (λ k. act-few d e (k .whole)) (λ r. omega arith)
 
--- EVERY NUMBER IN A REPORT CAN BE WRITTEN. The session's array holds ten prices,
+-- EVERY NUMBER IN A REPORT CAN BE WRITTEN, given that the session's array holds ten prices,
 pub outcome-small : (d : Day) (e : Event) → length (d .session .tape .prices) ≡ 10 → SmallReports (outcome d e .reports)
 unfolding SmallReports
 outcome-small d e l = by-verdict (λ (o : Outcome). SmallReports (o .reports)) d e (λ k. act-small d e k l) (λ r. tt)
 
--- and holds ten after the event
+-- and it holds ten after the event too
 pub outcome-ten : (d : Day) (e : Event) → Ten (d .session) → Ten (outcome d e .day .session)
 outcome-ten d e t = by-verdict (λ (o : Outcome). Ten (o .day .session)) d e (λ k. act-ten d e t) (λ r. t)
 
@@ -163,7 +163,7 @@ accepted-asks d t n =
     (λ k h. (act-asks id d e ∙ mine-own id (n .lots), act-given d e))
     (λ r h. absurd (let z : _≡_ {A = ℕ} 0 1 = cc in omega arith))
 
--- which its one report of acceptance tells
+-- and its one report of acceptance tells that number
 pub accepted-number : (d : Day) (t : ℕ) (n : Entry) → outcome d (record { time = t; act = Enter n }) .verdict ≡ Fine →
     accepts (outcome d (record { time = t; act = Enter n }) .reports) ≡ (d .session .live .given + 1) ∷ []
 unfolding numbersTo
@@ -184,7 +184,7 @@ outcome-given d e =
     (λ k. omega (arith, act-given d e, given-grows (d .session .live .given) (carries (e .act) .entry)))
     (λ r. le-refl (d .session .live .given))
 
--- a number that was given before is asked for no more,
+-- a number that was given before is not asked for again,
 pub asks-old : (id : ℕ) (d : Day) (e : Event) → id ≤ d .session .live .given → askedBy id (e .act) (outcome d e .reports) ≡ 0
 unfolding total
 asks-old id d e h =

@@ -1,4 +1,4 @@
--- Document 01's listing: its events on its settings give all its reports, computed from the definitions.
+-- Document 01's listing: its events on its settings give all its reports. The definitions compute them.
 use Prim.Native.Nat.{ℕ}
 use mathlib.Core.Path.{_≡_, refl}
 use mathlib.Core.List.{List, [], _∷_}

@@ -1,4 +1,4 @@
--- An order on both tables: proved once, over its own side's table and the one across.
+-- What an order leaves on both tables is proved once, for its own side's table and the one across.
 use Prim.Native.Nat.{ℕ, _+_, _≤_, _<_}
 use native.Mathlib.Omega.{arith}
 use mathlib.Core.Path.{_≡_, ap, sym, refl, _∙_}
@@ -52,7 +52,7 @@ module _ {s : Session} {t : ℕ} {n : Entry} {buys sells room : List ℕ} (r : R
   placed = accepts r .placed
 
   module _ {buys₁ sells₁ room₁ : List ℕ} {b : Begun} (k : BegunAs s t buys sells room buys₁ sells₁ room₁ b) where
-    -- over the order's own side and the one across, whichever of the two it is on
+    -- what an order must find, whichever of the two sides is its own
     enter-asks : (nmine ntheirs : ℕ) (mine theirs mine₁ theirs₁ : List ℕ) → After nmine (decode nmine mine) mine mine₁ → After ntheirs (decode ntheirs theirs) theirs theirs₁ →
         own (n .side) (dayIn s buys sells) ≡ decode nmine mine → Each Deals (decode ntheirs theirs) → Entering (b .session) n nmine mine₁ ntheirs theirs₁ room₁ (b .at)
     unfolding clockStep
@@ -78,7 +78,7 @@ module _ {s : Session} {t : ℕ} {n : Entry} {buys sells room : List ℕ} (r : R
     enters-on = record { a-buy = buy-enters; a-sell = sell-enters }
 
 module _ {s : Session} {t : ℕ} (n : Entry) {buys sells room buys₁ sells₁ room₁ : List ℕ} {b : Begun} (k : BegunAs s t buys sells room buys₁ sells₁ room₁ b) where
-  -- over the order's own side and the one across
+  -- what an order leaves, whichever of the two sides is its own
   module _ (nmine ntheirs : ℕ) (mine theirs mine₁ theirs₁ : List ℕ) (p : After nmine (decode nmine mine) mine mine₁) (q : After ntheirs (decode ntheirs theirs) theirs theirs₁) where
     abbrev swept : Swept
     swept = sweepIn (b .session) n (decode ntheirs theirs)
@@ -86,7 +86,7 @@ module _ {s : Session} {t : ℕ} (n : Entry) {buys sells room buys₁ sells₁ r
     abbrev left : List Order
     left = settled (n .side) (b .session .live .given + 1) (swept .left) (fateIn (b .session) n swept) (decode nmine mine)
 
-    -- what the calls left, in the words of the definition
+    -- what the calls leave is what the definition says
     pub record Left (mine₂ theirs₂ room₂ : List ℕ) (f : Entered) : Type 0 where
       pub booked : mine₂ ≡ tableOf left mine
       pub countered : theirs₂ ≡ tableOf (swept .rest) theirs
@@ -109,7 +109,7 @@ module _ {s : Session} {t : ℕ} (n : Entry) {buys sells room buys₁ sells₁ r
         }
 
   module _ {buys₂ sells₂ room₂ : List ℕ} {r : Applied} where
-    -- a buy: its own side is that of the buys
+    -- for a buy, its own side is that of the buys
     buy-ordered : n .side ≡ Buy → OrderedAs Buy (b .session) n (s .live .buys) buys₁ (s .live .sells) sells₁ room₁ (b .at) buys₂ sells₂ room₂ r →
         ActedAs (act (dayIn s buys sells) (eventAt t (Enter n))) buys sells room buys₂ sells₂ room₂ r
     unfolding act entered
@@ -121,7 +121,7 @@ module _ {s : Session} {t : ℕ} (n : Entry) {buys sells room buys₁ sells₁ r
         (done-as (act (dayIn s buys sells) (eventAt t (Enter n))) (f .session) (settled (n .side) (b .session .live .given + 1) (w .left) (fateIn (b .session) n w) (decode (s .live .buys) buys)) (w .rest) (f .mine) (f .theirs) (f .at) buys sells room buys₂ sells₂ room₂
         (rw (l .session, side, ← k .session)) (l .nown) (l .nacross) (l .booked) (l .countered) (rw (side, ← k .session) (rw side at (l .told))))
 
-    -- a sell: its own side is that of the sells
+    -- for a sell, its own side is that of the sells
     sell-ordered : n .side ≡ Sell → OrderedAs Sell (b .session) n (s .live .sells) sells₁ (s .live .buys) buys₁ room₁ (b .at) sells₂ buys₂ room₂ r →
         ActedAs (act (dayIn s buys sells) (eventAt t (Enter n))) buys sells room buys₂ sells₂ room₂ r
     unfolding act entered

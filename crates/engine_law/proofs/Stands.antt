@@ -63,7 +63,7 @@ module _ (s : Session) (buys sells : List ℕ) where
   unfolding standingCall standingVerdict firstFailed _⊓_
   stands-unsound b t e = rw (le-leb tableLength (length buys) b, le-leb tableLength (length sells) t, e)
 
-  -- code tests the lengths, then `found`, which is whether the session is sound, and has `a` or `st` of a call
+  -- code tests the lengths, then `found`, which says whether the session is sound; `a` or `st` is what the call then answers
 
   pub short-bought : (a : Stood) → length buys < tableLength → a ≡ record { verdict = Refused SmallRoom; standing = noStanding } → a ≡ standingCall s buys sells
   short-bought a b e = e ∙ sym (short-buys b)
@@ -92,7 +92,7 @@ module _ (s : Session) (buys sells : List ℕ) where
   unfolding standingCall
   fine-shows st e = by-verdict (standingVerdict s buys sells) st e
 
-  -- ROW 8 passes a limit just where it lies between the ends of the band that is shown, until a cooling-off that is shown has ended
+  -- ROW 8 passes a limit just where it lies between the ends of the band that is shown, if no cooling-off that is shown has ended by then
   pub limit-shown : (st : Standing) (side : Side) (x : ℕ) (life : Life) (lots t : ℕ) →
       standingCall s buys sells ≡ record { verdict = Fine; standing = st } → (st .cooling && leb (st .ends) t) ≡ false →
       bandRight (bandNow (clockStep s t)) (Enter (record { side = side; kind = Limit x; life = life; lots = lots })) ≡ inBand (st .band) x
@@ -108,7 +108,7 @@ module _ (s : Session) (buys sells : List ℕ) where
   unfolding standingNow
   counter-shown st x e = rw (fine-shows st e) (range-between (rangeNow s) x)
 
--- its parts, as code computes them
+-- what is shown, put together from the parts that code computes
 pub stands-by : (s : Session) (percent price lots : ℕ) (band range : Band) → percent ≡ percentNow s → band ≡ bandNow s → range ≡ rangeEnds (rangeNow s) →
     price ≡ lastOr 0 (s .tape) → lots ≡ lastLots (s .tape) →
     record {
@@ -129,9 +129,9 @@ pub stands-by : (s : Session) (percent price lots : ℕ) (band range : Band) →
 unfolding standingNow
 stands-by s percent price lots band range p b r q l = rw (p, b, r, q, l)
 
--- ---- what is in force
+-- ---- what is in force in some sessions
 
--- of a session that has just opened, what its settings give
+-- in a session that has just opened, it is what the settings give
 pub opened-stands : (g : Settings) →
     standingNow (openedSession g)
     ≡ record {
@@ -151,7 +151,7 @@ pub opened-stands : (g : Settings) →
 unfolding standingNow openedSession percentOf lastOr lastLots
 opened-stands g = refl
 
--- the initial band, until it was widened
+-- the band that is shown is the initial one until it is widened, and then the enhanced one
 pub initial-stands : (s : Session) → s .clock .widened ≡ 0 → standingNow s .band ≡ initialBand (s .settings)
 unfolding standingNow percentOf
 initial-stands s e = rw e
@@ -160,7 +160,7 @@ pub widened-stands : (s : Session) → s .clock .widened ≡ 1 → standingNow s
 unfolding standingNow percentOf
 widened-stands s e = rw e
 
--- and the trade that was made last
+-- after a trade, the last trade that is shown is this one
 pub trade-stands : (s : Session) (price lots : ℕ) → Ten s →
     (standingNow (withTrade s price lots) .price ≡ price) × (standingNow (withTrade s price lots) .lots ≡ lots)
 unfolding standingNow withTrade

@@ -78,7 +78,7 @@ module _ {s : Session} {t : ℕ} {a : Act} {buys sells room : List ℕ} (r : Rea
           room-long = omega (arith, r .room-long);
         }
 
-    -- the trades that a sweep of one side can make
+    -- there is place for the trades that a sweep of one side can make
     pub trades-fit : (k : ℕ) → k ≤ slots → s .tape .trades ≤ tradesBefore → TradesFit (clockStep s t) k
     unfolding clockStep
     trades-fit k h m =
@@ -108,7 +108,7 @@ module _ {s : Session} {t : ℕ} {a : Act} {buys sells room : List ℕ} (r : Rea
         let b = book-fits (s′ .live .given) (s′ .settings .tick) (bandNow s′) (day .buys) (day .sells) (start .book) in
         deals-of (s .settings .tick) (day .sells) (each-tradable s′ (day .sells) (clocked-after .valid) (each-fits (s′ .live .given) (s′ .settings .tick) (bandNow s′) (day .sells) (b .each-sell)))
 
--- ---- the clock steps, as code makes them
+-- ---- the clock steps that code makes
 
 module _ {s : Session} {t : ℕ} {buys sells room : List ℕ} (g : Begins s t buys sells room) where
   pub steps-in : {s′ : Session} → s′ ≡ clockStep s t → Stepping s s′ buys sells room
@@ -122,7 +122,7 @@ module _ {s : Session} {t : ℕ} {buys sells room : List ℕ} (g : Begins s t bu
         room-long = g .room-long;
       }
 
--- the tables and the room behind them
+-- what the clock steps leave in the tables and the room
 module _ {s : Session} {t : ℕ} {buys sells room buys₁ sells₁ room₁ : List ℕ} {b : Begun} (k : BegunAs s t buys sells room buys₁ sells₁ room₁ b) where
   pub after-buys : After (s .live .buys) (decode (s .live .buys) buys) buys buys₁
   after-buys = cleared (s .live .buys) buys buys₁ (k .stepped .bought) (k .could .clocked .buys-few) (k .could .buys-long)

@@ -9,7 +9,7 @@ abbrev pub answerCode : Answer → ℕ
 answerCode (Answer.Reported count) = 0
 answerCode (Answer.Refused r) = numberOf r
 
--- "The count of reports is returned": an accepted event's value; a refusal has none
+-- "The count of reports is returned" for an accepted event; a refusal has none
 abbrev pub answerCount : Answer → ℕ
 answerCount (Answer.Reported count) = count
 answerCount (Answer.Refused r) = 0

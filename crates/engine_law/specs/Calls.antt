@@ -1,4 +1,4 @@
--- The calls on a session and lent numbers: what each is answered, and what it leaves.
+-- The calls on a session and lent numbers: what each answers, and what it leaves.
 use Prim.Native.Nat.{ℕ, _≤_}
 use mathlib.Core.Path.{_≡_}
 use mathlib.Core.Bool.{Bool, cond}
@@ -27,21 +27,21 @@ use Rattle.engine_law.specs.declared.Answer.{Answer}
 use Rattle.engine_law.specs.declared.Applied.{Applied}
 use Rattle.engine_law.specs.Outcome.{Outcome, decided}
 
--- 1: "a table under .. numbers, or report room under .."
+-- row 1 does not apply: "a table under .. numbers, or report room under .."
 unfoldable pub roomy : List ℕ → List ℕ → List ℕ → Bool
 roomy buys sells room = leb tableLength (length buys) ⊓ leb tableLength (length sells) ⊓ leb roomLength (length room)
 
--- the same as facts
+-- the same, as facts about lengths
 pub record LongEnough (buys sells room : List ℕ) : Type 0 where
   pub buys-long : tableLength ≤ length buys
   pub sells-long : tableLength ≤ length sells
   pub room-long : roomLength ≤ length room
 
--- rows 1 to 11, first that applies
+-- the verdict by rows 1 to 11, the first that applies
 unfoldable pub callVerdict : Session → Event → List ℕ → List ℕ → List ℕ → Verdict
 callVerdict s e buys sells room = firstFailed (unless SmallRoom (roomy buys sells room) ∷ rules (dayIn s buys sells) e)
 
--- what a call comes to, on the day that the session and the tables hold
+-- the outcome of a call, on the day that the session and the tables hold
 unfoldable pub called : Session → Event → List ℕ → List ℕ → List ℕ → Outcome
 called s e buys sells room = decided (callVerdict s e buys sells room) (dayIn s buys sells) (act (dayIn s buys sells) e)
 
@@ -74,7 +74,7 @@ pub record Ready (s : Session) (time : ℕ) (a : Act) (buys sells room : List �
   pub sells-long : tableLength ≤ length sells
   pub room-long : roomLength ≤ length room
 
--- what it leaves
+-- what an accepted event leaves: answer, session, both tables and the room, each by an equation
 pub record ActedAs (a : Acted) (buys sells room buys′ sells′ room′ : List ℕ) (r : Applied) : Type 0 where
   pub answer : r .answer ≡ Answer.Reported (length (a .reports))
   pub session : r .session ≡ a .day .session

@@ -1,4 +1,4 @@
--- What an event comes to: refused with the first row that applies and nothing changed, or accepted with the day after it and its reports.
+-- The outcome of an event: refused by the first row that applies with nothing changed, or accepted with the day after it and its reports.
 use mathlib.Core.List.{List, [], _∷_, _++_}
 use Rattle.terms.specs.declared.Event.{Event}
 use Rattle.terms.specs.declared.Report.{Report}

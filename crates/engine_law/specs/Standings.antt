@@ -19,7 +19,7 @@ use Rattle.soundness_law.specs.Sound.{sound, dayIn}
 use Rattle.engine_law.specs.declared.Standing.{Standing}
 use Rattle.engine_law.specs.declared.Stood.{Stood}
 
--- the percent in force and its band, which row 8 judges limits by; both ends of the range that trades must be in
+-- the percent in force and its band, by which row 8 judges limits; both ends of the range in which trades must be; and what else is shown
 unfoldable pub standingNow : Session → Standing
 standingNow s =
     record {
@@ -40,7 +40,7 @@ standingNow s =
 abbrev pub noBand : Band
 noBand = record { low = 0; high = 0 }
 
--- that of a refusal: no cooling-off, every number zero
+-- the standing that a refusal answers with: no cooling-off, every number zero
 unfoldable pub noStanding : Standing
 noStanding =
     record {
@@ -58,11 +58,11 @@ noStanding =
       trades = 0;
     }
 
--- 1: "a table under .. numbers"
+-- row 1 does not apply: "a table under .. numbers"
 abbrev pub longTables : List ℕ → List ℕ → Bool
 longTables buys sells = leb tableLength (length buys) ⊓ leb tableLength (length sells)
 
--- 1, then 2: "session not sound"
+-- the verdict by row 1, then row 2, "session not sound"
 unfoldable pub standingVerdict : Session → List ℕ → List ℕ → Verdict
 standingVerdict s buys sells = firstFailed (unless SmallRoom (longTables buys sells) ∷ unless Unsound (sound (dayIn s buys sells)) ∷ [])
 
@@ -70,6 +70,6 @@ abbrev pub stoodBy : Verdict → Session → Stood
 stoodBy Fine s = record { verdict = Fine; standing = standingNow s }
 stoodBy (Refused r) s = record { verdict = Refused r; standing = noStanding }
 
--- THE CONTRACT of `standing`: it answers this
+-- THE CONTRACT of `standing`: its answer
 unfoldable pub standingCall : Session → List ℕ → List ℕ → Stood
 standingCall s buys sells = stoodBy (standingVerdict s buys sells) s

@@ -1,19 +1,19 @@
 // engine_law: the law of the public calls: the outcome of an event, and what a call leaves in everything that was lent.
-// It has no code and may use acts_law and what that uses. It promises: an accepted event leaves a sound day, a refused one changes
-// nothing, and calls on a session lead from sound day to sound day; where a session stands is said by the definitions that judge orders.
+// It has no code, and may use acts_law and what that uses. It promises: an accepted event leaves a sound day, a refused one changes nothing,
+// and calls on a session lead from sound day to sound day; where a session stands is told by the definitions that judge orders.
 
 use state_law::Session;
 use terms::Band;
 use terms::Refusal;
 use terms::Verdict;
 
-// What an event is answered: the count of its reports, or the refusal.
+// The answer to an event: the count of its reports, or the refusal.
 pub enum Answer {
     Reported(u64),
     Refused(Refusal),
 }
 
-// The answer and the session afterwards.
+// The answer to an event, and the session after it.
 pub struct Applied {
     pub answer: Answer,
     pub session: Session,
@@ -43,7 +43,7 @@ pub struct Standing {
     pub trades: u64,
 }
 
-// What a look at a session answers: nothing against it, or the refusal, and where it stands.
+// The answer to the question where a session stands: a refusal or none, and the standing.
 pub struct Stood {
     pub verdict: Verdict,
     pub standing: Standing,

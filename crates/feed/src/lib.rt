@@ -1,6 +1,6 @@
-// feed: text in, text out. A run of bytes goes line by line to the readers and the engine, and what they say goes to an output room.
-// It may use every crate below it. It promises, of any bytes, tables and rooms whatever: what is printed, taken and left is that of
-// feed_law, and so independent of how the input is cut in pieces.
+// feed: text in, text out. Bytes go line by line to the readers and the engine, and what these say goes to an output room as text.
+// It may use every crate below it. It promises, of any bytes, tables and rooms: what is printed, taken and left is that of feed_law, and so
+// does not depend on how the input is cut into pieces.
 
 pub mod lines;
 

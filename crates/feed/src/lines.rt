@@ -1,4 +1,4 @@
-// All lines of some bytes.
+// All lines of some bytes are taken, as far as there is room for what they print.
 use engine::apply;
 use feed_law::Run;
 use feed_law::Stage;
@@ -18,7 +18,7 @@ ghost use Rattle.feed_law.specs.Texts.{mostAt};
 ghost use Rattle.feed_law.specs.Turns.{stopAt};
 ghost use Rattle.feed_law.specs.Feeds.{LineTaken, TakenAs, TakenBy, takenTo, linesOf, fedOf, endedOf, EndsBehind};
 
-// The output room that the reports of any event fit in.
+// The length of an output room that holds the reports of any event.
 pub const TEXT: usize = lengths::REPORTS * sizes::LINE;
 
 // The most that the next line can print, by where the run stands.
@@ -32,7 +32,7 @@ fn most_at(stage: Stage) -> usize
     }
 }
 
-// Why a run takes no further line of bytes that it has gone through.
+// Why a run takes no further line once it has gone through its bytes.
 fn stop_at(stage: Stage) -> Stop
     ensures { λ r. ⌜ r ≡ stopAt stage ⌝ }
 {
@@ -43,6 +43,7 @@ fn stop_at(stage: Stage) -> Stop
     }
 }
 
+// What a call answers: where the run stands, the bytes taken and printed, and why it stopped.
 fn taken(run: Run, used: usize, wrote: usize, stop: Stop) -> Taken
     ensures { λ r. ⌜ r ≡ takenTo run used wrote stop ⌝ }
 {
@@ -54,7 +55,7 @@ fn taken(run: Run, used: usize, wrote: usize, stop: Stop) -> Taken
     }
 }
 
-// The line from `at` on, printed behind what was written.
+// Takes the line that begins at `at`, and prints behind what was written before.
 fn line_at(
     run: Run,
     bytes: &[u8],
@@ -71,7 +72,7 @@ fn line_at(
     turns::turn(run, &bytes[at..], buys, sells, room, &mut out[wrote..])
 }
 
-// The lines of the bytes, while there is room for whatever the next one can print.
+// Takes the lines of the bytes, as long as there is room for the most that the next one can print.
 fn while_room(
     run: Run,
     bytes: &[u8],
@@ -110,8 +111,8 @@ fn while_room(
     taken(now, at, wrote, stop_at(stage))
 }
 
-// Takes the whole lines of some bytes, prints what they say, and answers how far it came: the rest of the bytes is to be handed in again,
-// with more behind it.
+// Takes the whole lines of some bytes, prints what they say, and answers how far it came: the bytes that are left are to be handed in again,
+// with more behind them.
 pub fn take_lines(
     run: Run,
     bytes: &[u8],
@@ -128,7 +129,7 @@ pub fn take_lines(
     while_room(run, bytes, buys, sells, room, out)
 }
 
-// The end behind lines that left no whole one: it is told where a line fits, and the run is over.
+// Tells the end behind lines that left no whole one, if the room has place for a line; then the run is over.
 fn finish(t: Taken, bytes: usize, out: &mut [u8]) -> Taken
     requires { ⌜ (t .used ≤ bytes) × (t .wrote ≤ length (now out)) × (t .stop ≡ Stop.Waits) ⌝ }
     ensures { λ r. ⌜ EndsBehind t bytes (now (out .entry)) (now (out .exit)) r ⌝ }
@@ -149,7 +150,7 @@ fn finish(t: Taken, bytes: usize, out: &mut [u8]) -> Taken
     taken(over, used, wrote + told, Stop::Over)
 }
 
-// The end behind lines that were taken, by why they stopped.
+// Tells the end behind lines that were taken, if they stopped because no whole one is left.
 fn end_behind(t: Taken, bytes: usize, out: &mut [u8]) -> Taken
     requires { ⌜ (t .used ≤ bytes) × (t .wrote ≤ length (now out)) ⌝ }
     ensures { λ r. ⌜ EndsBehind t bytes (now (out .entry)) (now (out .exit)) r ⌝ }
@@ -163,8 +164,8 @@ fn end_behind(t: Taken, bytes: usize, out: &mut [u8]) -> Taken
     }
 }
 
-// The end of the input: takes the whole lines of the last bytes as `take_lines` does, and then tells the end. Where the output room is to
-// be emptied first it answers so, and the rest of the bytes is to be handed in again.
+// Takes the whole lines of the last bytes as `take_lines` does, and then tells the end of the input. Where the output room must be emptied
+// first it answers so, and the bytes that are left are to be handed in again.
 pub fn take_end(
     run: Run,
     bytes: &[u8],

@@ -1,4 +1,4 @@
--- What the calls answer and leave, as code comes to it.
+-- What the calls answer and leave is what the definitions say, given the case in which code finds itself.
 use Prim.Native.Nat.{ℕ, _-_, _≤_}
 use native.Mathlib.Omega.{arith}
 use mathlib.Core.Path.{_≡_, refl, sym, ap, _∙_, subst}
@@ -45,7 +45,7 @@ module _ {run : Run} {buys sells room bytes out : List ℕ} {r : Taken} {found :
       taken-lines run buys sells room bytes out
       (taken-as (judged run buys sells room bytes out (Refused SmallRoom) v) e refl refl refl (record { count = refl; laid = refl }) refl) refl
 
-  -- or they are long enough
+  -- they are long enough: the lines are taken
   pub took-lines : {buys′ sells′ room′ out′ : List ℕ} → not found ≡ false → TakenAs (linesOf run buys sells room bytes out) out buys′ sells′ room′ out′ r → length out′ ≡ length out →
       TakenBy fedOf run buys sells room bytes out buys′ sells′ room′ out′ r
   unfolding feedVerdict
@@ -54,7 +54,7 @@ module _ {run : Run} {buys sells room bytes out : List ℕ} {r : Taken} {found :
       taken-lines run buys sells room bytes out
       (subst (λ (x : Fed Lent). TakenAs x out buys′ sells′ room′ out′ r) (sym (judged run buys sells room bytes out Fine v)) k) kept
 
--- and then the end
+-- and then the end of the input is told
 pub took-end : {run : Run} {buys sells room bytes out buys′ sells′ room′ out₁ out′ : List ℕ} {t r : Taken} →
     TakenBy fedOf run buys sells room bytes out buys′ sells′ room′ out₁ t → length out₁ ≡ length out → EndsBehind t (length bytes) out₁ out′ r →
     length out′ ≡ length out₁ → TakenBy endedOf run buys sells room bytes out buys′ sells′ room′ out′ r

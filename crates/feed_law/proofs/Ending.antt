@@ -1,4 +1,4 @@
--- The end of the input behind the lines that were taken.
+-- The end of the input is told behind the lines that were taken, as the definition says.
 use Prim.Native.Nat.{ℕ, _+_, _-_, _≤_, _<_}
 use native.Mathlib.Omega.{arith}
 use mathlib.Core.Path.{_≡_, refl, sym, ap, _∙_, subst}
@@ -29,14 +29,14 @@ use Rattle.feed_law.proofs.Going.{taken-as}
 -- ---- what the end prints, by where the run stands
 
 module _ {out : List ℕ} (n : ℕ) where
-  -- bytes behind the last line of a day, or none
+  -- where no bytes stand behind the last line nothing is printed, else their count is
   pub none-left : n ≡ 0 → Prints out (endText Stage.Trading n) 0 out
   none-left e = rw (eq-eqb n 0 e) (record { count = refl; laid = refl })
 
   pub some-left : {wrote : ℕ} {out′ : List ℕ} → (n ≡ 0 → ⊥) → Prints out (badText LineUnfinished n) wrote out′ → Prints out (endText Stage.Trading n) wrote out′
   some-left e p = rw (ne-eqb n 0 e) p
 
--- no line that tells of a bad line is longer than the room that a writer asks for
+-- no line that tells of a bad line is longer than a line room
 bad-short : (r : Refusal) (place : ℕ) → length (badText r place) ≤ lineRoom
 unfolding badText renderBad longest
 bad-short r place =
@@ -64,7 +64,7 @@ module _ {stage : Stage} {n : ℕ} {out : List ℕ} where
 -- ---- the end behind some lines, by why they stopped
 
 module _ {t : Taken} {bytes : ℕ} {out : List ℕ} where
-  -- the lines stopped for another reason than that no whole one is left
+  -- where the lines stopped for any other reason than that no whole one is left, the end adds nothing
   goes-by : {s : Stop} → ((left rest : ℕ) (f : Fed Lent) → endBy calls s left rest f ≡ f) → t .stop ≡ s → EndsBehind t bytes out out t
   unfolding endBehind
   goes-by {s} same e =
@@ -86,9 +86,9 @@ module _ {t : Taken} {bytes : ℕ} {out : List ℕ} where
   pub end-refused : {r : Refusal} → t .stop ≡ Stop.Refused r → EndsBehind t bytes out out t
   end-refused e = goes-by (λ left rest f. refl) e
 
-  -- no whole line is left
+  -- where no whole line is left,
   module _ (waits : t .stop ≡ Stop.Waits) where
-    -- the room is to be emptied first
+    -- the room must be emptied first,
     pub end-filled : {r : Taken} → length out - t .wrote < lineRoom → r ≡ takenTo (t .run) (t .used) (t .wrote) Stop.Full → EndsBehind t bytes out out r
     unfolding endBehind
     end-filled h q =
@@ -103,7 +103,7 @@ module _ {t : Taken} {bytes : ℕ} {out : List ℕ} where
               taken-as by q (k .stage) (k .world) (k .used) (k .printed) refl;
         }
 
-    -- the end is told
+    -- or it has place for a line, and the end is told
     pub end-told : {r : Taken} {part′ : List ℕ} {told : ℕ} → lineRoom ≤ length out - t .wrote →
         EndTold (t .run .stage) (bytes - t .used) (take (length out - t .wrote) (drop (t .wrote) out)) told part′ →
         r ≡ takenTo (record { stage = Stage.Over; session = t .run .session }) (t .used) (t .wrote + told) Stop.Over →

@@ -1,4 +1,4 @@
--- The loop over the lines: what has been printed so far, and what is left to be fed, make up the whole.
+-- The loop over the lines: what has been printed, and what will be printed for the bytes that are left, make up the whole.
 use Prim.Native.Nat.{ℕ, zero, suc, _+_, _-_, _≤_, _<_}
 use native.Mathlib.Omega.{arith}
 use native.Mathlib.Nat.{zero-add, add-assoc}
@@ -49,7 +49,7 @@ module _ {W : Type 0} (on : World W) where
   turn-within Stage.Trading w bytes = event-within w bytes (readEvent bytes) (event-right bytes)
   turn-within Stage.Over w bytes = omega arith
 
-  -- ---- the turns of many
+  -- ---- what many lines come to, turn by turn
 
   -- where there are no bytes, none are taken
   pub fed-none : (n left : ℕ) (stage : Stage) (w : W) (bytes : List ℕ) → length bytes ≤ 0 → fedIn on n left stage w bytes ≡ halted on (stopAt stage) stage w
@@ -83,7 +83,7 @@ module _ {W : Type 0} (on : World W) where
       by P (ltb 0 (length bytes)) _ _
       (λ e. by P (ltb left (mostAt Stage.Over)) _ _ (λ b. absurd (let h = ltb-true left (mostAt Stage.Over) b in omega arith)) (λ b. refl)) (λ e. refl)
 
-  -- ---- one induction serves every law of many lines: none are left; the room is to be emptied first; no whole one is left; a line, and then the rest
+  -- ---- One induction serves every law of many lines. Its cases: no bytes, no room, no whole line, and a line with those behind it.
 
   module _ (P : ℕ → Stage → W → List ℕ → Fed W → Type 0)
       (none : (left : ℕ) (stage : Stage) (w : W) (xs : List ℕ) → length xs ≤ 0 → P left stage w xs (halted on (stopAt stage) stage w))
@@ -114,7 +114,7 @@ module _ {W : Type 0} (on : World W) where
 
 -- ---- the loop
 
--- what was taken and printed before, and then the rest
+-- what was taken and printed before, and then what the rest comes to
 abbrev pub onward : ℕ → List ℕ → Fed Lent → Fed Lent
 onward used text f = record { stage = f .stage; world = f .world; used = used + f .used; text = text ++ f .text; stop = f .stop }
 
@@ -128,7 +128,7 @@ pub record Going (bytes out₀ : List ℕ) (f : Fed Lent) (now : Run) (buys sell
   pub printed : Prints out₀ text wrote out
   pub rest : f ≡ onward at text (fedIn calls fuel (length out₀ - wrote) (now .stage) (lentOf (now .session) buys sells room) (drop at bytes))
 
--- before the first line
+-- before the first line, the rest is the whole
 onward-none : (f : Fed Lent) → f ≡ onward 0 [] f
 onward-none f = λ i. record { stage = f .stage; world = f .world; used = sym (zero-add (f .used)) i; text = f .text; stop = f .stop }
 
@@ -147,7 +147,7 @@ going-start bytes out now buys sells room =
       rest = rw l (onward-none _);
     }
 
--- where a run stops
+-- where the loop returns, its answer is what the definition says
 pub taken-as : {f x : Fed Lent} {out₀ buys sells room out : List ℕ} {run : Run} {used wrote : ℕ} {stop : Stop} {r : Taken} → f ≡ x →
     r ≡ takenTo run used wrote stop → run .stage ≡ x .stage → lentOf (run .session) buys sells room ≡ x .world → used ≡ x .used →
     Prints out₀ (x .text) wrote out → stop ≡ x .stop → TakenAs f out₀ buys sells room out r
@@ -175,14 +175,14 @@ module _ {bytes out₀ : List ℕ} {f : Fed Lent} {now : Run} {buys sells room o
   here : {x : Fed Lent} → further ≡ x → f ≡ onward at (g .text) x
   here e = g .rest ∙ ap (onward at (g .text)) e
 
-  -- no further line is begun
+  -- the loop returns because no further line is begun:
   halts : {stop : Stop} {r : Taken} → further ≡ halted calls stop (now .stage) lent → r ≡ takenTo now at wrote stop →
       TakenAs f out₀ buys sells room out r
   halts e q =
       let u : at ≡ at + 0 = omega arith in
       taken-as (here e) q refl refl u (subst (λ (x : List ℕ). Prints out₀ x wrote out) (sym (append-nil (g .text))) (g .printed)) refl
 
-  -- at the end of the bytes
+  -- the bytes are at their end,
   pub going-end : {r : Taken} {stop : Stop} → length bytes ≤ at → stop ≡ stopAt (now .stage) → r ≡ takenTo now at wrote stop → TakenAs f out₀ buys sells room out r
   going-end {r} h s q =
       let none : length (drop at bytes) ≤ 0 = rw (length-drop at bytes) (omega arith) in
@@ -198,7 +198,7 @@ module _ {bytes out₀ : List ℕ} {f : Fed Lent} {now : Run} {buys sells room o
     again : further ≡ fedIn calls (suc (g .fuel - 1)) left (now .stage) lent (drop at bytes)
     again = ap (λ (n : ℕ). fedIn calls n left (now .stage) lent (drop at bytes)) fuelled
 
-    -- where the room is to be emptied first
+    -- or the room must be emptied first,
     pub going-full : {r : Taken} {most : ℕ} → most ≡ mostAt (now .stage) → length out - wrote < most → r ≡ takenTo now at wrote Stop.Full → TakenAs f out₀ buys sells room out r
     going-full m h q =
         let l : left < mostAt (now .stage) = omega (arith, g .same, m) in
@@ -215,7 +215,7 @@ module _ {bytes out₀ : List ℕ} {f : Fed Lent} {now : Run} {buys sells room o
       line-printed : Prints out₀ (g .text ++ line .text) (wrote + r .wrote) out′
       line-printed = prints-then (g .printed) (k .printed)
 
-      -- where no whole line is left
+      -- or no whole line is left
       pub going-last : {x : Taken} {stop : Stop} → r .used ≡ 0 → stop ≡ stopAt (r .run .stage) → x ≡ takenTo (r .run) at (wrote + r .wrote) stop →
           TakenAs f out₀ buys′ sells′ room′ out′ x
       going-last e s q =
@@ -223,7 +223,7 @@ module _ {bytes out₀ : List ℕ} {f : Fed Lent} {now : Run} {buys sells room o
           let u : at ≡ at + 0 = omega arith in
           taken-as (here (again ∙ l)) q (k .stage) (k .world) u line-printed (s ∙ ap stopAt (k .stage))
 
-      -- the rest, as it was and as it is
+      -- what the rest comes to behind this line
       abbrev after : Fed Lent
       after = fedIn calls (g .fuel - 1) (left - length (line .text)) (line .stage) (line .world) (drop (line .used) (drop at bytes))
 
@@ -254,7 +254,7 @@ module _ {bytes out₀ : List ℕ} {f : Fed Lent} {now : Run} {buys sells room o
           onward (at + sym (k .used) i) (g .text ++ line .text)
           (fedIn calls (g .fuel - 1) (lefts i) (sym (k .stage) i) (sym (k .world) i) (drops i))
 
-      -- after a line
+      -- a line was taken, and the loop goes on with the rest
       pub going-on : (r .used ≡ 0 → ⊥) → length out′ ≡ length out → Going bytes out₀ f (r .run) buys′ sells′ room′ out′ (at + r .used) (wrote + r .wrote)
       going-on e same =
           record {
@@ -268,7 +268,7 @@ module _ {bytes out₀ : List ℕ} {f : Fed Lent} {now : Run} {buys sells room o
             rest = here (again ∙ ahead-is e) ∙ joined ∙ moved;
           }
 
--- ---- a line from a place on
+-- ---- the line that begins at a place
 
 pub line-taken : {run : Run} {buys sells room bytes : List ℕ} {at wrote : ℕ} {out buys′ sells′ room′ part′ : List ℕ} {r : Turned} →
     TurnTaken run buys sells room (take (length bytes - at) (drop at bytes)) (take (length out - wrote) (drop wrote out)) buys′ sells′ room′ part′ r →

@@ -1,4 +1,4 @@
--- A right answer stays right when more bytes follow, but for "unfinished".
+-- A right answer stays right when more bytes follow, unless it was "unfinished".
 use Prim.Native.Nat.{ℕ, _+_, _-_, _≤_, _<_}
 use native.Mathlib.Omega.{arith}
 use mathlib.Core.Path.{_≡_, refl, sym, ap, _∙_, subst}
@@ -12,7 +12,7 @@ use Rattle.lines_text_law.specs.Grammar.{Answer, whole, unfinished, wrong}
 use Rattle.lines_text_law.specs.Reading.{Begins, Contains, Right}
 
 module _ {E : Type 0} (L : E → List ℕ → Type 0) where
-  -- a start of what begins a line begins one
+  -- every start of bytes that begin a line begins one too
   begins-start : (b : List ℕ) (n : ℕ) → Begins L b → Begins L (take n b)
   begins-start b n (e, rest, l) =
       (e, drop n b ++ rest, subst (L e) (ap (λ (x : List ℕ). x ++ rest) (sym (take-append-drop n b)) ∙ append-assoc (take n b) (drop n b) rest) l)

@@ -1,4 +1,4 @@
--- Feeding bytes in pieces prints what feeding them whole prints.
+-- Bytes that are fed in pieces print what they print when they are fed whole.
 use Prim.Native.Nat.{ℕ, zero, suc, _+_, _-_, _≤_}
 use native.Mathlib.Omega.{arith}
 use mathlib.Core.Path.{_≡_, refl, sym, ap, _∙_, subst}
@@ -29,7 +29,7 @@ use Rattle.feed_law.specs.Pieces.{PiecesPrintTheWhole, EndPrintsTheRest}
 use Rattle.feed_law.proofs.Longer.{right-longer}
 use Rattle.feed_law.proofs.Going.{turn-within, fed-by}
 
--- ---- reading: no bytes are the start of a line, so no line has no bytes
+-- ---- reading: where there are no bytes the answer is "unfinished", so every line has at least one byte
 
 no-settings : readSettings [] ≡ unfinished
 unfolding readSettings at settingsGrammar word
@@ -86,14 +86,14 @@ module _ {W : Type 0} (on : World W) where
     sort Stage.Trading = event-sort (readEvent xs) refl (event-right xs)
     sort Stage.Over = waiting refl
 
-  -- ---- no bytes, no line
+  -- ---- where there are no bytes, no line is taken
 
   turn-none : (stage : Stage) (w : W) → turnOf on stage w [] ≡ waits on stage w
   turn-none Stage.Awaiting w = ap (settingsTurn on w) no-settings
   turn-none Stage.Trading w = ap (eventTurn on w) no-event
   turn-none Stage.Over w = refl
 
-  -- ---- what is printed, a line at a time
+  -- ---- what is printed, line by line
 
   abbrev after : Turn W → List ℕ → List ℕ → List ℕ
   after t s rest = t .text ++ cond (eqb (t .used) 0) (endText (t .stage) (length s)) rest
@@ -104,7 +104,7 @@ module _ {W : Type 0} (on : World W) where
   none-printed (suc m) stage w [] h = rw (turn-none stage w)
   none-printed (suc m) stage w (x ∷ s) h = absurd (let z : suc (length s) ≤ 0 = h in omega arith)
 
-  -- as many lines as there are bytes are enough
+  -- every n that is at least the number of bytes gives the same text
   enough : (n m : ℕ) (stage : Stage) (w : W) (s : List ℕ) → length s ≤ n → length s ≤ m → printedIn on n stage w s ≡ printedIn on m stage w s
   unfolding printedIn
   enough zero m stage w s h k = sym (none-printed m stage w s h)
@@ -133,13 +133,13 @@ module _ {W : Type 0} (on : World W) where
       let a : length (drop (t .used) s) ≤ length l = omega (arith, u) in
       rw e (ap (λ (y : List ℕ). t .text ++ y) (enough (length l) (length (drop (t .used) s)) (t .stage) (t .world) (drop (t .used) s) a (omega arith))))
 
-  -- after the end nothing
+  -- after the end of the run nothing is printed
   over-silent : (w : W) (s : List ℕ) → printedFrom on Stage.Over w s ≡ []
   over-silent w s = printed-turn Stage.Over w s
 
-  -- ---- so
+  -- ---- what follows
 
-  -- what is printed for the whole, as a feed of its first bytes and what is left
+  -- what is printed for the whole is what a feed of its first bytes prints, and then what is printed for the bytes that are left
   abbrev Whole : Stage → W → List ℕ → List ℕ → Fed W → Type 0
   Whole stage w xs ys f = printedFrom on stage w (xs ++ ys) ≡ f .text ++ printedFrom on (f .stage) (f .world) (drop (f .used) xs ++ ys)
 
@@ -147,7 +147,7 @@ module _ {W : Type 0} (on : World W) where
     abbrev t : Turn W
     t = turnOf on stage w xs
 
-    -- a bad line: it is told, and then nothing
+    -- a bad line is told, and then nothing is printed
     bad : (place : ℕ) → t ≡ ends on w place → turnOf on stage w (xs ++ ys) ≡ ends on w place → Whole stage w xs ys (lastly on t)
     bad place e l =
         printed-turn stage w (xs ++ ys)
@@ -155,7 +155,7 @@ module _ {W : Type 0} (on : World W) where
         ∙ ap (λ (x : List ℕ). ends on w place .text ++ x) (sym (over-silent w (xs ++ ys)))
         ∙ ap (λ (x : Turn W). x .text ++ printedFrom on (x .stage) (x .world) (xs ++ ys)) (sym e)
 
-    -- a line: it is the same with more behind it
+    -- a line comes to the same with more bytes behind it
     on-with : (f : Fed W) → (t .used ≡ 0 → ⊥) → turnOf on stage w (xs ++ ys) ≡ t → Whole (t .stage) (t .world) (drop (t .used) xs) ys f →
         Whole stage w xs ys (ahead on t f)
     on-with f u l k =
@@ -186,7 +186,7 @@ module _ {W : Type 0} (on : World W) where
 
   -- ---- the end
 
-  -- unless the room is to be emptied first, what is left to be printed is what the end prints
+  -- unless the room must be emptied first, what is left to be printed is what the end prints
   abbrev pub Rest : List ℕ → Fed W → Type 0
   Rest xs f = (f .stop ≡ Stop.Full → ⊥) → printedFrom on (f .stage) (f .world) (drop (f .used) xs) ≡ endText (f .stage) (length xs - f .used)
 
@@ -222,7 +222,7 @@ module _ {W : Type 0} (on : World W) where
       (λ left stage w xs h z _. last-rest stage w xs (sort w xs [] stage) z) (λ left stage w xs f u k. ahead-rest stage w xs f k)
       (length xs) left stage w xs (omega arith)
 
-  -- why the lines stopped: the room is to be emptied, or by where the run stands
+  -- the lines stopped because the room must be emptied, or for the reason that goes with where the run stands
   data Stopped (f : Fed W) : Type 0 where
     full : f .stop ≡ Stop.Full → Stopped f
     stands : f .stop ≡ stopAt (f .stage) → Stopped f
@@ -244,7 +244,7 @@ module _ {W : Type 0} (on : World W) where
       go (full e) = absurd (went e)
       go (stands e) = e
 
-  -- lines, and the end behind them
+  -- the lines and the end behind them print what is printed for all the bytes
   module _ (left : ℕ) (stage : Stage) (w : W) (xs : List ℕ) (f : Fed W)
       (lines : printedFrom on stage w xs ≡ f .text ++ printedFrom on (f .stage) (f .world) (drop (f .used) xs)) (end : Rest xs f) where
     abbrev Told : Fed W → Type 0

@@ -1,4 +1,4 @@
--- What is printed into an output room: a writer's line, a record's, and one text behind another.
+-- What is printed into an output room: the line of a writer, the line of a record, and one text behind another.
 use Prim.Native.Nat.{ℕ, zero, suc, _+_, _-_, _*_, _≤_}
 use native.Mathlib.Omega.{arith}
 use native.Mathlib.Nat.{le-of-eq, le-antisymm}
@@ -54,11 +54,11 @@ module _ {out line ns out′ : List ℕ} {w : Wrote} (long : lineRoom ≤ length
         laid = k .laid ∙ ap (λ (x : Verdict). roomOf x line out) v;
       }
 
-  -- it prints the line where each number can be written, and else nothing
+  -- a writer prints the line where each of its numbers can be written, and else nothing
   pub writes-prints : (n : ℕ) → n ≡ wroteLength w → Prints out (written ns line) n out′
   writes-prints n q = by-verdict n q (allWritable ns) refl
 
--- ---- a record's
+-- ---- a record's line
 
 -- what is read at a place of the room is what its numbers tell
 pub record-found : (room : List ℕ) (at : ℕ) (r : ReadRecord) → at + recordLength ≤ length room →
@@ -69,7 +69,7 @@ record-found room at r h k =
     let l : recordLength ≤ length s = rw (length-drop at room) (omega arith) in
     ap toldText (told-first s r l k)
 
--- no line is longer than the room that a writer asks for
+-- no report's line is longer than a line room
 text-short : (r : Report) → length (reportText r) ≤ lineRoom
 unfolding reportText
 text-short r =
@@ -84,7 +84,7 @@ pub record-short : (ns : List ℕ) → length (recordText ns) ≤ lineRoom
 unfolding recordText
 record-short ns = told-short (reportIn ns)
 
--- the record at a place, printed or passed over
+-- the record at a place is printed, or passed over where it is no report's
 module _ {room : List ℕ} {at : ℕ} (r : ReadRecord) {out : List ℕ} (there : at + recordLength ≤ length room)
     (k : RecordRead (take recordLength (drop at room)) r) where
   told : {n : ℕ} {out′ : List ℕ} → Prints out (toldText r) n out′ → RecordTold room at out n out′
@@ -102,7 +102,7 @@ module _ {room : List ℕ} {at : ℕ} (r : ReadRecord) {out : List ℕ} (there :
 
 -- ---- one text behind another
 
--- what was printed into the part of the room that is left
+-- what is printed into the rest of the room is printed from that place on
 pub part-prints : {out text part′ : List ℕ} {n m : ℕ} → Prints (take (length out - n) (drop n out)) text m part′ →
     PrintsFrom n out text m (putMid n (length out - n) out part′)
 part-prints {out} {text} {part′} {n} {m} p =
@@ -113,7 +113,7 @@ part-prints {out} {text} {part′} {n} {m} p =
       laid = rw (none, append-nil part′) (ap (λ (x : List ℕ). take n out ++ x) (p .laid ∙ ap (λ (x : List ℕ). laid x text) part));
     }
 
--- a text, and then one behind it
+-- two texts printed one behind the other are printed as one
 pub prints-then : {out text out₁ more out₂ : List ℕ} {n m : ℕ} → Prints out text n out₁ → PrintsFrom n out₁ more m out₂ → Prints out (text ++ more) (n + m) out₂
 prints-then {out} {text} {out₁} {more} {out₂} {n} {m} a b =
     let t : take n out₁ ≡ text = ap (take n) (a .laid) ∙ rw (a .count) (take-append-seam text (drop (length text) out)) in
@@ -128,7 +128,7 @@ prints-then {out} {text} {out₁} {more} {out₂} {n} {m} a b =
           ∙ rw (drop-drop (length more) (length text) out, length-append text more) (sym (append-assoc text more _));
     }
 
--- it is no longer than what is left of the room
+-- a text printed from a place on ends within the room
 pub from-within : {out text out′ : List ℕ} {n m : ℕ} → n ≤ length out → length out′ ≡ length out → PrintsFrom n out text m out′ → n + m ≤ length out
 from-within {out} {text} {out′} {n} {m} h e p =
     let l : length out′ ≡ n + (length text + length (drop (length text) (drop n out))) =
@@ -136,7 +136,7 @@ from-within {out} {text} {out′} {n} {m} h e p =
     let c = p .count in
     omega arith
 
--- the lines of one record more
+-- the lines of one record more are those before and its own
 snoc : (n : ℕ) (room : List ℕ) → recordsText (suc n) room ≡ recordsText n room ++ recordText (drop (recordLength * n) room)
 unfolding recordsText
 snoc zero room = append-nil (recordText room)
@@ -148,7 +148,7 @@ snoc (suc n) room =
     ∙ sym (append-assoc (recordText room) (recordsText n (drop recordLength room)) more)
     ∙ rw e
 
--- the loop over the records: i of them are told, and the next stands at `at`
+-- the loop over the records: the lines of the first i are printed, and the next record stands at `at`
 pub record Telling (room out₀ : List ℕ) (i at wrote : ℕ) (out : List ℕ) : Type 0 where
   pub next : at ≡ recordLength * i
   pub few : wrote ≤ lineRoom * i
@@ -184,7 +184,7 @@ prints-within {out} {text} p e =
 
 -- ---- the lines of reports
 
--- a report's record has the report's line, whatever follows it
+-- the line of a report's record is the report's line, whatever follows it
 record-line : (l : List ℕ) (r : Report) → recordText (recordOf r ++ l) ≡ reportText r
 unfolding recordText
 record-line l r = ap toldText (told-front r l)
@@ -197,7 +197,7 @@ lines-of (r ∷ rs) l =
     let d : drop recordLength (recordOf r ++ (recordsOf rs ++ l)) ≡ recordsOf rs ++ l = drop-at (recordOf r) (recordsOf rs ++ l) recordLength (length-record r) in
     rw (e, d, record-line (recordsOf rs ++ l) r, lines-of rs l)
 
--- the records that a call leaves in its room
+-- the lines of the records that a call leaves in its room are those of its reports
 pub records-line : (rs : List Report) (room : List ℕ) → recordsText (length rs) (put room 0 (recordsOf rs)) ≡ reportsText rs
 unfolding put
 records-line rs room = lines-of rs _

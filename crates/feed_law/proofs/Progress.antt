@@ -1,4 +1,4 @@
--- In a room that whatever an event prints fits in, every call takes a line where there is one.
+-- In a room that can hold whatever an event prints, every call takes a line where there is one.
 use Prim.Native.Nat.{ℕ, _+_, _-_, _≤_, _<_}
 use native.Mathlib.Omega.{arith}
 use mathlib.Core.Path.{_≡_, refl, sym, _∙_}
@@ -60,7 +60,7 @@ module _ {W : Type 0} (on : World W) where
   turn-silent Stage.Trading w xs u s = event-silent w xs (readEvent xs) (event-right xs) u s
   turn-silent Stage.Over w xs u s = absurd (not-waits s)
 
-  -- where no line was taken, the room was too short, or nothing was printed
+  -- where no line was taken, the room was too short or nothing was printed
   record Moves (left : ℕ) (f : Fed W) : Type 0 where
     full : f .stop ≡ Stop.Full → textMost ≤ left → 0 < f .used
     silent : f .stop ≡ Stop.Waits → f .used ≡ 0 → length (f .text) ≡ 0
@@ -81,7 +81,7 @@ module _ {W : Type 0} (on : World W) where
       record { full = λ e k. some (turnOf on stage w xs .used) (f .used) u; silent = λ s e. absurd (none (turnOf on stage w xs .used) (f .used) u e) })
       (length xs) left stage w xs (omega arith)
 
-  -- so it is at the end
+  -- where the end has no room to be told, something was taken before
   waited : (left : ℕ) (f : Fed W) → textMost ≤ left → (f .used ≡ 0 → length (f .text) ≡ 0) → left - length (f .text) < lineRoom → 0 < f .used
   waited left f k h c =
       cases (eqb (f .used) 0) (λ e. let n = h (eqb-true (f .used) 0 e) in absurd (omega arith)) (λ e. let n = eqb-false (f .used) 0 e in omega (arith, n))

@@ -1,4 +1,4 @@
--- What the program says of refused events and bad lines is always said: the numbers can be written. (Reports: `promises`, `calls-writable`.)
+-- The lines for refused events and bad lines are always printed, since their numbers can be written. (Reports: `promises`, `calls-writable`.)
 use Prim.Native.Nat.{ℕ, _≤_}
 use native.Mathlib.Omega.{arith}
 use mathlib.Core.Path.{_≡_}
@@ -41,7 +41,7 @@ refused-said s e n r q =
     let w = (rw q at (event-right s)) .1 .1 in
     rw (writable-tested (refusedFigures (e .time) r) (w .0, (number-small r, tt)))
 
--- so has a place within nine digits
+-- so can a place of at most nine digits
 pub bad-said : (r : Refusal) (place : ℕ) → place ≤ writtenMost → badText r place ≡ renderBad r place
 unfolding badText
 bad-said r place h = rw (writable-tested (badFigures r place) (number-small r, (h, tt)))

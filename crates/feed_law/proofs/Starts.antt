@@ -1,4 +1,4 @@
--- What a feed takes is there, and what it leaves is the start of a line, which is short.
+-- A feed takes no more bytes than there are, and what it leaves is the start of a line, which is short.
 use Prim.Native.Nat.{ℕ, _+_, _≤_}
 use native.Mathlib.Omega.{arith}
 use mathlib.Core.Path.{_≡_, refl, sym, ap, _∙_}
@@ -45,7 +45,7 @@ not-full : Stop.Full ≡ Stop.Waits → ⊥
 not-full p = let z : _≡_ {A = ℕ} 0 1 = cc in omega arith
 
 module _ {W : Type 0} (on : World W) where
-  -- ---- what waits is a start
+  -- ---- where no whole line is there, the bytes are the start of one
 
   settings-waits : (w : W) (xs : List ℕ) (o : Answer Settings) → Right SettingsLine xs o → settingsTurn on w o .used ≡ 0 →
       stopAt (settingsTurn on w o .stage) ≡ Stop.Waits → length xs ≤ lineRoom
@@ -65,7 +65,7 @@ module _ {W : Type 0} (on : World W) where
   turn-waits Stage.Trading w xs u s = event-waits w xs (readEvent xs) (event-right xs) u s
   turn-waits Stage.Over w xs u s = absurd (not-waits s)
 
-  -- ---- so of many lines
+  -- ---- the same for many lines
 
   abbrev Left : List ℕ → Fed W → Type 0
   Left xs f = (f .used ≤ length xs) × (f .stop ≡ Stop.Waits → length (drop (f .used) xs) ≤ lineRoom)
@@ -97,7 +97,7 @@ module _ {W : Type 0} (on : World W) where
   end-used Stop.Over left rest f = refl
   end-used (Stop.Refused r) left rest f = refl
 
-  -- nor does it act on anything
+  -- nor does it change what the lines act on
   pub end-world : (s : Stop) (left rest : ℕ) (f : Fed W) → endBy on s left rest f .world ≡ f .world
   end-world Stop.Waits left rest f = by (λ (x : Fed W). x .world ≡ f .world) (ltb left lineRoom) _ _ (λ _. refl) (λ _. refl)
   end-world Stop.Full left rest f = refl

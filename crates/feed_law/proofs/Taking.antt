@@ -1,4 +1,4 @@
--- What the functions of a line leave, by what the line was read as.
+-- What each function of a line leaves is a turn of the definition, by what the line was read as.
 use Prim.Native.Nat.{ℕ, _*_, _≤_}
 use native.Mathlib.Omega.{arith}
 use mathlib.Core.Path.{_≡_, refl, sym, ap, _∙_, subst}
@@ -38,7 +38,7 @@ use Rattle.feed_law.specs.Feeds.{Prints, turnBy, turnedTo, TurnedAs, Tab
 use Rattle.feed_law.proofs.Prints.{records-line, prints-within}
 use Rattle.feed_law.proofs.Going.{turn-within}
 
--- ---- a turn's parts, each as it has to be
+-- ---- a turn is put together from its parts
 
 turned-as : {t : Turn Lent} {out buys sells room out′ : List ℕ} {r : Turned} {stage : Stage} {session : Session} {used wrote : ℕ} →
     r ≡ turnedTo stage session used wrote → stage ≡ t .stage → lentOf session buys sells room ≡ t .world → used ≡ t .used → Prints out (t .text) wrote out′ →
@@ -51,18 +51,18 @@ turned-as {t} {out} {buys} {sells} {room} {out′} e s w u p =
       printed = subst (λ (x : Turned). Prints out (t .text) (x .wrote) out′) (sym e) p;
     }
 
--- nothing printed leaves the room as it was
+-- where nothing is printed, the room stays as it was
 nothing : (out : List ℕ) → Prints out [] 0 out
 nothing out = record { count = refl; laid = refl }
 
 -- ---- settings
 
--- a bad line
+-- a bad line ends the run
 pub ends-here : {session : Session} {place wrote : ℕ} {out out′ : List ℕ} {r : Turned} →
     Prints out (badText LineWrong place) wrote out′ → r ≡ turnedTo Stage.Over session 0 wrote → BadTurned session place out out′ r
 ends-here p e = record { turned = λ buys sells room. turned-as e refl refl refl p }
 
--- an opening
+-- settings that were read are opened or refused
 module _ (g : Settings) (o : Opened) (used : ℕ) (opened : o ≡ openingOf g) where
   judged : {v : Verdict} → o .verdict ≡ v → openingOf g .verdict ≡ v
   judged e = ap (λ (x : Opened). x .verdict) (sym opened) ∙ e
@@ -81,7 +81,7 @@ module _ (g : Settings) (o : Opened) (used : ℕ) (opened : o ≡ openingOf g) w
   opens-refused v p e =
       record { turned = λ buys sells room. turned-as e (sym (ap stageBy (judged v))) (kept buys sells room) refl (rw (judged v) p) }
 
--- what the reader answers decides
+-- each answer of the reader of settings is one case
 module _ {session : Session} {bytes : List ℕ} {a : ReadSettings} (read : SettingsRead bytes a) where
   by-settings : {out out′ : List ℕ} {r : Turned} (o : Answer Settings) → settingsAnswer a ≡ o →
       TablesAside session (λ l. settingsTurn calls l o) out out′ r → SettingsTurned session bytes out out′ r
@@ -141,7 +141,7 @@ module _ {s : Session} {e : Event} {buys sells room buys′ sells′ room′ : L
   abbrev verdict : Verdict
   verdict = called s e buys sells room .verdict
 
-  -- a count is that of the reports of an event that is not refused
+  -- where a count is answered, the event was not refused, and the count is that of its reports
   counted : (v : Verdict) (n count : ℕ) → answerBy v n ≡ Reply.Reported count → (v ≡ Fine) × (count ≡ n)
   counted Fine n count q = (refl, (cc))
   counted (Refused r) n count q = absurd (let z : _≡_ {A = ℕ} 0 1 = cc in omega arith)
@@ -153,7 +153,7 @@ module _ {s : Session} {e : Event} {buys sells room buys′ sells′ room′ : L
   by-count : {count : ℕ} → p .answer ≡ Reply.Reported count → (verdict ≡ Fine) × (count ≡ length reports)
   by-count q = counted verdict (length reports) _ (sym (k .answer) ∙ q)
 
-  -- the room holds the records, and the output room their lines
+  -- the report room holds all records that are counted, and the output room can hold their lines
   pub reports-held : {count : ℕ} → p .answer ≡ Reply.Reported count → length room′ ≡ length room → recordLength * count ≤ length room′
   unfolding roomy
   reports-held q h =
@@ -173,7 +173,7 @@ module _ {s : Session} {e : Event} {buys sells room buys′ sells′ room′ : L
   left = λ i. lentOf (k .session i) (k .bought i) (k .sold i) (k .told i)
 
   module _ {used wrote : ℕ} {out out′ : List ℕ} {r : Turned} (h : r ≡ turnedTo Stage.Trading (p .session) used wrote) where
-    -- its reports are told
+    -- the reports of an accepted event are printed,
     pub goes-told : {count : ℕ} → p .answer ≡ Reply.Reported count → Prints out (recordsText count room′) wrote out′ →
         WholeTurned s e used buys sells room out buys′ sells′ room′ out′ r
     unfolding calls
@@ -183,7 +183,7 @@ module _ {s : Session} {e : Event} {buys sells room buys′ sells′ room′ : L
         (λ i. recordsText (c .1 i) (k .told i)) ∙ records-line reports room ∙ ap (λ (v : Verdict). eventText e v reports) (sym (c .0)) in
         record { turned = turned-as h refl left refl (subst (λ (x : List ℕ). Prints out x wrote out′) text t) }
 
-    -- or its refusal
+    -- or its refusal is
     pub goes-refused : {n : Refusal} → p .answer ≡ Reply.Refused n → Prints out (refusedText (e .time) n) wrote out′ →
         WholeTurned s e used buys sells room out buys′ sells′ room′ out′ r
     unfolding calls
@@ -194,7 +194,7 @@ module _ {s : Session} {e : Event} {buys sells room buys′ sells′ room′ : L
 
 -- ---- by where the run stands
 
--- what a line may print fits
+-- what the next line can print fits in the room
 pub most-awaiting : {stage : Stage} {n : ℕ} → stage ≡ Stage.Awaiting → mostAt stage ≤ n → lineRoom ≤ n
 most-awaiting e h = rw e at h
 
@@ -211,7 +211,7 @@ module _ {run : Run} {buys sells room bytes : List ℕ} where
       let w = turn-within calls (run .stage) (lentOf (run .session) buys sells room) bytes in
       record { turned = t; used-there = rw (t .used) w; wrote-there = prints-within (t .printed) kept }
 
-  -- by the line that is due
+  -- the turn is that of the line that is due: settings, an event, or nothing more
   pub turn-settings : {out out′ : List ℕ} {r : Turned} → run .stage ≡ Stage.Awaiting → SettingsTurned (run .session) bytes out out′ r →
       length out′ ≡ length out → TurnTaken run buys sells room bytes out buys sells room out′ r
   turn-settings e k kept = in-stage Stage.Awaiting e (k .turned buys sells room) kept

@@ -1,4 +1,4 @@
--- The calls of this crate on lent numbers: what each is answered, and what it leaves.
+-- The calls of feed, feed_turns and feed_prints on lent numbers: what each answers, and what it leaves.
 use Prim.Native.Nat.{ℕ, _+_, _≤_}
 use mathlib.Core.Path.{_≡_}
 use mathlib.Core.List.{List, [], _∷_, _++_}
@@ -25,16 +25,16 @@ use Rattle.feed_law.specs.Texts.{recordText, endText}
 use Rattle.feed_law.specs.Worlds.{Lent, lentOf, calls}
 use Rattle.feed_law.specs.Turns.{Turn, ends, openTurn, settingsTurn, eventTurn, turnOf, Fed, halted, fedIn, endBehind}
 
--- text at the start of an output room, the rest of which is untouched
+-- an output room with text at its start and the rest untouched
 abbrev pub laid : List ℕ → List ℕ → List ℕ
 laid out text = text ++ drop (length text) out
 
--- text was written into out, which is out′ afterwards, and its length was answered
+-- text was printed into out, which is out′ afterwards, and its length was answered
 pub record Prints (out text : List ℕ) (wrote : ℕ) (out′ : List ℕ) : Type 0 where
   pub count : wrote ≡ length text
   pub laid : out′ ≡ laid out text
 
--- the same from place n of the room on
+-- the same, from place n of the room on
 pub record PrintsFrom (n : ℕ) (out text : List ℕ) (wrote : ℕ) (out′ : List ℕ) : Type 0 where
   pub count : wrote ≡ length text
   pub laid : out′ ≡ take n out ++ laid (drop n out) text
@@ -48,7 +48,7 @@ pub record RecordTold (room : List ℕ) (at : ℕ) (out : List ℕ) (wrote : ℕ
   pub printed : Prints out (recordText (drop at room)) wrote out′
   pub short : wrote ≤ lineRoom
 
--- how many bytes a writer wrote
+-- how many bytes a writer wrote: none where it refused
 abbrev pub wroteLength : Wrote → ℕ
 wroteLength (Wrote.Written n) = n
 wroteLength (Wrote.Refused r) = 0
@@ -72,11 +72,11 @@ pub record TurnedAs (t : Turn Lent) (out buys′ sells′ room′ out′ : List 
   pub used : r .used ≡ t .used
   pub printed : Prints out (t .text) (r .wrote) out′
 
--- a turn that touches no table: so it is whatever they hold
+-- the tables play no part in this turn: it is the same whatever they hold
 abbrev pub TablesAside : Session → (Lent → Turn Lent) → List ℕ → List ℕ → Turned → Type 0
 TablesAside s t out out′ r = (buys sells room : List ℕ) → TurnedAs (t (lentOf s buys sells room)) out buys sells room out′ r
 
--- THE CONTRACTS of a bad line, of whole settings, and of a whole event
+-- THE CONTRACTS of a bad line, of a whole line of settings, and of a whole line of an event
 pub record BadTurned (session : Session) (place : ℕ) (out out′ : List ℕ) (r : Turned) : Type 0 where
   pub turned : TablesAside session (λ l. ends calls l place) out out′ r
 
@@ -86,7 +86,7 @@ pub record OpenTurned (settings : Settings) (used : ℕ) (out out′ : List ℕ)
 pub record WholeTurned (session : Session) (event : Event) (used : ℕ) (buys sells room out buys′ sells′ room′ out′ : List ℕ) (r : Turned) : Type 0 where
   pub turned : TurnedAs (eventTurn calls (lentOf session buys sells room) (whole event used)) out buys′ sells′ room′ out′ r
 
--- THE CONTRACTS of a line of settings, of an event's line, and of either
+-- THE CONTRACTS of the line of settings that is due, of the line of an event that is due, and of whichever is due
 pub record SettingsTurned (session : Session) (bytes out out′ : List ℕ) (r : Turned) : Type 0 where
   pub turned : TablesAside session (λ l. settingsTurn calls l (readSettings bytes)) out out′ r
 
@@ -98,7 +98,7 @@ pub record TurnTaken (run : Run) (buys sells room bytes out buys′ sells′ roo
   pub used-there : r .used ≤ length bytes
   pub wrote-there : r .wrote ≤ length out
 
--- the same of the line from a place of the bytes on, printed behind what was written
+-- the same for the line from a place of the bytes on, printed behind what was written before
 pub record LineTaken (run : Run) (buys sells room bytes : List ℕ) (at wrote : ℕ) (out buys′ sells′ room′ out′ : List ℕ) (r : Turned) : Type 0 where
   pub stage : r .run .stage ≡ turnBy run buys sells room (drop at bytes) .stage
   pub world : lentOf (r .run .session) buys′ sells′ room′ ≡ turnBy run buys sells room (drop at bytes) .world
@@ -109,15 +109,15 @@ pub record LineTaken (run : Run) (buys sells room bytes : List ℕ) (at wrote : 
 
 -- ---- all lines
 
--- what a run comes to with both tables, the report room, some bytes and the output room
+-- what a run comes to on both tables, the report room, some bytes and the output room
 abbrev pub Feed : Type 0
 Feed = Run → List ℕ → List ℕ → List ℕ → List ℕ → List ℕ → Fed Lent
 
--- 1: the tables and the room are long enough for any event
+-- row 1: the tables and the report room must be long enough for any event
 unfoldable pub feedVerdict : List ℕ → List ℕ → List ℕ → Verdict
 feedVerdict buys sells room = firstFailed (unless SmallRoom (roomy buys sells room) ∷ [])
 
--- the lines that there is room for
+-- the lines of the bytes that there is room for; none where row 1 refuses
 abbrev pub linesOf : Feed
 linesOf run buys sells room bytes out = fedIn calls (length bytes) (length out) (run .stage) (lentOf (run .session) buys sells room) bytes
 
@@ -128,11 +128,11 @@ fedBy (Refused r) run buys sells room bytes out = halted calls (Stop.Refused r) 
 unfoldable pub fedOf : Feed
 fedOf run buys sells room bytes out = fedBy (feedVerdict buys sells room) run buys sells room bytes out
 
--- and then the end of the input
+-- these lines, and then the end of the input
 unfoldable pub endedOf : Feed
 endedOf run buys sells room bytes out = endBehind calls (length out) (length bytes) (fedOf run buys sells room bytes out)
 
--- what was answered and what every lent slice holds, each by an equation
+-- each answer, and what every lent slice holds afterwards, by an equation
 pub record TakenAs (f : Fed Lent) (out buys′ sells′ room′ out′ : List ℕ) (r : Taken) : Type 0 where
   pub stage : r .run .stage ≡ f .stage
   pub world : lentOf (r .run .session) buys′ sells′ room′ ≡ f .world
@@ -140,7 +140,7 @@ pub record TakenAs (f : Fed Lent) (out buys′ sells′ room′ out′ : List �
   pub printed : Prints out (f .text) (r .wrote) out′
   pub stop : r .stop ≡ f .stop
 
--- THE CONTRACT of `take_lines`, where it is `fedOf`, and of `take_end`, where it is `endedOf`
+-- THE CONTRACT of `take_lines`, with `fedOf`, and of `take_end`, with `endedOf`
 pub record TakenBy (of : Feed) (run : Run)
     (buys sells room bytes out buys′ sells′ room′ out′ : List ℕ) (r : Taken) : Type 0 where
   pub taken : TakenAs (of run buys sells room bytes out) out buys′ sells′ room′ out′ r
@@ -150,7 +150,7 @@ pub record TakenBy (of : Feed) (run : Run)
 abbrev pub takenTo : Run → ℕ → ℕ → Stop → Taken
 takenTo run used wrote stop = record { run = run; used = used; wrote = wrote; stop = stop }
 
--- what the end of the input makes of lines that were taken: of whatever they come to, and whatever the tables hold
+-- what the end of the input adds to lines that were taken, whatever these came to and whatever the tables hold
 pub record EndsBehind (t : Taken) (bytes : ℕ) (out out′ : List ℕ) (r : Taken) : Type 0 where
   pub ends :
       (f : Fed Lent) (out₀ buys sells room : List ℕ) → TakenAs f out₀ buys sells room out t → length out ≡ length out₀ →

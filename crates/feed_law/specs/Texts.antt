@@ -22,14 +22,14 @@ use Rattle.feed_law.specs.declared.Stage.{Stage}
 abbrev pub textMost : ℕ
 textMost = reportsMost * lineRoom
 
--- the most that the next line can print, by where the run stands: the answer to settings that are bad or refused; the reports of an
--- event; nothing
+-- the most that the next line can print, by where the run stands: a line about settings that are bad or refused; the reports of an event;
+-- nothing
 abbrev pub mostAt : Stage → ℕ
 mostAt Stage.Awaiting = lineRoom
 mostAt Stage.Trading = textMost
 mostAt Stage.Over = 0
 
--- a line, where each of its numbers can be written
+-- the text of a line: the line itself where each of its numbers can be written, else nothing
 abbrev pub written : List ℕ → List ℕ → List ℕ
 written numbers line = cond (allWritable numbers) line []
 
@@ -52,32 +52,32 @@ refusedText time r = written (refusedFigures time r) (renderRefused time r)
 unfoldable pub badText : Refusal → ℕ → List ℕ
 badText r place = written (badFigures r place) (renderBad r place)
 
--- ---- by what a line of input is answered
+-- ---- what is printed for a line of input, by its answer
 
--- an event: its reports, or its refusal
+-- an event prints its reports, or its refusal
 abbrev pub eventText : Event → Verdict → List Report → List ℕ
 eventText e Fine rs = reportsText rs
 eventText e (Refused r) rs = refusedText (e .time) r
 
--- settings: nothing; "refused settings print 12 or 13 with at=0"
+-- settings print nothing; "refused settings print 12 or 13 with at=0"
 abbrev pub settingsText : Verdict → List ℕ
 settingsText Fine = []
 settingsText (Refused r) = badText r 0
 
--- the end of the input, with so many bytes behind the last line: "Bytes after the last newline that begin a line print code=14 with
--- their count; so does input with no settings line. Input that ends after a whole line prints nothing more."
+-- What the end of the input prints, where n bytes stand behind the last line: "Bytes after the last newline that begin a line print code=14
+-- with their count; so does input with no settings line. Input that ends after a whole line prints nothing more."
 abbrev pub endText : Stage → ℕ → List ℕ
 endText Stage.Awaiting n = badText LineUnfinished n
 endText Stage.Trading n = cond (eqb n 0) [] (badText LineUnfinished n)
 endText Stage.Over n = []
 
--- ---- records: the lines of the first so many in a room
+-- ---- records: the lines of the first n records in a room
 
 abbrev pub toldText : ReadRecord → List ℕ
 toldText (ReadRecord.Told r) = reportText r
 toldText ReadRecord.Nothing = []
 
--- the line of the record that the first six of some numbers are; of numbers that are no report's, none
+-- the line of the record that the first six numbers are, or nothing where they are no report's
 unfoldable pub recordText : List ℕ → List ℕ
 recordText ns = toldText (reportIn ns)
 

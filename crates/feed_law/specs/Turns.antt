@@ -19,14 +19,14 @@ use Rattle.feed_law.specs.declared.Stop.{Stop}
 use Rattle.feed_law.specs.Texts.{mostAt, eventText, settingsText, badText, endText}
 use Rattle.feed_law.specs.Worlds.{World, days}
 
--- where a run stands after the first line of some bytes: how many bytes that line has, 0 where none was taken; and what it prints
+-- what the first line of some bytes comes to: where the run stands then, how many bytes the line has (0 where none was taken), what it prints
 pub record Turn (W : Type 0) : Type 0 where
   pub stage : Stage
   pub world : W
   pub used : ℕ
   pub text : List ℕ
 
--- where a run stands after many lines, and why it stopped
+-- what many lines come to: where the run stands then, how many bytes were taken, what is printed, and why no more were taken
 pub record Fed (W : Type 0) : Type 0 where
   pub stage : Stage
   pub world : W
@@ -47,11 +47,11 @@ stopAt Stage.Over = Stop.Over
 module _ {W : Type 0} (on : World W) where
   -- ---- one line
 
-  -- no whole line is there yet
+  -- the bytes hold no whole line yet: nothing is taken or printed
   abbrev pub waits : Stage → W → Turn W
   waits stage w = record { stage = stage; world = w; used = 0; text = [] }
 
-  -- a line that is wrong ends the run
+  -- a wrong line is told as bad, and ends the run
   abbrev pub ends : W → ℕ → Turn W
   ends w place = record { stage = Stage.Over; world = w; used = 0; text = badText LineWrong place }
 
@@ -69,15 +69,15 @@ module _ {W : Type 0} (on : World W) where
   eventTurn w unfinished = waits Stage.Trading w
   eventTurn w (wrong n) = ends w n
 
-  -- settings first, then events; after a bad line nothing
+  -- the line of settings comes first, then lines of events; once the run is over, nothing
   abbrev pub turnOf : Stage → W → List ℕ → Turn W
   turnOf Stage.Awaiting w bytes = settingsTurn w (readSettings bytes)
   turnOf Stage.Trading w bytes = eventTurn w (readEvent bytes)
   turnOf Stage.Over w bytes = waits Stage.Over w
 
-  -- ---- all of them
+  -- ---- all lines
 
-  -- what is printed for all the bytes that are left, up to n lines of them
+  -- what is printed for all the bytes that are left, where these hold at most n lines
   unfoldable pub printedIn : ℕ → Stage → W → List ℕ → List ℕ
   printedIn zero stage w bytes = endText stage (length bytes)
   printedIn (suc n) stage w bytes =
@@ -85,16 +85,16 @@ module _ {W : Type 0} (on : World W) where
       t .text
       ++ cond (eqb (t .used) 0) (endText (t .stage) (length bytes)) (printedIn n (t .stage) (t .world) (drop (t .used) bytes))
 
-  -- a line has a byte at least
+  -- the same without n: each line has at least one byte, so there are no more lines than bytes
   abbrev pub printedFrom : Stage → W → List ℕ → List ℕ
   printedFrom stage w bytes = printedIn (length bytes) stage w bytes
 
-  -- ---- as many as there is room for: a line is taken only where whatever it can print fits in what is left
+  -- ---- as many lines as there is room for: a line is taken only where the most that it can print fits in what is left of the room
 
   abbrev pub halted : Stop → Stage → W → Fed W
   halted stop stage w = record { stage = stage; world = w; used = 0; text = []; stop = stop }
 
-  -- a turn, and what follows it
+  -- the last turn, which takes no line; or a line's turn and the lines behind it
   abbrev pub lastly : Turn W → Fed W
   lastly t = record { stage = t .stage; world = t .world; used = 0; text = t .text; stop = stopAt (t .stage) }
 
@@ -112,11 +112,11 @@ module _ {W : Type 0} (on : World W) where
 
   -- ---- the end of the input, behind the lines that were taken
 
-  -- the room is to be emptied first
+  -- the end waits: the room must be emptied first
   abbrev pub filled : Fed W → Fed W
   filled f = record { stage = f .stage; world = f .world; used = f .used; text = f .text; stop = Stop.Full }
 
-  -- the end is told, with so many bytes left of an unfinished line, and the run is over
+  -- the end is told, with so many bytes left behind the last line, and the run is over
   abbrev pub finished : ℕ → Fed W → Fed W
   finished rest f = record { stage = Stage.Over; world = f .world; used = f .used; text = f .text ++ endText (f .stage) rest; stop = Stop.Over }
 
@@ -127,10 +127,10 @@ module _ {W : Type 0} (on : World W) where
   endBy Stop.Over left rest f = f
   endBy (Stop.Refused r) left rest f = f
 
-  -- of a room and so many bytes
+  -- the same for a room of so many bytes and an input of so many
   unfoldable pub endBehind : ℕ → ℕ → Fed W → Fed W
   endBehind left bytes f = endBy (f .stop) (left - length (f .text)) (bytes - f .used) f
 
--- THE PROGRAM: its input, and all that it prints
+-- THE PROGRAM: all that it prints for its input
 unfoldable pub printed : List ℕ → List ℕ
 printed bytes = printedFrom days Stage.Awaiting (record { session = fixedSession; buys = []; sells = [] }) bytes

@@ -11,7 +11,7 @@ use Rattle.state_law.specs.Day.{Day}
 use Rattle.engine_law.specs.Outcome.{Outcome, outcome}
 use Rattle.engine_law.specs.Calls.{called, tableBy}
 
--- an opening puts its session in; an event is judged, told and carried out
+-- what a run needs of what it acts on: an opening puts its session in; an event is judged, has its reports, and leads to the next state
 pub record World (W : Type 0) : Type 0 where
   pub opened : W → Session → W
   pub verdict : W → Event → Verdict

@@ -1,6 +1,6 @@
 // feed_law: the law of text in and text out: what a line of input comes to, and what a run of bytes prints.
-// It has no code and may use engine_law and the crates of lines. It promises: whatever way the input is cut in pieces, what is printed in
-// all is `printed` of the whole.
+// It has no code, and may use engine_law, records_law and the laws of lines, and what these use. It promises: in whatever way the input is
+// cut into pieces, what is printed in all is `printed` of the whole.
 
 use state_law::Session;
 use terms::Refusal;
@@ -12,14 +12,14 @@ pub enum Stage {
     Over,
 }
 
-// Where a run stands: what is kept from line to line, but for the live orders, which lie in the lent tables.
+// Where a run stands: all that is kept from line to line, except the live orders, which lie in the lent tables.
 pub struct Run {
     pub stage: Stage,
     pub session: Session,
 }
 
-// Why no further line was taken: the bytes hold no whole one; the output room is to be emptied first; the run is over; something lent
-// is too short.
+// Why no further line was taken: the bytes hold no whole one; the output room must be emptied first; the run is over; something that was
+// lent is too short.
 pub enum Stop {
     Waits,
     Full,
@@ -27,14 +27,14 @@ pub enum Stop {
     Refused(Refusal),
 }
 
-// A line: where the run stands after it, how many bytes it has (0 where none was taken) and how many were printed.
+// What one line came to: where the run stands after it, how many bytes it has (0 where none was taken), and how many were printed.
 pub struct Turned {
     pub run: Run,
     pub used: usize,
     pub wrote: usize,
 }
 
-// Many lines, and why there were no more.
+// What many lines came to, and why no more were taken.
 pub struct Taken {
     pub run: Run,
     pub used: usize,

@@ -1,4 +1,4 @@
-// What is said, printed into an output room.
+// What is said is printed into an output room, and the count of bytes is answered.
 use feed_law::Stage;
 use lines_writing_law::Wrote;
 use records_law::ReadRecord;
@@ -13,7 +13,7 @@ ghost use Rattle.feed_law.specs.Texts.{recordsText, refusedText, badText, endTe
 ghost use Rattle.feed_law.specs.declared.Stage.{Stage};
 ghost use Rattle.feed_law.specs.Feeds.{Prints, EndTold, RecordTold, wroteLength};
 
-// How many bytes a writer wrote.
+// How many bytes a writer wrote: none where it refused.
 fn length_of(w: Wrote) -> usize
     ensures { λ r. ⌜ r ≡ wroteLength w ⌝ }
 {
@@ -23,7 +23,7 @@ fn length_of(w: Wrote) -> usize
     }
 }
 
-// The line of a refused event.
+// Prints the line that tells of a refused event.
 pub fn tell_refused(time: u64, refusal: Refusal, out: &mut [u8]) -> usize
     requires { ⌜ lineRoom ≤ length (now out) ⌝ }
     ensures { λ r. ⌜ Prints (now (out .entry)) (refusedText time refusal) r (now (out .exit)) ⌝ }
@@ -31,7 +31,7 @@ pub fn tell_refused(time: u64, refusal: Refusal, out: &mut [u8]) -> usize
     length_of(lines_writing_reports::write_refused(time, refusal, out))
 }
 
-// The line of a bad line, or of refused settings.
+// Prints the line that tells of a bad line, or of refused settings.
 pub fn tell_bad(refusal: Refusal, place: usize, out: &mut [u8]) -> usize
     requires { ⌜ lineRoom ≤ length (now out) ⌝ }
     ensures { λ r. ⌜ Prints (now (out .entry)) (badText refusal place) r (now (out .exit)) ⌝ }
@@ -39,7 +39,7 @@ pub fn tell_bad(refusal: Refusal, place: usize, out: &mut [u8]) -> usize
     length_of(lines_writing_reports::write_bad(refusal, place, out))
 }
 
-// What the end prints behind the last line of a day, with so many bytes left.
+// Prints what the end of the input says of a day that has begun, where `rest` bytes stand behind the last line.
 fn tell_tail(rest: usize, out: &mut [u8]) -> usize
     requires { ⌜ lineRoom ≤ length (now out) ⌝ }
     ensures { λ r. ⌜ Prints (now (out .entry)) (endText Stage.Trading rest) r (now (out .exit)) ⌝ }
@@ -50,7 +50,7 @@ fn tell_tail(rest: usize, out: &mut [u8]) -> usize
     tell_bad(Refusal::LineUnfinished, rest, out)
 }
 
-// What the end of the input prints, by where the run stands.
+// Prints what the end of the input says, by where the run stands.
 pub fn tell_end(stage: Stage, rest: usize, out: &mut [u8]) -> usize
     requires { ⌜ lineRoom ≤ length (now out) ⌝ }
     ensures { λ r. ⌜ EndTold stage rest (now (out .entry)) r (now (out .exit)) ⌝ }
@@ -62,7 +62,7 @@ pub fn tell_end(stage: Stage, rest: usize, out: &mut [u8]) -> usize
     }
 }
 
-// The line of the record that stands in the room from `at` on.
+// Prints the line of the record that stands in the room from `at` on; numbers that are no report's print nothing.
 fn tell_record(room: &[u64], at: usize, out: &mut [u8]) -> usize
     requires { ⌜ (at + recordLength ≤ length (now room)) × (lineRoom ≤ length (now out)) ⌝ }
     ensures { λ r. ⌜ RecordTold (now (room .entry)) at (now (out .entry)) r (now (out .exit)) ⌝ }
@@ -73,7 +73,7 @@ fn tell_record(room: &[u64], at: usize, out: &mut [u8]) -> usize
     }
 }
 
-// The lines of the first records in the room.
+// Prints the lines of the first `count` records in the room.
 pub fn tell_records(room: &[u64], count: u64, out: &mut [u8]) -> usize
     requires { ⌜ (recordLength * count ≤ length (now room)) × (lineRoom * count ≤ length (now out)) ⌝ }
     ensures { λ r. ⌜ Prints (now (out .entry)) (recordsText count (now (room .entry))) r (now (out .exit)) ⌝ }

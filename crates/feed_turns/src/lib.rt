@@ -1,4 +1,5 @@
-// feed_turns: one line of input: read, applied, and printed.
-// It may use feed_law, engine and feed_prints. It promises: where the run stands, what was taken and what is printed is a turn of feed_law.
+// feed_turns: one line of input is read, applied and printed.
+// It may use lines_reading, state, engine, feed_law and feed_prints, and what these use. It promises: where the run stands, what was taken
+// and what is printed make a turn of feed_law.
 
 pub mod turns;

@@ -1,4 +1,4 @@
-// One line of a run.
+// One line of a run is taken.
 use engine::apply;
 use engine_law::Answer;
 use feed_law::Run;
@@ -20,7 +20,7 @@ ghost use Rattle.terms.specs.Sizes.{lineRoom};
 ghost use Rattle.feed_law.specs.Texts.{textMost, mostAt};
 ghost use Rattle.feed_law.specs.Feeds.{turnedTo, BadTurned, OpenTurned, WholeTurned, SettingsTurned, EventTurned, TurnTaken};
 
-// Where a run stands after a line.
+// The answer about a line: where the run stands after it, how many bytes were taken and how many printed.
 fn turned(stage: Stage, session: Session, used: usize, wrote: usize) -> Turned
     ensures { λ r. ⌜ r ≡ turnedTo stage session used wrote ⌝ }
 {
@@ -34,7 +34,7 @@ fn turned(stage: Stage, session: Session, used: usize, wrote: usize) -> Turned
     }
 }
 
-// A bad line: it is told, and the run is over.
+// Tells a bad line; the run is over.
 fn bad_line(session: Session, place: usize, out: &mut [u8]) -> Turned
     requires { ⌜ lineRoom ≤ length (now out) ⌝ }
     ensures { λ r. ⌜ BadTurned session place (now (out .entry)) (now (out .exit)) r ⌝ }
@@ -43,7 +43,7 @@ fn bad_line(session: Session, place: usize, out: &mut [u8]) -> Turned
     turned(Stage::Over, session, 0, wrote)
 }
 
-// A whole line of settings: the session opens, or the run is over.
+// Opens the session of a whole line of settings, or tells that they are refused and ends the run.
 fn opens(settings: Settings, used: usize, out: &mut [u8]) -> Turned
     requires { ⌜ lineRoom ≤ length (now out) ⌝ }
     ensures { λ r. ⌜ OpenTurned settings used (now (out .entry)) (now (out .exit)) r ⌝ }
@@ -60,7 +60,7 @@ fn opens(settings: Settings, used: usize, out: &mut [u8]) -> Turned
     }
 }
 
-// The line of settings that a run begins with.
+// Takes the line of settings with which a run begins.
 fn settings_line(session: Session, bytes: &[u8], out: &mut [u8]) -> Turned
     requires { ⌜ lineRoom ≤ length (now out) ⌝ }
     ensures { λ r. ⌜ SettingsTurned session (now (bytes .entry)) (now (out .entry)) (now (out .exit)) r ⌝ }
@@ -72,7 +72,7 @@ fn settings_line(session: Session, bytes: &[u8], out: &mut [u8]) -> Turned
     }
 }
 
-// A whole line of an event: its reports, or its refusal.
+// Applies the event of a whole line, and prints its reports or its refusal.
 fn goes(
     session: Session,
     event: Event,
@@ -101,7 +101,7 @@ fn goes(
     }
 }
 
-// The line of an event.
+// Takes the line of an event.
 fn event_line(
     session: Session,
     bytes: &[u8],
@@ -120,7 +120,7 @@ fn event_line(
     }
 }
 
-// The first line of some bytes, by what it has to be.
+// Takes the first line of some bytes, which must be the one that is due.
 pub fn turn(
     run: Run,
     bytes: &[u8],

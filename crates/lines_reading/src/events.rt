@@ -1,4 +1,4 @@
-// The reader of events: a function for each choice, each with the grammar's part of the same name.
+// The reader of events has a function for each choice, and the grammar has a part of the same name.
 use lines_reading_law::ReadEvent;
 use lines_reading_law::Single;
 use lines_text::pieces;
@@ -15,7 +15,7 @@ ghost use Rattle.lines_text_law.specs.code.Pieces.{at as lookAt};
 ghost use Rattle.lines_reading_law.specs.Grammars.{order, priceRest, lifeRest, lives, kindRest, kinds, sideRest, actOf, singleRest, clockRest, cancelRest, acts};
 ghost use Rattle.lines_reading_law.specs.Answers.{eventAnswer, readEvent};
 
-// The event of an order.
+// The event of an order, from the parts of its line.
 fn order(t: u64, side: Side, kind: Kind, life: Life, lots: u64) -> Event
     ensures { λ r. ⌜ r ≡ order t side kind life lots ⌝ }
 {
@@ -28,7 +28,7 @@ fn order(t: u64, side: Side, kind: Kind, life: Life, lots: u64) -> Event
     Event { time: t, act: act }
 }
 
-// After the lots: a limit's price, and the end.
+// Reads from behind the lots on: a limit's price, and the end.
 fn price_rest(
     s: &[u8],
     at: usize,
@@ -76,7 +76,7 @@ fn life_rest(
     }
 }
 
-// From the word after "life=" on.
+// Reads from the word after "life=" on.
 fn lives(s: &[u8], at: usize, t: u64, side: Side, limit: bool) -> ReadEvent
     ensures { λ r. ⌜ eventAnswer r ≡ lookAt (now (s .entry)) (lives t side limit) at ⌝ }
 {
@@ -103,7 +103,7 @@ fn kind_rest(s: &[u8], at: usize, w: &[u8], t: u64, side: Side, limit: bool) -> 
     }
 }
 
-// From the word after "kind=" on.
+// Reads from the word after "kind=" on.
 fn kinds(s: &[u8], at: usize, t: u64, side: Side) -> ReadEvent
     ensures { λ r. ⌜ eventAnswer r ≡ lookAt (now (s .entry)) (kinds t side) at ⌝ }
 {
@@ -140,7 +140,7 @@ fn act_of(single: Single, number: u64) -> Act
     }
 }
 
-// An act with one number, after the first byte of its word.
+// Reads an act with one number, from behind the first byte of its word on.
 fn single_rest(s: &[u8], at: usize, w: &[u8], t: u64, single: Single) -> ReadEvent
     ensures { λ r. ⌜ eventAnswer r ≡ lookAt (now (s .entry)) (singleRest (now (w .entry)) t single) at ⌝ }
 {
@@ -154,7 +154,7 @@ fn single_rest(s: &[u8], at: usize, w: &[u8], t: u64, single: Single) -> ReadEve
     }
 }
 
-// After "clo": close or clock.
+// Reads from behind "clo" on: close or clock.
 fn clock_rest(s: &[u8], at: usize, t: u64) -> ReadEvent
     ensures { λ r. ⌜ eventAnswer r ≡ lookAt (now (s .entry)) (clockRest t) at ⌝ }
 {
@@ -178,7 +178,7 @@ fn clock_rest(s: &[u8], at: usize, t: u64) -> ReadEvent
     }
 }
 
-// After "c": cancel, close or clock.
+// Reads from behind "c" on: cancel, close or clock.
 fn cancel_rest(s: &[u8], at: usize, t: u64) -> ReadEvent
     ensures { λ r. ⌜ eventAnswer r ≡ lookAt (now (s .entry)) (cancelRest t) at ⌝ }
 {
@@ -196,7 +196,7 @@ fn cancel_rest(s: &[u8], at: usize, t: u64) -> ReadEvent
     }
 }
 
-// From the word after "do=" on.
+// Reads from the word after "do=" on.
 fn acts(s: &[u8], at: usize, t: u64) -> ReadEvent
     ensures { λ r. ⌜ eventAnswer r ≡ lookAt (now (s .entry)) (acts t) at ⌝ }
 {
@@ -219,7 +219,7 @@ fn acts(s: &[u8], at: usize, t: u64) -> ReadEvent
     ReadEvent::Wrong(at)
 }
 
-// The event whose line the bytes start with, by the grammar.
+// Reads the event whose line the bytes start with, by the grammar.
 pub fn read(s: &[u8]) -> ReadEvent
     ensures { λ r. ⌜ eventAnswer r ≡ readEvent (now (s .entry)) ⌝ }
 {

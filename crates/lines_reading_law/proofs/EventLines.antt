@@ -1,4 +1,4 @@
--- The grammar of events has the lines of events and no others, so the reader's answer is the right one.
+-- The lines of the grammar of events are the lines of events and no others, so the reader's answer is the right one.
 use Prim.Native.Nat.{ℕ, _≤_}
 use mathlib.Core.Path.{_≡_, refl}
 use mathlib.Core.Bool.{Bool, true, false}
@@ -29,11 +29,11 @@ use Rattle.lines_reading_law.specs.Grammars.{event, order, priceRest, li
 use Rattle.lines_reading_law.specs.declared.ReadEvent.{ReadEvent}
 use Rattle.lines_reading_law.specs.Answers.{eventAnswer, readCode, EventRead, readEvent}
 
--- what the values of the grammar's ends must say
+-- every number of the event can be written
 abbrev Fine : Event → Type 0
 Fine e = Writable (eventFigures e)
 
--- ---- the grammar is plain
+-- ---- the grammar is plain: at each place at most one way is open
 
 order-plain : (t : ℕ) (side : Side) → Plain (kinds t side)
 unfolding kinds kindRest lives lifeRest priceRest lastly word
@@ -59,7 +59,7 @@ plain =
       ),
     )
 
--- ---- each of its ends is the line of its value
+-- ---- each end of the grammar spells the line of its value
 
 abbrev kindWord : Kind → List ℕ
 kindWord (Limit p) = bytes "limit"
@@ -69,7 +69,7 @@ abbrev lifeWord : Life → List ℕ
 lifeWord AllDay = bytes "day"
 lifeWord Ioc = bytes "ioc"
 
--- what follows the lots
+-- the part of the line that follows the lots
 abbrev priceText : Kind → List ℕ
 priceText (Limit p) = bytes " price=" ++ (numeral p ++ bytes "\n")
 priceText Market = bytes "\n"
@@ -78,7 +78,7 @@ abbrev orderText : Side → Kind → Life → ℕ → List ℕ
 orderText side kind life q =
     sideWord side ++ (bytes " kind=" ++ (kindWord kind ++ (bytes " life=" ++ (lifeWord life ++ (bytes " qty=" ++ (numeral q ++ priceText kind))))))
 
--- the line of an order, by its words
+-- the line of an order, put together from its words
 order-line : (t : ℕ) (side : Side) (kind : Kind) (life : Life) (q : ℕ)
     → bytes "t=" ++ (numeral t ++ (bytes " do=" ++ orderText side kind life q)) ≡ renderEvent (order t side kind life q)
 unfolding renderEvent fill
@@ -116,7 +116,7 @@ agrees =
 to : (e : Event) (bs : List ℕ) → Spells eventGrammar e bs → EventLine e bs
 to e bs s = agreed renderEvent Fine (λ x. x) agrees s
 
--- ---- and each value's line is one of its ends
+-- ---- and the line of each event is spelled by one of these ends
 
 module _ (t : ℕ) {e : Event} {bs : List ℕ} where
   time-spells : t ≤ writtenMost → Spells (acts t) e bs → Spells eventGrammar e (bytes "t=" ++ (numeral t ++ (bytes " do=" ++ bs)))
@@ -155,7 +155,7 @@ single-spells : (w : List ℕ) (t : ℕ) (single : Single) (v : ℕ) → v ≤ w
 unfolding singleRest
 single-spells w t single v h = s-last w (λ i. event t (actOf single i)) v h
 
--- a line a kind of event
+-- the line of each event is spelled, one clause for each kind
 act-spells : (t : ℕ) (a : Act) → Fine (event t a) → Spells eventGrammar (event t a) (renderEvent (event t a))
 unfolding acts cancelRest clockRest renderEvent fill
 act-spells t (Enter o) f =
@@ -173,7 +173,7 @@ act-spells t Clock f =
 from : (e : Event) (bs : List ℕ) → EventLine e bs → Spells eventGrammar e bs
 from e bs l = rw (l .0) (act-spells (e .time) (e .act) (l .1))
 
--- ---- so
+-- ---- what follows
 
 -- the reader's answer is the right one
 pub event-right : (s : List ℕ) → Right EventLine s (readEvent s)
@@ -193,11 +193,11 @@ event-back e rest w = read-back EventLine eventGrammar plain to from e (renderEv
 pub event-apart : (e f : Event) → Writable (eventFigures e) → Writable (eventFigures f) → renderEvent e ≡ renderEvent f → e ≡ f
 event-apart e f v w q = apart EventLine eventGrammar plain to from e f (renderEvent e) (refl, v) (q, w)
 
--- bytes that are read as a value are its line, so it has one spelling
+-- bytes that are read as an event are its line, so an event has one spelling
 pub event-spelled : (s : List ℕ) (e : Event) (n : ℕ) → readEvent s ≡ whole e n → take n s ≡ renderEvent e
 event-spelled s e n q = (rw q at (event-right s)) .1 .0
 
--- what the reader answers is the computed answer
+-- an answer of the reader that is right is the computed one
 pub event-told : (s : List ℕ) (r : ReadEvent) → EventRead s r → eventAnswer r ≡ readEvent s
 event-told s r a = event-only s (eventAnswer r) (readEvent s) (a .right) (event-right s)
 

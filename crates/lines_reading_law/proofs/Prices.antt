@@ -1,4 +1,4 @@
--- The end of an order's line, by its kind: a limit's price is due, or none.
+-- How an order's line ends: with a price for a limit, without one for a market order.
 use Prim.Native.Nat.{ℕ}
 use mathlib.Core.Path.{_≡_, _∙_, ap}
 use mathlib.Core.Bool.{Bool, true, false}
@@ -24,6 +24,6 @@ module _ (s : List ℕ) (n t : ℕ) (side : Side) (limit : Bool) (life : Life) (
   unfolding priceRest
   end-due e h = rw e h
 
--- the value that a line ends with, as code made it
+-- a line ends with the value that code made of it
 pub stop-as : (s : List ℕ) (e f : Event) (n : ℕ) → e ≡ f → whole e n ≡ at s (stop f) n
 stop-as s e f n q = ap (λ (x : Event). whole x n) q ∙ at-stop s f n

@@ -1,4 +1,4 @@
--- The grammar of settings has the lines of settings and no others, so the reader's answer is the right one.
+-- The lines of the grammar of settings are the lines of settings and no others, so the reader's answer is the right one.
 use Prim.Native.Nat.{ℕ}
 use mathlib.Core.Path.{_≡_, refl, sym, _∙_}
 use mathlib.Core.List.{List, [], _++_}
@@ -20,11 +20,11 @@ use Rattle.lines_reading_law.specs.Grammars.{lastNumbers, laterNumbers, 
 use Rattle.lines_reading_law.specs.declared.ReadSettings.{ReadSettings}
 use Rattle.lines_reading_law.specs.Answers.{settingsAnswer, readCode, SettingsRead, readSettings}
 
--- what the values of the grammar's ends must say
+-- every number of the settings can be written
 abbrev Fine : Settings → Type 0
 Fine g = Writable (settingsFigures g)
 
--- ---- the grammar is plain
+-- ---- the grammar is plain: at each place at most one way is open
 
 rest-plain : (c : Category) → Plain (categoryRest [] c)
 unfolding categoryRest laterNumbers lastNumbers lastly word
@@ -50,9 +50,9 @@ plain = (
   ),
 )
 
--- ---- each of its ends is the line of its value
+-- ---- each end of the grammar spells the line of its value
 
--- a category's word fills no hole, a line each
+-- the word of a category has no place for a number; one clause for each category
 word-fills : (c : Category) (f ns : List ℕ) → fill (bytes "cat=" ++ (categoryWord c ++ f)) ns ≡ bytes "cat=" ++ (categoryWord c ++ fill f ns)
 unfolding fill
 word-fills Broad f ns = refl
@@ -92,9 +92,9 @@ agrees = (
 to : (g : Settings) (bs : List ℕ) → Spells settingsGrammar g bs → SettingsLine g bs
 to g bs s = agreed renderSettings Fine (λ x. x) agrees s
 
--- ---- and each value's line is one of its ends
+-- ---- and the line of any settings is spelled by one of these ends
 
--- the numbers
+-- the numbers behind the category are spelled
 rest-spells : (g : Settings) → Fine g
     → Spells (categoryRest [] (g .category)) g
     (numeral (g .base) ++ (bytes " close=" ++ (numeral (g .close) ++ (bytes " settle=" ++ (numeral (g .settle) ++ (bytes " tick=" ++ (numeral (g .tick) ++ (bytes " len=" ++ (numeral (g .length) ++ (bytes " days=" ++ (numeral (g .days) ++ (bytes " under=" ++ (numeral (g .under) ++ bytes "\n")))))))))))))
@@ -114,7 +114,7 @@ rest-spells g f =
     (s-number (g .days) (f .1 .1 .1 .1 .1 .0)
     (s-word (bytes " under=") (s-number (g .under) (f .1 .1 .1 .1 .1 .1 .0) (s-word (bytes "\n") s-stop))))))))))))))
 
--- a category's word, a line each
+-- the word of each category is spelled; one clause for each
 category-spells : (c : Category) {g : Settings} {bs : List ℕ} → Spells (categoryRest [] c) g bs → Spells categories g (categoryWord c ++ (bytes " base=" ++ bs))
 unfolding categories categoryRest word
 category-spells Broad s = s-this (s-word (bytes "road base=") s)
@@ -133,7 +133,7 @@ spells g f = s-word (bytes "cat=") (category-spells (g .category) (rest-spells g
 from : (g : Settings) (bs : List ℕ) → SettingsLine g bs → Spells settingsGrammar g bs
 from g bs l = rw (l .0 ∙ settings-line g) (spells g (l .1))
 
--- ---- so
+-- ---- what follows
 
 -- the reader's answer is the right one
 pub settings-right : (s : List ℕ) → Right SettingsLine s (readSettings s)
@@ -154,11 +154,11 @@ settings-back g rest w = read-back SettingsLine settingsGrammar plain to from g 
 pub settings-apart : (g h : Settings) → Writable (settingsFigures g) → Writable (settingsFigures h) → renderSettings g ≡ renderSettings h → g ≡ h
 settings-apart g h v w q = apart SettingsLine settingsGrammar plain to from g h (renderSettings g) (refl, v) (q, w)
 
--- bytes that are read as a value are its line, so it has one spelling
+-- bytes that are read as settings are their line, so settings have one spelling
 pub settings-spelled : (s : List ℕ) (g : Settings) (n : ℕ) → readSettings s ≡ whole g n → take n s ≡ renderSettings g
 settings-spelled s g n q = (rw q at (settings-right s)) .1 .0
 
--- what the reader answers is the computed answer
+-- an answer of the reader that is right is the computed one
 pub settings-told : (s : List ℕ) (r : ReadSettings) → SettingsRead s r → settingsAnswer r ≡ readSettings s
 settings-told s r a = settings-only s (settingsAnswer r) (readSettings s) (a .right) (settings-right s)
 

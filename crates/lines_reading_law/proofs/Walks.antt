@@ -1,4 +1,4 @@
--- A walk over saved bytes: at the start it reads all of them, and behind a line what follows it.
+-- A walk over saved bytes reads all of them at the start, and behind a line what follows it.
 use Prim.Native.Nat.{ℕ}
 use mathlib.Core.Path.{_≡_, refl, ap}
 use mathlib.Core.List.{List, _++_}

@@ -13,7 +13,7 @@ use Rattle.lines_reading_law.specs.declared.ReadSettings.{ReadSettings}
 use Rattle.lines_reading_law.specs.Lines.{SettingsLine, EventLine}
 use Rattle.lines_reading_law.specs.Grammars.{settingsGrammar, eventGrammar}
 
--- each reader's answers, as answers of any reader
+-- the answers of each reader, in the form that is common to all readers
 abbrev pub eventAnswer : ReadEvent → Answer Event
 eventAnswer (ReadEvent.Whole e n) = whole e n
 eventAnswer ReadEvent.Unfinished = unfinished
@@ -30,7 +30,7 @@ readCode (whole e n) = 0
 readCode unfinished = numberOf LineUnfinished
 readCode (wrong n) = numberOf LineWrong
 
--- and its value: the bytes that a line takes; "15, line wrong; returns the place"
+-- and the number that it carries: how many bytes a line takes; for 15, "line wrong; returns the place"
 abbrev pub countOf : {E : Type 0} → Answer E → ℕ
 countOf (whole e n) = n
 countOf unfinished = 0
@@ -43,7 +43,7 @@ pub record EventRead (bytes : List ℕ) (r : ReadEvent) : Type 0 where
 pub record SettingsRead (bytes : List ℕ) (r : ReadSettings) : Type 0 where
   pub right : Right SettingsLine bytes (settingsAnswer r)
 
--- the same answers computed
+-- the right answers, computed by the grammars
 unfoldable pub readEvent : List ℕ → Answer Event
 readEvent bytes = at bytes eventGrammar 0
 

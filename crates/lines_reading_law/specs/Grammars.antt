@@ -1,5 +1,5 @@
--- The two sorts of line as grammars: which byte decides between words, and what follows each. proofs/ shows that their lines are those of
--- Lines.antt and no others.
+-- The two sorts of line as grammars: which byte decides between words, and what follows each word. proofs/ shows that their lines are those
+-- of Lines.antt and no others.
 use Prim.Native.Nat.{ℕ}
 use mathlib.Core.Bool.{Bool, true, false}
 use mathlib.Core.List.{List}
@@ -22,7 +22,7 @@ use Rattle.lines_text_law.specs.code.Pieces.{lastly}
 
 -- ---- settings
 
--- the last two numbers
+-- the days to maturity and the underlying, which end the line
 unfoldable pub lastNumbers : Category → ℕ → ℕ → ℕ → ℕ → ℕ → Grammar Settings
 lastNumbers c base close settle tick length =
     word (bytes " days=")
@@ -31,7 +31,7 @@ lastNumbers c base close settle tick length =
     (λ under.
     record { category = c; base = base; close = close; settle = settle; tick = tick; length = length; days = days; under = under }))
 
--- the two before them
+-- the tick and the length, and then these
 unfoldable pub laterNumbers : Category → ℕ → ℕ → ℕ → Grammar Settings
 laterNumbers c base close settle =
     word (bytes " tick=")

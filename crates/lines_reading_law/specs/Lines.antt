@@ -70,7 +70,7 @@ actForm (Finish settle) = bytes "close settle=#\n"
 abbrev pub actFigures : Act → List ℕ
 actFigures a = perhaps (carries a .number) ++ (perhaps (carries a .lots) ++ perhaps (carries a .price))
 
--- "t=# do=", which every event line begins with
+-- "t=# do=", with which every event line begins
 abbrev pub actHead : List ℕ
 actHead = bytes "t=# do="
 
@@ -83,7 +83,7 @@ eventFigures e = e .time ∷ actFigures (e .act)
 unfoldable pub renderEvent : Event → List ℕ
 renderEvent e = fill (eventForm (e .act)) (eventFigures e)
 
--- ---- which bytes are the line of which value: those that are written, where each number can be
+-- ---- which bytes are the line of which value: those that are written, provided that each number can be
 
 abbrev pub SettingsLine : Settings → List ℕ → Type 0
 SettingsLine g bs = (bs ≡ renderSettings g) × Writable (settingsFigures g)

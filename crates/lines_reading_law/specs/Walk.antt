@@ -1,4 +1,4 @@
--- Document 01, "Session lines": the answer at a place of saved bytes.
+-- Document 01, "Session lines": what is answered at a place of saved bytes.
 use Prim.Native.Nat.{ℕ}
 use mathlib.Core.List.{List}
 use lib.ListN.{drop}
@@ -6,7 +6,7 @@ use Rattle.terms.specs.declared.Event.{Event}
 use Rattle.lines_text_law.specs.Grammar.{Answer}
 use Rattle.lines_reading_law.specs.Answers.{readEvent}
 
--- "After each line the rest of the bytes is handed on from there as a part": the reader's answer on the bytes from the place on. Past the
--- end these are none.
+-- "After each line the rest of the bytes is handed on from there as a part": this is the reader's answer to the bytes from the place on.
+-- Past the end there are none.
 unfoldable pub eventAt : List ℕ → ℕ → Answer Event
 eventAt bytes place = readEvent (drop place bytes)

@@ -1,4 +1,4 @@
-// The reader of settings: a function for each choice, each with the grammar's part of the same name.
+// The reader of settings has a function for each choice, and the grammar has a part of the same name.
 use lines_reading_law::ReadSettings;
 use lines_text::pieces;
 use lines_text_law::Found;
@@ -10,7 +10,7 @@ ghost use Rattle.lines_text_law.specs.code.Pieces.{at as lookAt};
 ghost use Rattle.lines_reading_law.specs.Grammars.{lastNumbers, laterNumbers, categoryRest, categories};
 ghost use Rattle.lines_reading_law.specs.Answers.{settingsAnswer, readSettings};
 
-// The last two numbers.
+// Reads the days to maturity and the underlying, which end the line.
 fn last_numbers(
     s: &[u8],
     at: usize,
@@ -49,7 +49,7 @@ fn last_numbers(
     }
 }
 
-// The two before them.
+// Reads the tick and the length, and then the last two numbers.
 fn later_numbers(
     s: &[u8],
     at: usize,
@@ -77,7 +77,7 @@ fn later_numbers(
     }
 }
 
-// After the first byte of a category: the rest of its word, and the numbers.
+// Reads from behind the first byte of a category on: the rest of its word, and the numbers.
 fn category_rest(s: &[u8], at: usize, w: &[u8], category: Category) -> ReadSettings
     ensures { λ r. ⌜ settingsAnswer r ≡ lookAt (now (s .entry)) (categoryRest (now (w .entry)) category) at ⌝ }
 {
@@ -105,7 +105,7 @@ fn category_rest(s: &[u8], at: usize, w: &[u8], category: Category) -> ReadSetti
     }
 }
 
-// From the word after "cat=" on.
+// Reads from the word after "cat=" on.
 fn categories(s: &[u8], at: usize) -> ReadSettings
     ensures { λ r. ⌜ settingsAnswer r ≡ lookAt (now (s .entry)) categories at ⌝ }
 {
@@ -140,7 +140,7 @@ fn categories(s: &[u8], at: usize) -> ReadSettings
     ReadSettings::Wrong(at)
 }
 
-// The settings whose line the bytes start with, by the grammar.
+// Reads the settings whose line the bytes start with, by the grammar.
 pub fn read(s: &[u8]) -> ReadSettings
     ensures { λ r. ⌜ settingsAnswer r ≡ readSettings (now (s .entry)) ⌝ }
 {

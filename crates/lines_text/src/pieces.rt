@@ -1,4 +1,4 @@
-// The pieces of a line, read: a word, a number, and the two together.
+// The pieces of a line are read here: a word, a number, the two together, and the last field.
 use lines_text_law::Found;
 use lines_text_law::Reached;
 ghost use mathlib.Core.Path.{_≡_};
@@ -29,7 +29,7 @@ fn wide(x: u8) -> u64
     x as u64
 }
 
-// A numeral: 0, or a digit from 1 and up to eight more. What follows it is judged by the next word.
+// Reads a numeral: 0, or a digit from 1 and up to eight more. What follows it is judged by the next word.
 pub fn number(s: &[u8], at: usize) -> Found
     ensures { λ r. ⌜ r ≡ numberOn (drop at (now (s .entry))) at ⌝ }
 {
@@ -70,7 +70,7 @@ pub fn number(s: &[u8], at: usize) -> Found
     Found::Value { value: v, next: p }
 }
 
-// A word and the number after it.
+// Reads a word and the number after it.
 pub fn field(s: &[u8], at: usize, w: &[u8]) -> Found
     ensures { λ r. ⌜ r ≡ fieldOn (now (w .entry)) (now (s .entry)) at ⌝ }
 {
@@ -81,7 +81,7 @@ pub fn field(s: &[u8], at: usize, w: &[u8]) -> Found
     }
 }
 
-// A word, a number and the line's end.
+// Reads a word, a number and the line's end.
 pub fn last(s: &[u8], at: usize, w: &[u8]) -> Found
     ensures { λ r. ⌜ r ≡ lastOn (now (w .entry)) (now (s .entry)) at ⌝ }
 {

@@ -1,4 +1,4 @@
-// Forms and their numbers put into a lent room: one pass over the form, each digit written at its place at once.
+// Forms are put into a lent room with their numbers: in one pass over the form, and each digit at its place at once.
 use lines_text_law::Spot;
 use terms::sizes;
 ghost use mathlib.Core.Path.{_≡_};
@@ -9,7 +9,7 @@ ghost use Rattle.lines_text_law.specs.Numerals.{numeral, allWritable};
 ghost use Rattle.lines_text_law.specs.Forms.{piece, taken, fill, holes};
 ghost use Rattle.lines_text_law.specs.code.Room.{Put, PutFrom, Fits, PieceFits};
 
-// No number is too long to be written.
+// Whether every number can be written.
 pub fn all_writable(numbers: &[u64]) -> bool
     ensures { λ r. ⌜ r ≡ allWritable (now (numbers .entry)) ⌝ }
 {
@@ -93,7 +93,7 @@ fn put_piece(room: &mut [u8], from: Spot, b: u8, numbers: &[u64]) -> Spot
     }
 }
 
-// Puts a form, filled with the numbers from the spot's on, and answers the spot after it.
+// Puts a form, filled with the numbers that are not used yet, and answers the spot after it.
 pub fn put_form(room: &mut [u8], from: Spot, form: &[u8], numbers: &[u64]) -> Spot
     requires { ⌜ Fits (now room) from (now form) (now numbers) ⌝ }
     ensures { λ r. ⌜ PutFrom (now (room .entry)) from (fill (now (form .entry)) (drop (from .used) (now (numbers .entry)))) (holes (now (form .entry))) (now (room .exit)) r ⌝ }

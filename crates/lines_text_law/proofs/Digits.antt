@@ -1,4 +1,4 @@
--- The laws of numerals: a numeral is read whole, whatever is read is one, and its length.
+-- The laws of numerals: a numeral is read to its end, whatever is read as a number is a numeral, and how long a numeral is.
 use Prim.Native.Nat.{ℕ, zero, suc, _+_, _-_, _*_, _/_, _%_, _^_, _≤_, _<_}
 use native.Mathlib.Nat.{pow-suc, pow-le-pow-right}
 use native.Mathlib.Omega.{arith}
@@ -13,7 +13,7 @@ use Rattle.terms.proofs.Logic.{cases}
 use Rattle.lines_text_law.specs.Numerals.{dec, numeral}
 use Rattle.lines_text_law.specs.Grammar.{Answer, digit, more, numeralThen}
 
--- ---- the test for a digit, by its fact
+-- ---- what the test for a digit says of a byte
 
 pub digit-yes : (x : ℕ) → 48 ≤ x → x < 58 → digit x ≡ true
 digit-yes x a b = rw (le-ltb x 48 a, lt-ltb x 58 b)
@@ -39,7 +39,7 @@ dec-small (suc f) n h = rw (lt-ltb n 10 h)
 pub dec-large : (f n : ℕ) → 10 ≤ n → dec (suc f) n ≡ dec f (n / 10) ++ ((48 + n % 10) ∷ [])
 dec-large f n h = rw (le-ltb n 10 h)
 
--- by the size of n
+-- two cases: n has one digit, or more
 by-ten : {P : Type 0} (n : ℕ) → (n < 10 → P) → (10 ≤ n → P) → P
 by-ten n s l = cases (ltb n 10) (λ q. s (ltb-true n 10 q)) (λ q. l (ltb-false n 10 q))
 
@@ -49,7 +49,7 @@ length-dec (suc f) n =
     by-ten n (λ h. rw (dec-small (suc f) n h) (omega arith))
     (λ h. rw (dec-large f n h, length-append) (omega (arith, length-dec f (n / 10))))
 
--- room for one more digit changes no numeral that has room
+-- a numeral stays the same where more digits are allowed than it needs
 pub dec-more : (f n : ℕ) → n < 10 ^ suc f → dec f n ≡ dec (suc f) n
 dec-more zero n h = sym (dec-small 1 n h)
 dec-more (suc f) n h =
@@ -89,7 +89,7 @@ length-is (suc k) v a b m =
     let i = length-is k (v / 10) (omega arith) (omega arith) (omega arith) in
     length-last v (omega arith) m ∙ (omega arith)
 
--- the same as code comes to it, by the powers that the number lies between
+-- the number of digits, as code finds it: by the powers of ten between which the number lies
 pub width-first : (v : ℕ) → v < 10 → 1 ≡ length (numeral v)
 width-first v h = sym (length-first v h)
 
@@ -132,7 +132,7 @@ module _ {E : Type 0} (K : ℕ → List ℕ → ℕ → Answer E) where
         e3,
       ))
 
-  -- what follows the digits ends them
+  -- a byte that is no digit ends the digits
   more-stop : (f v x : ℕ) (l : List ℕ) (p : ℕ) → digit x ≡ false → more f v (x ∷ l) p K ≡ K v (x ∷ l) p
   more-stop zero v x l p h = refl
   more-stop (suc f) v x l p h = rw h
@@ -145,7 +145,7 @@ module _ {E : Type 0} (K : ℕ → List ℕ → ℕ → Answer E) where
   zero-or zero a b = a refl
   zero-or (suc v) a b = b (omega arith)
 
-  -- a numeral with a byte after it that is no digit
+  -- a numeral is read whole where a byte follows it that is no digit
   pub numeral-then : (v x : ℕ) (l : List ℕ) (p : ℕ) → v ≤ writtenMost → digit x ≡ false
       → numeralThen (numeral v ++ x ∷ l) p K ≡ K v (x ∷ l) (p + length (numeral v))
   unfolding numeral
@@ -157,12 +157,12 @@ module _ {E : Type 0} (K : ℕ → List ℕ → ℕ → Answer E) where
 
 -- ---- whatever is read is a numeral
 
--- r and u begin alike
+-- r and u are both empty, or both begin with the same byte
 abbrev pub Alike : List ℕ → List ℕ → Type 0
 Alike [] u = u ≡ []
 Alike (x ∷ r) u = (t : List ℕ) × (u ≡ x ∷ t)
 
--- v is the number whose numeral l begins with, and r is what is left: the digits end there, whatever comes later
+-- l begins with the numeral of v, and r is what is left of it: the digits end there, whatever bytes come later
 pub record Begun (E : Type 0) (l : List ℕ) : Type 0 where
   pub v : ℕ
   pub r : List ℕ
@@ -177,11 +177,11 @@ numeral-snoc v d a b c =
     let e1 : (v * 10 + d) % 10 ≡ d = omega arith in
     rw (dec-large 7 (v * 10 + d) (omega arith), e, e1, dec-more 7 v b)
 
--- fewer digits are a smaller bound
+-- a number below a power of ten is below every greater one
 pub fewer : (k j v : ℕ) → k ≤ j → v < 10 ^ k → v < 10 ^ j
 fewer k j v h a = let q : 10 ^ k ≤ 10 ^ j = pow-le-pow-right (omega arith) h in omega arith
 
--- after k digits whose value is v, with room for f more
+-- k digits are read and their value is v; up to f more may follow
 begun : {E : Type 0} (f k v : ℕ) (l : List ℕ) → k + f ≡ 9 → 0 < v → v < 10 ^ k → length (numeral v) ≡ k → Begun E (numeral v ++ l)
 unfolding numeral
 begun {E} zero k v l s a b c =
@@ -224,7 +224,7 @@ begun {E} (suc f) k v (x ∷ l) s a b c =
       reads = λ K p u q. rw (q .1) (grow K 8 v (x ∷ q .0) p (omega arith) a h ∙ more-stop K (9 - length (numeral v)) v x (q .0) (p + length (numeral v)) y);
     })
 
--- what bytes begin with: nothing, no digit, or a numeral
+-- the bytes are none, or begin with no digit, or begin with a numeral
 pub number-cases : {E P : Type 0} (l : List ℕ)
     → (l ≡ [] → P)
     → ((x : ℕ) (t : List ℕ) → l ≡ x ∷ t → eqb x 48 ≡ false → digit x ≡ false → P)

@@ -1,4 +1,4 @@
--- The laws of forms and of the loops that put them.
+-- The laws of forms, and of the loops that put them into a room.
 use Prim.Native.Nat.{ℕ, zero, suc, _+_, _-_, _/_, _%_, _≤_, _<_}
 use native.Mathlib.Omega.{arith}
 use native.Mathlib.Nat.{add-zero}
@@ -44,7 +44,7 @@ unfolding allWritable
 writable-tested [] w = refl
 writable-tested (n ∷ ns) w = join (leb n writtenMost) (allWritable ns) (le-leb n writtenMost (w .0)) (writable-tested ns (w .1))
 
--- the turns of the test
+-- the turns of the loop that tests the numbers
 module _ (ns : List ℕ) (i : ℕ) where
   pub writable-end : length ns ≤ i → allWritable (drop i ns) ≡ true
   unfolding allWritable
@@ -60,7 +60,7 @@ module _ (ns : List ℕ) (i : ℕ) where
 
 -- ---- forms
 
--- # stands for a number, and any other byte for itself
+-- # stands for a number, and any other byte stands for itself
 module _ (c : ℕ) where
   pub hole-piece : (n : ℕ) → c ≡ hole → piece c n ≡ numeral n
   hole-piece n e = rw (eq-eqb c hole e)
@@ -74,7 +74,7 @@ module _ (c : ℕ) where
   pub byte-taken : (c ≡ hole → ⊥) → taken c ≡ 0
   byte-taken e = rw (ne-eqb c hole e)
 
--- a form, by the byte at i: what it stands for, and the rest
+-- a form from byte i on is what that byte stands for, and then the rest
 module _ (f ns : List ℕ) (i k : ℕ) (within : i < length f) where
   pub fill-turn : fill (drop i f) (drop k ns) ≡ piece (getD f i 0) (getD ns k 0) ++ fill (drop (i + 1) f) (drop (k + taken (getD f i 0)) ns)
   unfolding fill
@@ -94,7 +94,7 @@ pub holes-end : (f : List ℕ) (i : ℕ) → length f ≤ i → holes (drop i f)
 unfolding holes
 holes-end f i h = rw (drop-of-length-le f h)
 
--- a line is at most as long as the longest of its form
+-- a line is no longer than the longest line of its form
 pub fill-length : (f ns : List ℕ) → length (fill f ns) ≤ longest f
 unfolding fill longest
 fill-length [] ns = omega arith
@@ -103,14 +103,14 @@ fill-length (c ∷ f) ns =
     (λ e. rw (e, length-append) (omega (arith, length-most (getD ns 0 0), fill-length f (drop 1 ns))))
     (λ e. rw e (omega (arith, fill-length f (drop 0 ns))))
 
--- two forms are one
+-- two forms put together make the line of the one and then that of the other
 pub fill-append : (f g ns : List ℕ) → fill (f ++ g) ns ≡ fill f ns ++ fill g (drop (holes f) ns)
 unfolding fill holes
 fill-append [] g ns = refl
 fill-append (c ∷ f) g ns =
     rw (fill-append f g (drop (taken c) ns), drop-drop (holes f) (taken c) ns, append-assoc)
 
--- ---- a number's digits, the last first
+-- ---- the digits of a number, put from the last to the first
 
 pub digit-turn : (d : List ℕ) (n w p : ℕ) → 10 ≤ w → w ≤ writtenMost → p ≡ n + length (numeral w) → p ≤ length d
     → put d n (numeral w) ≡ put (set d (p - 1) (48 + w % 10)) n (numeral (w / 10))
@@ -127,7 +127,7 @@ digit-end d n w a h = rw (numeral-first w a, set-put d n (48 + w) h)
 -- ---- what one byte of a form stands for, put at a spot
 
 module _ {d : List ℕ} {from : Spot} {b : ℕ} {ns : List ℕ} (fits : PieceFits d from b ns) where
-  -- the next number
+  -- where it is #, the next number is put
   module _ (e : b ≡ hole) where
     pub number-there : from .used < length ns
     number-there = omega (arith, fits .enough, hole-taken b e)
@@ -139,7 +139,7 @@ module _ {d : List ℕ} {from : Spot} {b : ℕ} {ns : List ℕ} (fits : PieceFit
         → PutFrom d from (piece b (getD ns (from .used) 0)) (taken b) d′ (record { at = end; used = from .used + 1 })
     number-placed p = record { there = rw (hole-piece b (getD ns (from .used) 0) e) p; used = rw (hole-taken b e) }
 
-  -- or the byte itself
+  -- where it is not, the byte itself is put
   module _ (e : b ≡ hole → ⊥) where
     pub byte-fits : from .at < length d
     byte-fits = omega (arith, fits .within, ap length (byte-piece b (getD ns (from .used) 0) e))
@@ -153,7 +153,7 @@ module _ {d : List ℕ} {from : Spot} {b : ℕ} {ns : List ℕ} (fits : PieceFit
 
 -- ---- a form, byte by byte
 
--- Of a form that is put into d₀ from a spot on, the part from byte i on is left: d is the room so far, and `to` the spot in it.
+-- A form is being put into d₀ from a spot on, and what is left of it begins at byte i: d is the room as it stands, `to` the spot in it.
 pub record Left (d₀ f ns : List ℕ) (from : Spot) (d : List ℕ) (to : Spot) (i : ℕ) : Type 0 where
   pub inside : i ≤ length f
   pub same : length d ≡ length d₀
@@ -172,7 +172,7 @@ module _ {d₀ f ns : List ℕ} {from : Spot} {d : List ℕ} {to : Spot} {i : �
     turned : length (fill (drop i f) (drop (to .used) ns)) ≡ length next + length (fill (drop (i + 1) f) (drop (to .used + taken (getD f i 0)) ns))
     turned = ap length (fill-turn f ns i (to .used) more) ∙ length-append next _
 
-    -- the next byte has its room and its number
+    -- there is room for what the next byte stands for, and a number for it
     pub left-fits : PieceFits d to (getD f i 0) ns
     left-fits =
         record {
@@ -181,7 +181,7 @@ module _ {d₀ f ns : List ℕ} {from : Spot} {d : List ℕ} {to : Spot} {i : �
           writable = writable-at ns (to .used) (fits .writable);
         }
 
-    -- and is put
+    -- and it is put
     pub left-turn : {d′ : List ℕ} {to′ : Spot} → length d′ ≡ length d → PutFrom d to next (taken (getD f i 0)) d′ to′ → Left d₀ f ns from d′ to′ (i + 1)
     left-turn {d′} {to′} s p =
         let rest = fill (drop (i + 1) f) (drop (to .used + taken (getD f i 0)) ns) in
@@ -198,7 +198,7 @@ module _ {d₀ f ns : List ℕ} {from : Spot} {d : List ℕ} {to : Spot} {i : �
               (sym (put-then d (to .at) next rest (to′ .at) z (left-fits .within)));
         }
 
-  -- at the end all of it is there
+  -- at the end the whole form is put
   pub left-none : length f ≤ i → PutFrom d₀ from (fill f (drop (from .used) ns)) (holes f) d to
   left-none h =
       let e = fill-end f (drop (to .used) ns) i h in

@@ -1,4 +1,4 @@
--- The laws of grammars: a line that is spelled is read back, and every answer comes with its reason.
+-- The laws of grammars: a line that a grammar spells is read back, and every answer of the reader has its reason.
 use Prim.Native.Nat.{ℕ, suc, _+_, _≤_}
 use native.Mathlib.Nat.{add-zero, add-assoc}
 use native.Mathlib.Omega.{arith}
@@ -16,7 +16,7 @@ use Rattle.lines_text_law.specs.Grammar.{Grammar, stop, byte, either, nu
 use Rattle.lines_text_law.specs.code.Pieces.{lastly}
 use Rattle.lines_text_law.proofs.Digits.{numeral-then, Alike, Begun, number-cases}
 
--- by the grammar, bs is the line of e
+-- by the grammar g, bs is the line of e
 pub data Spells {E : Type 0} : Grammar E → E → List ℕ → Type 0 where
   s-stop : {e : E} → Spells (stop e) e []
   s-byte : {b : ℕ} {g : Grammar E} {e : E} {bs : List ℕ} → Spells g e bs → Spells (byte b g) e (b ∷ bs)
@@ -28,21 +28,21 @@ next-place : (p n : ℕ) → p + 1 + n ≡ p + suc n
 next-place p n = omega arith
 
 module _ {E : Type 0} where
-  -- the grammar's lines start with another byte than b
+  -- every line of the grammar starts with a byte other than b
   abbrev pub Misses : ℕ → Grammar E → Type 0
   Misses b (stop e) = ⊥
   Misses b (byte c g) = eqb c b ≡ false
   Misses b (either c g h) = (eqb c b ≡ false) × Misses b h
   Misses b (number g) = ⊥
 
-  -- they start with one byte, which is no digit
+  -- every line of the grammar starts with the same byte, which is no digit
   abbrev pub Parts : Grammar E → Type 0
   Parts (stop e) = ⊥
   Parts (byte c g) = digit c ≡ false
   Parts (either c g h) = ⊥
   Parts (number g) = ⊥
 
-  -- bytes begin at most one way: the two ways of a choice start with different bytes, and what follows a number starts with no digit
+  -- at each place at most one way is open: the two ways of a choice start with different bytes, and no digit follows a number
   abbrev pub Plain : Grammar E → Type 0
   Plain (stop e) = Unit
   Plain (byte b g) = Plain g
@@ -76,7 +76,7 @@ module _ {E : Type 0} where
       → look (number g) (numeral v ++ l) p ≡ look (g v) l (p + length (numeral v))
   after g v x u l p q d h = rw q (numeral-then (λ w t n. look (g w) t n) v x u p h d)
 
-  -- what is spelled is read back, whatever follows
+  -- what is spelled is read back, whatever bytes follow
   pub back : {g : Grammar E} {e : E} {bs : List ℕ} → Plain g → Spells g e bs → (r : List ℕ) (p : ℕ) → look g (bs ++ r) p ≡ whole e (p + length bs)
   back o s-stop r p = rw add-zero
   back o (s-byte {b = b} {g = g} {bs = bs} s) r p = this b g (bs ++ r) p ∙ back o s r (p + 1) ∙ rw (next-place p (length bs))
@@ -90,15 +90,15 @@ module _ {E : Type 0} where
       (after g v (m .0) (m .1 ++ r) (bs ++ r) p (ap (λ (z : List ℕ). z ++ r) (m .2)) (m .3) h
       ∙ back (o v .1) s r (p + length (numeral v)))
 
-  -- each grammar has a line
+  -- every grammar spells some line
   some : (g : Grammar E) → (e : E) × (bs : List ℕ) × Spells g e bs
   some (stop e) = (e, [], s-stop)
   some (byte b g) = let s = some g in (s .0, b ∷ s .1, s-byte (s .2))
   some (either b g h) = let s = some g in (s .0, b ∷ s .1, s-this (s .2))
   some (number g) = let s = some (g 0) in (s .0, numeral 0 ++ s .1, s-number 0 (omega arith) (s .2))
 
--- What an answer says of the bytes l: a line stands at their start; they begin one; or a begins one, and a with the byte x after it is
--- answered so whatever comes later.
+-- The reason for an answer about the bytes l: a line stands at their start; or they begin one; or a part a of them begins one, and after a
+-- the byte x is wrong, whatever comes later.
 pub data Seen {E : Type 0} (g : Grammar E) (l : List ℕ) (p : ℕ) : Answer E → Type 0 where
   was-whole : (e : E) (m : ℕ) (bs r : List ℕ) → Spells g e bs → l ≡ bs ++ r → m ≡ p + length bs → Seen g l p (whole e m)
   was-unfinished : (e : E) (t : List ℕ) → Spells g e (l ++ t) → Seen g l p unfinished
@@ -114,7 +114,7 @@ same [] = refl
 same (x ∷ l) = (l, refl)
 
 module _ {E : Type 0} where
-  -- one byte in front
+  -- the reason behind one byte is a reason with it
   front : (f g : Grammar E) (b : ℕ)
       → ((e : E) (bs : List ℕ) → Spells g e bs → Spells f e (b ∷ bs))
       → ((u : List ℕ) (p : ℕ) → look f (b ∷ u) p ≡ look g u (p + 1))
@@ -124,7 +124,7 @@ module _ {E : Type 0} where
   front f g b c k l p (was-wrong m a x z q n e t s w) =
       was-wrong m (b ∷ a) x z (rw q) (omega arith) e t (c e (a ++ t) s) (λ u. k (a ++ x ∷ u) p ∙ w u)
 
-  -- the other way of a choice
+  -- the reason for the other way of a choice is one for the choice
   beside : (b : ℕ) (g h : Grammar E) (y : ℕ) (l : List ℕ) (p : ℕ) → eqb y b ≡ false → {o : Answer E} → Seen h (y ∷ l) p o → Seen (either b g h) (y ∷ l) p o
   beside b g h y l p v (was-whole e m bs r s q n) = was-whole e m bs r (s-else s) q n
   beside b g h y l p v (was-unfinished e t s) = was-unfinished e t (s-else s)
@@ -134,7 +134,7 @@ module _ {E : Type 0} where
       was-wrong m (c ∷ a) x z q n e t (s-else s)
       (λ u. other b g h c (a ++ x ∷ u) (c ∷ (a ++ x ∷ u)) p refl (let i : y ≡ c = cc in rw i at v) ∙ w u)
 
-  -- a numeral in front
+  -- the reason behind a numeral is a reason with it
   behind : (g : ℕ → Grammar E) (l : List ℕ) (k : Begun E l) (p : ℕ) {o : Answer E} → Seen (g (k .v)) (k .r) (p + length (numeral (k .v))) o → Seen (number g) l p o
   behind g l k p (was-whole e m bs r s q n) =
       was-whole e m (numeral (k .v) ++ bs) r (s-number (k .v) (k .below) s)
@@ -180,22 +180,22 @@ module _ {E : Type 0} where
       ap (λ (z : List ℕ). look (number g) z p) (k .split) ∙ k .reads (λ v r j. look (g v) r j) p (k .r) (same (k .r)) in
       rw r (behind g l k p (see (g (k .v)) (k .r) (p + length (numeral (k .v))))))
 
--- ---- what is left to show of a line sort, a line for each end of its grammar
+-- ---- how to show which lines a grammar spells, with one equation for each of its ends
 
 module _ {E : Type 0} where
-  -- a word and what the rest spells
+  -- a word is spelled before what the rest spells
   pub s-word : (w : List ℕ) {g : Grammar E} {e : E} {bs : List ℕ} → Spells g e bs → Spells (word w g) e (w ++ bs)
   unfolding word
   s-word [] s = s
   s-word (b ∷ w) s = s-byte (s-word w s)
 
-  -- a last field
+  -- the last field of a line is spelled
   pub s-last : (w : List ℕ) (f : ℕ → E) (v : ℕ) → v ≤ writtenMost → Spells (lastly w f) (f v) (w ++ (numeral v ++ bytes "\n"))
   unfolding lastly
   s-last w f v h = s-word w (s-number v h (s-word (bytes "\n") s-stop))
 
--- Each line that the grammar spells is, after what c puts in front, the line that r gives, and f holds of its value: one equation for each
--- end of the grammar.
+-- Every line that the grammar spells, with what c puts in front, is the line that r gives to its value, and f holds of the value: there is
+-- one equation for each end of the grammar.
 module _ {E : Type 0} (r : E → List ℕ) (f : E → Type 0) where
   abbrev pub Agrees : Grammar E → (List ℕ → List ℕ) → Type 0
   Agrees (stop e) c = (c [] ≡ r e) × f e

@@ -1,4 +1,4 @@
--- The grammar's reader gives the right answer (specs/Reading), and it is the only right one.
+-- The reader that goes by a grammar gives the right answer (specs/Reading.antt), and no other answer is right.
 use Prim.Native.Nat.{ℕ, suc, _+_, _-_, _≤_, _<_}
 use native.Mathlib.Nat.{zero-add}
 use native.Mathlib.Omega.{arith}
@@ -24,21 +24,21 @@ longer a x z k h =
     let e : k ≡ length a + suc (k - length a - 1) = omega arith in
     ap (λ (j : ℕ). take j (a ++ x ∷ z)) e ∙ take-append-add a (x ∷ z) (suc (k - length a - 1))
 
--- a grammar that is plain, and whose lines are those of L
+-- the grammar is plain, and its lines are those of L
 module _ {E : Type 0} (L : E → List ℕ → Type 0) (g : Grammar E) (plain : Plain g)
     (to : (e : E) (bs : List ℕ) → Spells g e bs → L e bs) (from : (e : E) (bs : List ℕ) → L e bs → Spells g e bs) where
-  -- a line is read back, whatever follows
+  -- a line is read back, whatever bytes follow
   pub read-back : (e : E) (bs r : List ℕ) → L e bs → look g (bs ++ r) 0 ≡ whole e (length bs)
   read-back e bs r l = rw (zero-add (length bs)) at (back plain (from e bs l) r 0)
 
-  -- a line at the start is what is read
+  -- where a line stands at the start of the bytes, it is what is read
   holds : (b : List ℕ) (e : E) (m : ℕ) → m ≤ length b → L e (take m b) → look g b 0 ≡ whole e m
   holds b e m h s =
       ap (λ (c : List ℕ). look g c 0) (sym (take-append-drop m b))
       ∙ read-back e (take m b) (drop m b) s
       ∙ rw (length-take-le m b h)
 
-  -- where a byte is wrong after a, no line begins so
+  -- where the byte x is wrong behind a, no line begins with both
   stuck : (m : ℕ) (a : List ℕ) (x : ℕ) → ((u : List ℕ) → look g (a ++ x ∷ u) 0 ≡ wrong m) → (u : List ℕ) → Begins L (a ++ x ∷ u) → ⊥
   stuck m a x w u b =
       not-both (back plain (from (b .0) ((a ++ x ∷ u) ++ b .1) (b .2)) [] 0)

@@ -1,4 +1,4 @@
--- Bytes put into a room, one after the other.
+-- Bytes are put into a room one after the other.
 use Prim.Native.Nat.{ℕ, _+_, _≤_, _<_}
 use native.Mathlib.Omega.{arith}
 use mathlib.Core.Path.{_≡_, _∙_}
@@ -8,11 +8,11 @@ use Rattle.tables.specs.Put.{put}
 use Rattle.tables.proofs.Puts.{put-none, put-cons, put-put}
 use Rattle.lines_text_law.specs.code.Room.{Put}
 
--- a store is one byte put
+-- a store at a place is one byte put there
 pub set-put : (d : List ℕ) (i x : ℕ) → i < length d → set d i x ≡ put d i (x ∷ [])
 set-put d i x h = rw put-none at (put-cons d i x [] h)
 
--- one after the other is both at once
+-- two runs of bytes put one behind the other are both put at once
 pub put-then : (d : List ℕ) (n : ℕ) (a b : List ℕ) (k : ℕ) → k ≡ n + length a → n + length a ≤ length d → put (put d n a) k b ≡ put d n (a ++ b)
 put-then d n a b k q h = rw q (put-put d n a b h)
 

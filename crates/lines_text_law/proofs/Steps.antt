@@ -1,4 +1,4 @@
--- How the grammar's reader goes by the pieces that code reads, and the turns of the two loops over bytes.
+-- The reader that goes by a grammar answers what code finds piece by piece; and the turns of the two loops over bytes.
 use Prim.Native.Nat.{ℕ, zero, suc, _+_, _-_, _*_, _^_, _≤_, _<_}
 use native.Mathlib.Nat.{pow-suc}
 use native.Mathlib.Numerals.{add-one}
@@ -18,7 +18,7 @@ use Rattle.lines_text_law.specs.Grammar.{Grammar, stop, byte, either, nu
 use Rattle.lines_text_law.specs.code.Pieces.{at, wordOn, moreOn, numberOn, thenNumber, fieldOn, endAfter, thenEnd, lastOn, lastly}
 use Rattle.lines_text_law.proofs.Digits.{digit-yes, digit-low, digit-high, fewer}
 
--- what is left of a list is empty, or a byte and what is left from there
+-- the bytes from place n on are none, or the byte there and the bytes behind it
 rest-cases : {P : Type 0} (s : List ℕ) (n : ℕ) → (drop n s ≡ [] → P) → (drop n s ≡ getD s n 0 ∷ drop (n + 1) s → P) → P
 rest-cases {P} s n a b = go (drop n s) refl
   where
@@ -34,7 +34,7 @@ pub at-stop : {E : Type 0} (s : List ℕ) (e : E) (n : ℕ) → whole e n ≡ at
 unfolding at
 at-stop s e n = refl
 
--- what comes after a piece
+-- how reading goes on behind a piece
 abbrev afterWord : {E : Type 0} → Reached → (ℕ → Answer E) → Answer E
 afterWord (Reached.To m) k = k m
 afterWord Reached.Short k = unfinished
@@ -131,7 +131,7 @@ module _ {E : Type 0} (s w : List ℕ) (f : ℕ → E) (n : ℕ) (r : Found) (fo
   pub last-wrong : (m : ℕ) → r ≡ Found.Wrong m → wrong m ≡ at s (lastly w f) n
   last-wrong m e = sym (rw (at-last s w f n, ← found, e))
 
--- a choice, by the byte there
+-- a choice is decided by the byte at its place
 module _ {E : Type 0} (s : List ℕ) (b : ℕ) (g h : Grammar E) (n : ℕ) where
   pub either-end : length s ≤ n → unfinished ≡ at s (either b g h) n
   unfolding at
@@ -145,7 +145,7 @@ module _ {E : Type 0} (s : List ℕ) (b : ℕ) (g h : Grammar E) (n : ℕ) where
   unfolding at
   either-else o k e q = q ∙ sym (rw (drop-cons s n 0 k, ne-eqb (getD s n 0) b e))
 
--- its last way
+-- the last way of a choice is taken or the byte is wrong
 module _ {E : Type 0} (s : List ℕ) (b : ℕ) (g : Grammar E) (n : ℕ) where
   pub byte-this : (o : Answer E) → n < length s → getD s n 0 ≡ b → o ≡ at s g (n + 1) → o ≡ at s (byte b g) n
   unfolding at
@@ -155,7 +155,7 @@ module _ {E : Type 0} (s : List ℕ) (b : ℕ) (g : Grammar E) (n : ℕ) where
   unfolding at
   byte-else k e = sym (rw (drop-cons s n 0 k, ne-eqb (getD s n 0) b e))
 
--- a reader's `return`, by the pieces found on the way, by the byte there, or by both: `search pieces`, `search choices`, `search steps`
+-- Rules for a reader's `return`: `search pieces` by the pieces found on the way, `search choices` by the byte there, `search steps` by both.
 pub ruleset pieces = (
   at-stop,
   word-to,
@@ -173,7 +173,7 @@ pub ruleset choices = (either-end, either-this, either-else, byte-this, byte-els
 
 pub ruleset steps = (pieces, choices)
 
--- ---- a word and a number, as code joins them: r is what the word found
+-- ---- a word and then a number, as code reads them: r is what the word found
 
 module _ (w s : List ℕ) (n : ℕ) (r : Reached) (found : r ≡ wordOn w (drop n s) n) where
   pub field-on : (m : ℕ) (f : Found) → r ≡ Reached.To m → f ≡ numberOn (drop m s) m → f ≡ fieldOn w s n
@@ -188,7 +188,7 @@ module _ (w s : List ℕ) (n : ℕ) (r : Reached) (found : r ≡ wordOn w (drop 
   unfolding fieldOn
   field-off m e = sym (rw (← found, e))
 
--- and with the line's end: f is what the field found, r the newline
+-- then the newline: f is what the word and the number found, r what the newline found
 module _ (w s : List ℕ) (n : ℕ) (f : Found) (found : f ≡ fieldOn w s n) where
   pub last-cut : f ≡ Found.Short → Found.Short ≡ lastOn w s n
   unfolding lastOn
@@ -211,7 +211,7 @@ module _ (w s : List ℕ) (n : ℕ) (f : Found) (found : f ≡ fieldOn w s n) wh
     unfolding lastOn
     end-off k e = sym (rw (← found, value, ← end, e))
 
--- ---- the loop over a word's bytes: o is what the whole word comes to, and so does what is left of it
+-- ---- the loop over a word's bytes: o is what the whole word comes to, which is what the bytes left of it come to
 
 module _ (w s : List ℕ) (i p : ℕ) (o : Reached) (rest : o ≡ wordOn (drop i w) (drop p s) p) where
   pub word-past : length w ≤ i → Reached.To p ≡ o
@@ -226,7 +226,7 @@ module _ (w s : List ℕ) (i p : ℕ) (o : Reached) (rest : o ≡ wordOn (drop i
   pub word-turn : i < length w → p < length s → getD s p 0 ≡ getD w i 0 → o ≡ wordOn (drop (i + 1) w) (drop (p + 1) s) (p + 1)
   word-turn h k n = rest ∙ rw (drop-cons w i 0 h, drop-cons s p 0 k, eq-eqb (getD s p 0) (getD w i 0) n, add-one i, add-one p)
 
--- ---- a number's first byte, b
+-- ---- the first byte of a number, b
 
 pub number-ends : (s : List ℕ) (p : ℕ) → length s ≤ p → Found.Short ≡ numberOn (drop p s) p
 number-ends s p h = sym (rw (drop-of-length-le s h))
@@ -244,7 +244,7 @@ module _ (s : List ℕ) (p b : ℕ) (there : p < length s) (read : b ≡ getD s 
   pub number-first : (b ≡ 48 → ⊥) → 48 ≤ b → b < 58 → numberOn (drop p s) p ≡ moreOn 8 (b - 48) (drop (p + 1) s) (p + 1)
   number-first n h k = rw (drop-cons s p 0 there, ← read, ne-eqb b 48 n, digit-yes b h k, add-one p)
 
--- ---- the loop over its further digits, d each: o is what the whole number comes to
+-- ---- the loop over the further digits, of which d is the next: o is what the whole number comes to
 
 module _ (s : List ℕ) (p f v : ℕ) (o : Found) (rest : o ≡ moreOn f v (drop p s) p) where
   more-is : {x : Found} → moreOn f v (drop p s) p ≡ x → x ≡ o
@@ -281,7 +281,7 @@ module _ (s : List ℕ) (p f v : ℕ) (o : Found) (rest : o ≡ moreOn f v (drop
         go zero y = absurd (let x : ⊥ = omega arith in x)
         go (suc k) y = let e : suc k - 1 ≡ k = omega arith in rw (drop-cons s p 0 there, ← read, digit-yes d a b, e, add-one p)
 
--- one digit more, one place less; and never more than nine digits
+-- with one more digit read there is place for one fewer, and there are never more than nine
 module _ (left v d : ℕ) (some : 0 < left) (few : left ≤ 8) (below : v < 10 ^ (9 - left)) (low : 48 ≤ d) (high : d < 58) where
   pub one-more : v * 10 + (d - 48) < 10 ^ (9 - (left - 1))
   one-more =

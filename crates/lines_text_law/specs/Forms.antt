@@ -6,7 +6,7 @@ use lib.ListN.{getD, drop}
 use lib.Dec.{eqb}
 use Rattle.lines_text_law.specs.Numerals.{numeral}
 
--- the byte #
+-- the byte #, which stands for a number
 abbrev pub hole : ℕ
 hole = 35
 
@@ -14,11 +14,11 @@ hole = 35
 abbrev pub piece : ℕ → ℕ → List ℕ
 piece c n = cond (eqb c hole) (numeral n) (c ∷ [])
 
--- how many numbers it takes
+-- how many numbers a byte of a form takes
 abbrev pub taken : ℕ → ℕ
 taken c = cond (eqb c hole) 1 0
 
--- the line
+-- the line that a form makes with its numbers
 unfoldable pub fill : List ℕ → List ℕ → List ℕ
 fill [] ns = []
 fill (c ∷ f) ns = piece c (getD ns 0 0) ++ fill f (drop (taken c) ns)

@@ -1,32 +1,33 @@
--- A grammar of lines, and the reader that computes by it: a byte at a time, never past the line.
+-- A grammar of lines, and the reader that goes by it: it reads a byte at a time and never past the line.
 use Prim.Native.Nat.{ℕ, zero, suc, _+_, _-_, _*_}
 use mathlib.Core.Bool.{Bool, false, cond}
 use mathlib.Core.List.{List, [], _∷_}
 use lib.Dec.{ltb, eqb}
 
--- lines of values of E: an end and its value; a byte and the rest; a byte and its rest, or else another; a number and the rest that it picks
+-- A grammar of the lines of values of E: the end, with its value; a byte and the rest; a byte and its rest, or else another way; a number and
+-- the rest, which depends on it.
 pub data Grammar (E : Type 0) : Type 0 where
   stop : E → Grammar E
   byte : ℕ → Grammar E → Grammar E
   either : ℕ → Grammar E → Grammar E → Grammar E
   number : (ℕ → Grammar E) → Grammar E
 
--- a word and the rest
+-- a word, and then the rest
 unfoldable pub word : {E : Type 0} → List ℕ → Grammar E → Grammar E
 word [] g = g
 word (b ∷ w) g = byte b (word w g)
 
--- what reading finds: a value and where its line ends; that the bytes end within a line; or the place of the first wrong byte
+-- what reading answers: a value and where its line ends; that the bytes end within a line; or the place of the first wrong byte
 pub data Answer (E : Type 0) : Type 0 where
   whole : E → ℕ → Answer E
   unfinished : Answer E
   wrong : ℕ → Answer E
 
--- 0 to 9
+-- whether a byte is one of the digits 0 to 9
 abbrev pub digit : ℕ → Bool
 digit x = cond (ltb x 48) false (ltb x 58)
 
--- up to f digits more after those whose value is v, and then k
+-- reads up to f more digits behind those whose value is v, and goes on with k
 abbrev pub more : {E : Type 0} → ℕ → ℕ → List ℕ → ℕ → (ℕ → List ℕ → ℕ → Answer E) → Answer E
 more zero v l n k = k v l n
 more (suc f) v [] n k = k v [] n
@@ -35,7 +36,7 @@ more (suc f) v (x ∷ l) n k =
     let end = k v (x ∷ l) n in
     cond (digit x) on end
 
--- a numeral: 0, or a digit from 1 and up to eight more; and then k
+-- reads a numeral, which is 0, or a digit from 1 and up to eight more, and goes on with k
 abbrev pub numeralThen : {E : Type 0} → List ℕ → ℕ → (ℕ → List ℕ → ℕ → Answer E) → Answer E
 numeralThen [] n k = unfinished
 numeralThen (x ∷ l) n k =
@@ -43,7 +44,7 @@ numeralThen (x ∷ l) n k =
     let on = more 8 (x - 48) l (n + 1) k in
     cond (eqb x 48) naught (cond (digit x) on (wrong n))
 
--- the bytes l, of which the first stands at place n, read by a grammar
+-- reads the bytes l by a grammar; the first of them stands at place n
 abbrev pub look : {E : Type 0} → Grammar E → List ℕ → ℕ → Answer E
 look (stop e) l n = whole e n
 look (byte b g) [] n = unfinished

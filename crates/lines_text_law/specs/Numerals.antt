@@ -5,7 +5,7 @@ use mathlib.Core.List.{List, [], _∷_, _++_}
 use lib.Dec.{ltb, leb}
 use Rattle.terms.specs.Sizes.{writtenMost}
 
--- a number in decimal, of at most f + 1 digits: its tenth, and then its last digit
+-- a number in decimal, of at most f + 1 digits: the digits of its tenth, and then its last digit
 abbrev pub dec : ℕ → ℕ → List ℕ
 dec zero n = (48 + n) ∷ []
 dec (suc f) n =
@@ -16,7 +16,7 @@ dec (suc f) n =
 unfoldable pub numeral : ℕ → List ℕ
 numeral n = dec 8 n
 
--- whether numbers can be written (`Writable`), as code tests it
+-- whether all numbers can be written: the test that code makes for `Writable`
 unfoldable pub allWritable : List ℕ → Bool
 allWritable [] = true
 allWritable (n ∷ ns) = leb n writtenMost && allWritable ns

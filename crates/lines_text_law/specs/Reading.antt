@@ -1,4 +1,4 @@
--- Document 01, "Session lines": what an answer about bytes has to say, given which bytes are the line of which value.
+-- Document 01, "Session lines": what the right answer about some bytes is, once it is said which bytes are the line of which value.
 use Prim.Native.Nat.{ℕ, _≤_, _<_}
 use mathlib.Core.List.{List, _++_}
 use lib.ListN.{length, take}
@@ -6,16 +6,16 @@ use Rattle.lines_text_law.specs.Grammar.{Answer, whole, unfinished, wron
 
 -- L e b says that b is the line of e
 module _ {E : Type 0} (L : E → List ℕ → Type 0) where
-  -- "begin a line"
+  -- the bytes "begin a line": some line starts with them
   abbrev pub Begins : List ℕ → Type 0
   Begins b = (e : E) × (rest : List ℕ) × L e (b ++ rest)
 
-  -- "hold .. whole one"
+  -- the bytes "hold .. whole one": some line stands at their start
   abbrev pub Contains : List ℕ → Type 0
   Contains b = (e : E) × (n : ℕ) × (n ≤ length b) × L e (take n b)
 
-  -- A value and the length of its line. "14 exactly when the bytes given, none included, begin a line and hold no whole one." 15 else:
-  -- "Place is the length of the longest start that begins such a line".
+  -- A line is answered with its value and its length. "14 exactly when the bytes given, none included, begin a line and hold no whole one."
+  -- Anything else is 15: "Place is the length of the longest start that begins such a line".
   abbrev pub Right : List ℕ → Answer E → Type 0
   Right b (whole e n) = (n ≤ length b) × L e (take n b)
   Right b unfinished = Begins b × (Contains b → ⊥)

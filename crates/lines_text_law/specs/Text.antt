@@ -1,4 +1,4 @@
--- Text as bytes.
+-- Text as a list of bytes.
 use Prim.Native.Nat.{ℕ}
 use Prim.Native.Char.{code}
 use Prim.Native.String as S

@@ -1,4 +1,4 @@
-// A line written: its form, in two parts, and its numbers.
+// A line is written from its form, which comes in two parts, and its numbers.
 use lines_text::room;
 use lines_text_law::Spot;
 use lines_writing_law::Wrote;

@@ -1,6 +1,7 @@
-// lines_writing: session lines written into a lent line room: settings and events.
-// It may use terms, lines_text and lines_writing_law. It promises, for any value and room: 16 for a room under 128 bytes, then 17 for a number that is
-// too long, with the room as it was; else the room starts with the value's line, its length is answered, and the rest is as it was.
+// lines_writing: settings and events are written as session lines into a lent line room.
+// It may use terms, lines_text and lines_writing_law, and what these use. It promises, for any value and room: 16 for a room under 128 bytes,
+// then 17 for a number that is too long, with the room as it was; else the room starts with the value's line, its length is answered, and the
+// rest is as it was.
 
 pub mod forms;
 
@@ -21,7 +22,7 @@ ghost use Rattle.lines_reading_law.specs.Lines.{actHead, numbersForm, settingsF
 ghost use Rattle.lines_writing_law.specs.Lines.{orderFigures};
 ghost use Rattle.lines_writing_law.specs.Writes.{Writes, WritesForm, Formed};
 
-// An order, after the part of its line that names the side, which is short and has the time's hole.
+// Writes an order behind the head of its line, which names the side; the head is short and has a place for the time.
 fn write_order(head: &[u8], time: u64, o: Entry, room: &mut [u8]) -> Wrote
     requires { ⌜ (holes (now head) ≡ 1) × (longest (now head) ≤ 32) ⌝ }
     ensures { λ r. ⌜ WritesForm (now (room .entry)) (now (head .entry) ++ orderForm (o .kind) (o .life)) (orderFigures time o) r (now (room .exit)) ⌝ }
@@ -62,7 +63,7 @@ fn write_order(head: &[u8], time: u64, o: Entry, room: &mut [u8]) -> Wrote
     }
 }
 
-// The line of an act that is no order.
+// Writes the line of an act that is no order.
 fn act_line(tail: &[u8], numbers: &[u64], room: &mut [u8]) -> Wrote
     requires { ⌜ Formed actHead (now tail) (now numbers) ⌝ }
     ensures { λ r. ⌜ WritesForm (now (room .entry)) (actHead ++ now (tail .entry)) (now (numbers .entry)) r (now (room .exit)) ⌝ }
@@ -70,7 +71,7 @@ fn act_line(tail: &[u8], numbers: &[u64], room: &mut [u8]) -> Wrote
     forms::write(b"t=# do=", tail, numbers, room)
 }
 
-// The line of an event.
+// Writes the line of an event.
 pub fn write_event(event: Event, room: &mut [u8]) -> Wrote
     ensures { λ r. ⌜ Writes (now (room .entry)) (renderEvent event) (eventFigures event) r (now (room .exit)) ⌝ }
 {
@@ -103,7 +104,7 @@ pub fn write_event(event: Event, room: &mut [u8]) -> Wrote
     }
 }
 
-// Settings, after the part of their line that names the category, which is short and has no hole.
+// Writes the numbers of settings behind the head of their line, which names the category; the head is short and has no place for a number.
 fn write_numbers(head: &[u8], g: Settings, room: &mut [u8]) -> Wrote
     requires { ⌜ (holes (now head) ≡ 0) × (longest (now head) ≤ 16) ⌝ }
     ensures { λ r. ⌜ WritesForm (now (room .entry)) (now (head .entry) ++ numbersForm) (settingsFigures g) r (now (room .exit)) ⌝ }
@@ -117,7 +118,7 @@ fn write_numbers(head: &[u8], g: Settings, room: &mut [u8]) -> Wrote
     )
 }
 
-// The line of settings.
+// Writes the line of settings.
 pub fn write_settings(settings: Settings, room: &mut [u8]) -> Wrote
     ensures { λ r. ⌜ Writes (now (room .entry)) (renderSettings settings) (settingsFigures settings) r (now (room .exit)) ⌝ }
 {

@@ -28,7 +28,7 @@ use Rattle.lines_writing_law.specs.Writes.{lineVerdict, wroteOf, wroteCo
 pub writes-one : {d line ns d′ d″ : List ℕ} {r q : Wrote} → Writes d line ns r d′ → Writes d line ns q d″ → (r ≡ q) × (d′ ≡ d″)
 writes-one a b = (a .answer ∙ sym (b .answer), a .laid ∙ sym (b .laid))
 
--- its number is that of the first row that applies
+-- the number of an answer is that of the first row that applies
 code-by : (v : Verdict) (n : ℕ) → wroteCode (wroteOf v n) ≡ codeOf v
 code-by Fine n = refl
 code-by (Refused r) n = refl
@@ -43,7 +43,7 @@ fine-writable d ns e = tested-writable ns (fine-first _ (allWritable ns) [] (fin
 never : (n : ℕ) (r : Refusal) → Wrote.Written n ≡ Wrote.Refused r → ⊥
 never n r p = let z : _≡_ {A = ℕ} 0 1 = cc in omega arith
 
--- where a length is answered, the room starts with the line, and each number could be written
+-- where a length is answered, the room starts with the line, and each of its numbers can be written
 written-line : {d line ns d′ : List ℕ} {n : ℕ} → Writes d line ns (Wrote.Written n) d′ → (n ≡ length line) × (d′ ≡ line ++ drop (length line) d) × Writable ns
 written-line {d} {line} {ns} {d′} {n} w = go (lineVerdict d ns) refl (w .answer) (w .laid)
   where
@@ -61,7 +61,7 @@ written-within {d} {line} {ns} {d′} {n} w s =
     let g = l .0 in
     omega arith
 
--- what was written is read back as the same value and length, with whatever else stands in the room
+-- what was written is read back with the same value and length, whatever else stands in the room
 pub written-event-back : {d d′ : List ℕ} {n : ℕ} (e : Event) → Writes d (renderEvent e) (eventFigures e) (Wrote.Written n) d′ → readEvent d′ ≡ whole e n
 written-event-back {d} e w =
     let l = written-line w in

@@ -1,4 +1,4 @@
--- The line of a value, by its kind: what code found the kind to be, and the line that it wrote for that kind.
+-- The line of a value is the one that code wrote for the kind that it found the value to be.
 use Prim.Native.Nat.{ℕ}
 use mathlib.Core.Path.{_≡_}
 use mathlib.Core.List.{List, [], _∷_, _++_}
@@ -57,7 +57,7 @@ module _ {d d′ : List ℕ} {r : Wrote} where
   unfolding renderReport holes
   by-ended p e why q n w = rw (q, ← n) w
 
-  -- a refusal by its number
+  -- the line of a refusal is written with its number
   pub by-refused : (time : ℕ) (q : Refusal) (code : ℕ) → code ≡ numberOf q → WritesForm d (saidHead ++ bytes "refuse code=#\n") (time ∷ code ∷ []) r d′
       → Writes d (renderRefused time q) (refusedFigures time q) r d′
   unfolding renderRefused

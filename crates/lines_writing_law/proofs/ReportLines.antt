@@ -1,4 +1,4 @@
--- Two reports never share a line: report lines have a grammar too, which no code reads.
+-- Two reports never share a line. The lines of reports have a grammar too, which no code reads and which shows this.
 use Prim.Native.Nat.{ℕ, _≤_}
 use native.Mathlib.Omega.{arith}
 use mathlib.Core.Path.{_≡_, refl}

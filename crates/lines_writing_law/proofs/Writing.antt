@@ -1,4 +1,4 @@
--- The ways to answer of a writer, and that a form in two parts is one.
+-- A writer answers in three ways, each of them right; and a form that is put in two parts is put as one.
 use Prim.Native.Nat.{ℕ, _+_, _≤_, _<_}
 use native.Mathlib.Omega.{arith}
 use native.Mathlib.Nat.{zero-add}
@@ -40,7 +40,7 @@ module _ (d line ns : List ℕ) where
         laid = rw (le-leb lineRoom (length d) h, k) (p .laid);
       }
 
--- what a test that did not stop showed, and one that did
+-- what code knows where a test let it go on, and where it stopped it
 pub passed : (r x : Bool) → r ≡ x → not r ≡ false → x ≡ true
 passed r x e t = sym e ∙ not-false r t
 
@@ -59,7 +59,7 @@ module _ {d h t ns : List ℕ} (formed : Formed h t ns) (large : lineRoom ≤ le
       let e = formed .enough in
       record { within = omega (arith, fill-length h ns); enough = omega arith; writable = tested-writable ns fine }
 
-  -- what the first part left
+  -- the second part fits behind the first, and then both are put
   module _ {d₁ : List ℕ} {middle : Spot} (head : PutFrom d start (fill h ns) (holes h) d₁ middle) (same : length d₁ ≡ length d) where
     pub tail-fits : Fits d₁ middle t ns
     tail-fits =
@@ -79,5 +79,5 @@ module _ {d h t ns : List ℕ} (formed : Formed h t ns) (large : lineRoom ≤ le
         let e : middle .used ≡ holes h = head .used ∙ zero-add (holes h) in
         rw (fill-append h t ns) (then (omega (arith, fill-length h ns)) (head .there) (rw e at (tail .there)))
 
--- each answer of `write`: `search writer`
+-- rules for each answer of `write`: `search writer`
 pub ruleset writer = (needs, passed, stopped, refused-room, refused-number, head-fits, tail-fits, both-put, written)

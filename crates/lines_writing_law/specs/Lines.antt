@@ -1,4 +1,4 @@
--- Document 01, "Session lines": the lines that are written and never read, those of reports and the program's own.
+-- Document 01, "Session lines": the lines that are written and never read: those of reports, and the program's own.
 use Prim.Native.Nat.{ℕ}
 use mathlib.Core.List.{List, [], _∷_, _++_}
 use lib.ListN.{take}
@@ -30,11 +30,11 @@ saidForm (Slab band) = bytes "slab low=# high=#\n"
 saidForm (Ref price) = bytes "ref price=#\n"
 saidForm (Close closing) = bytes "close price=# base=#\n"
 
--- the fields of its record, one for each # of its form
+-- the numbers of a report's line: the fields of its record, one for each # of its form
 abbrev pub saidFigures : Said → List ℕ
 saidFigures s = take (holes (saidForm s)) (fieldsOf s)
 
--- "t=# say=", which every report line begins with
+-- "t=# say=", with which every report line begins
 abbrev pub saidHead : List ℕ
 saidHead = bytes "t=# say="
 

@@ -1,4 +1,4 @@
--- What writing a line into a lent room does, whatever the line.
+-- What writing a line into a lent room does, whatever the line is.
 use Prim.Native.Nat.{ℕ, _+_, _≤_}
 use mathlib.Core.Path.{_≡_}
 use mathlib.Core.List.{List, [], _∷_, _++_}
@@ -22,26 +22,26 @@ abbrev pub wroteOf : Verdict → ℕ → Wrote
 wroteOf Fine n = Wrote.Written n
 wroteOf (Refused r) n = Wrote.Refused r
 
--- the paper's number of an answer: that of the refusal, 0 for a line
+-- the paper's number of an answer: that of the refusal, or 0 for a line
 abbrev pub wroteCode : Wrote → ℕ
 wroteCode (Wrote.Written n) = 0
 wroteCode (Wrote.Refused r) = numberOf r
 
--- the room: the line, and "Line room past the newline is untouched"; refusals "write nothing"
+-- the room afterwards: the line at its start, "Line room past the newline is untouched"; refusals "write nothing"
 abbrev pub roomOf : Verdict → List ℕ → List ℕ → List ℕ
 roomOf Fine line room = line ++ drop (length line) room
 roomOf (Refused r) line room = room
 
--- a line with its numbers was written into room, which is room′ afterwards, and r was answered
+-- the line, with these numbers in it, was written into room, which is room′ afterwards, and r was answered
 pub record Writes (room line numbers : List ℕ) (r : Wrote) (room′ : List ℕ) : Type 0 where
   pub answer : r ≡ wroteOf (lineVerdict room numbers) (length line)
   pub laid : room′ ≡ roomOf (lineVerdict room numbers) line room
 
--- the same of a form and its numbers
+-- the same, with the line given as a form and its numbers
 abbrev pub WritesForm : List ℕ → List ℕ → List ℕ → Wrote → List ℕ → Type 0
 WritesForm room form numbers r room′ = Writes room (fill form numbers) numbers r room′
 
--- a form in two parts that has a hole for each number, and whose longest line a room of 128 bytes holds
+-- a form in two parts has a place for each number, and a room of 128 bytes holds its longest line
 pub record Formed (head tail numbers : List ℕ) : Type 0 where
   pub enough : holes head + holes tail ≡ length numbers
   pub short : longest head + longest tail ≤ lineRoom

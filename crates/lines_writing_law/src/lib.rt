@@ -1,5 +1,6 @@
 // lines_writing_law: the law of writing: the lines of reports and of the program, and what a writer leaves in the room.
-// It has no code and may use terms, lines_text_law and lines_reading_law. It promises: what is written is read back, and two values never share a line.
+// It has no code, and may use terms, tables, lines_text_law and lines_reading_law. It promises: settings and events that were written are
+// read back, two reports never share a line, and the lines of settings, events and reports fit a line room.
 
 use terms::Refusal;
 

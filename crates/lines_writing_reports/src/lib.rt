@@ -1,5 +1,5 @@
-// lines_writing_reports: what is said, written into a lent line room: the line of a report, of a refused event, of a bad line.
-// It may use terms, lines_writing and lines_writing_law. It promises, for any value and room: what lines_writing promises of session lines.
+// lines_writing_reports: what is said is written into a lent line room: the line of a report, of a refused event, of a bad line.
+// It may use terms, lines_writing and lines_writing_law, and what these use. It promises of any value and room what lines_writing does.
 
 use lines_writing::forms;
 use lines_writing_law::Wrote;
@@ -11,7 +11,7 @@ ghost use mathlib.Core.List.{_++_};
 ghost use Rattle.lines_writing_law.specs.Lines.{saidHead, reportFigures, renderReport, refusedFigures, renderRefused, badFigures, renderBad};
 ghost use Rattle.lines_writing_law.specs.Writes.{Writes, WritesForm, Formed};
 
-// A line that begins as every report line does.
+// Writes a line that begins as every report line does.
 fn say(tail: &[u8], numbers: &[u64], room: &mut [u8]) -> Wrote
     requires { ⌜ Formed saidHead (now tail) (now numbers) ⌝ }
     ensures { λ r. ⌜ WritesForm (now (room .entry)) (saidHead ++ now (tail .entry)) (now (numbers .entry)) r (now (room .exit)) ⌝ }
@@ -19,7 +19,7 @@ fn say(tail: &[u8], numbers: &[u64], room: &mut [u8]) -> Wrote
     forms::write(b"t=# say=", tail, numbers, room)
 }
 
-// The line of a report.
+// Writes the line of a report.
 pub fn write_report(report: Report, room: &mut [u8]) -> Wrote
     ensures { λ r. ⌜ Writes (now (room .entry)) (renderReport report) (reportFigures report) r (now (room .exit)) ⌝ }
 {
@@ -58,7 +58,7 @@ pub fn write_report(report: Report, room: &mut [u8]) -> Wrote
     }
 }
 
-// The line that the program prints for a refused event.
+// Writes the line that the program prints for a refused event.
 pub fn write_refused(time: u64, refusal: Refusal, room: &mut [u8]) -> Wrote
     ensures { λ r. ⌜ Writes (now (room .entry)) (renderRefused time refusal) (refusedFigures time refusal) r (now (room .exit)) ⌝ }
 {
@@ -66,7 +66,7 @@ pub fn write_refused(time: u64, refusal: Refusal, room: &mut [u8]) -> Wrote
     say(b"refuse code=#\n", &numbers, room)
 }
 
-// The line that the program prints for a bad line, or refused settings.
+// Writes the line that the program prints for a bad line, or for refused settings.
 pub fn write_bad(refusal: Refusal, place: usize, room: &mut [u8]) -> Wrote
     ensures { λ r. ⌜ Writes (now (room .entry)) (renderBad refusal place) (badFigures refusal place) r (now (room .exit)) ⌝ }
 {

@@ -1,4 +1,4 @@
--- A read behind what is kept, and what comes of it.
+-- A read into a buffer behind what is kept, and what follows from each of its answers.
 use Prim.Native.Nat.{ℕ, _+_, _-_, _^_, _≤_, _<_}
 use native.Mathlib.Omega.{arith}
 use native.Mathlib.Nat.{le-of-lt}
@@ -18,7 +18,7 @@ use Rattle.stream_law.proofs.Beginnings.{rest-is}
 use Rattle.stream_law.proofs.Hearing.{front-kept, hears-none, hears-some, off-done, off-failed}
 use Rattle.stream.specs.Front.{ReadBehind}
 
--- what is read into the rest of a buffer is at most what is left of it
+-- a read into the rest of a buffer keeps the front, and gives no more bytes than there is room for
 pub read-behind : {have : ℕ} {buf : List ℕ} (part′ : List ℕ) {r : Got} → have < length buf → GotWithin (length (take (length buf - have) (drop have buf))) r →
     length part′ ≡ length (take (length buf - have) (drop have buf)) → ReadBehind have buf (putMid have (length buf - have) buf part′) r
 read-behind {have} {buf} part′ {r} h k e =
@@ -28,7 +28,7 @@ read-behind {have} {buf} part′ {r} h k e =
     }
 
 module _ {have n : ℕ} {buf buf₁ : List ℕ} {g : Got} (b : ReadBehind have buf buf₁ g) (some : g ≡ Got.Bytes n) (h : have < length buf) where
-  -- so many bytes came behind those that were kept
+  -- the n bytes that came end within the buffer
   end-there : have + n ≤ length buf
   end-there = let l = got-within (b .got) some in omega arith
 

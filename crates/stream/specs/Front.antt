@@ -1,4 +1,4 @@
--- A read behind what a buffer keeps at its front.
+-- A read into a buffer behind what is kept at its front.
 use Prim.Native.Nat.{ℕ, _-_}
 use mathlib.Core.List.{List}
 use lib.ListN.{length}
@@ -6,7 +6,7 @@ use Rattle.descriptors.specs.declared.Got.{Got}
 use Rattle.descriptors.specs.Counted.{GotWithin}
 use Rattle.stream_law.specs.Streams.{FrontKept}
 
--- THE CONTRACT of `read_behind`: what was kept is as it was, and what was read is there
+-- THE CONTRACT of `read_behind`: what was kept is as it was, and no more was read than there was room for
 pub record ReadBehind (have : ℕ) (buf buf′ : List ℕ) (r : Got) : Type 0 where
   pub kept : FrontKept have buf buf′
   pub got : GotWithin (length buf - have) r

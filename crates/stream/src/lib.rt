@@ -1,8 +1,9 @@
-// stream: the bytes of a descriptor, of any number, go through a fixed buffer to feed; what is printed goes to standard output, or is held
+// stream: the bytes of a descriptor, however many, go through a fixed buffer to feed; what is printed goes to standard output, or is held
 // against an expected output.
-// It may use stream_feed and what it uses, and descriptors. It promises that it is safe and ends; that the buffer always has room, so that
-// a read of no bytes is the end of the input; and, of whatever bytes the reads gave: all is sent that the program prints for them, and a
-// comparison answers "same" just where that is what was expected. Where a read fails nothing more is printed.
+// It may use io, descriptors, stream_sink and stream_feed, and what these use. It promises that it is safe and ends; that the buffer always
+// has room, so that a read of no bytes is the end of the input; and that there are bytes (the proof takes those that were read) for which
+// all is sent that the program prints, and for which a comparison answers "same" just where that is what was expected; or it answers that
+// not all could be read.
 
 use descriptors::Got;
 use descriptors::reading;
@@ -23,7 +24,7 @@ ghost use Rattle.stream_law.specs.Streams.{Tables, holding, isOn, heldAs, Hears
 
 // ---- reads
 
-// Reads once behind what is kept.
+// Reads once, into the part of the buffer behind what is kept.
 fn read_behind(fd: i32, have: usize, buf: &mut [u8]) -> Got
     requires { ⌜ have < length (now buf) ⌝ }
     ensures { λ r. ⌜ ReadBehind have (now (buf .entry)) (now (buf .exit)) r ⌝ }
@@ -42,7 +43,7 @@ fn held(run: Run, have: usize, to: Sink, reading: Reading) -> Buffered
     }
 }
 
-// Reads once behind what is kept, hands the whole lines over, and keeps the rest.
+// Reads once behind what is kept, hands the whole lines over, and keeps the bytes that are left.
 fn read_on(
     fd: i32,
     expected: &[u8],
@@ -118,7 +119,7 @@ fn is_done(reading: Reading) -> bool
     }
 }
 
-// A whole run over what is lent.
+// Makes a whole run, with the buffer and the tables that are lent.
 fn run_all(
     fd: i32,
     to: Sink,
@@ -152,7 +153,7 @@ fn through(fd: i32, to: Sink, expected: &[u8]) -> Finish
     run_all(fd, to, expected, &mut buf, &mut buys, &mut sells)
 }
 
-// Prints what a descriptor's bytes come to on standard output.
+// Prints on standard output what the program says to a descriptor's bytes.
 pub fn print(fd: i32) -> Finish
     ensures { λ r. ⌜ PrintedAs r ⌝ }
 {
@@ -160,7 +161,7 @@ pub fn print(fd: i32) -> Finish
     through(fd, Sink::Print, &none[0..0])
 }
 
-// Holds what a descriptor's bytes come to against an expected output.
+// Holds what the program says to a descriptor's bytes against an expected output.
 pub fn compare(fd: i32, expected: &[u8]) -> Finish
     ensures { λ r. ⌜ Compares (now (expected .entry)) r ⌝ }
 {

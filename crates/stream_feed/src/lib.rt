@@ -1,6 +1,6 @@
 // stream_feed: bytes that were read go to feed, and what feed prints goes to the sink. It knows of no descriptor but through the sink.
-// It may use feed and what feed uses, and stream_sink. It promises, of any bytes and any expected output: what is sent on and what is
-// still to be printed is what the program prints; all whole lines are taken; and at the end all is sent that the program prints.
+// It may use feed and what feed uses, stream_law and stream_sink. It promises, of any bytes and any expected output: what was sent and what
+// is still to be printed make up what the program prints; all whole lines are taken; and at the end all is sent that the program prints.
 
 use feed::lines;
 use feed_law::Run;
@@ -23,12 +23,12 @@ ghost use Rattle.stream_law.specs.declared.Reading.{Reading};
 ghost use Rattle.stream_law.specs.Sinks.{SentAs, isOpen};
 ghost use Rattle.stream_law.specs.Streams.{Tables, isFull, moreAfter, HandedIn, HandedFrom, holding, OverAs, readingAfter, ToFront, TakesIn, EndsAs};
 
-// The output room: what two lines of input can print at most, so that many go out in one write.
+// The output room holds the most that two lines of input can print, so that the output of many lines goes out in one write.
 const OUT: usize = lines::TEXT * 2;
 
 // ---- one call of feed
 
-// The output room is to be emptied, and then there are more lines.
+// Whether feed stopped because the output room must be emptied.
 fn is_full(stop: Stop) -> bool
     ensures { λ r. ⌜ r ≡ isFull stop ⌝ }
 {
@@ -46,7 +46,7 @@ fn has_more(stop: Stop, to: Sink) -> bool
     is_full(stop) & stream_sink::is_open(to)
 }
 
-// One call of feed in lent rooms, and what it prints sent on.
+// Calls feed once, in lent rooms, and sends on what it prints.
 fn hand_in(
     to: Sink,
     expected: &[u8],
@@ -74,7 +74,7 @@ fn hand_in(
     }
 }
 
-// One call of feed on the bytes from `at` on, in rooms that hold nothing before it.
+// Calls feed once on the bytes from `at` on, in rooms in which all is zero before the call.
 fn hand_some(
     to: Sink,
     expected: &[u8],
@@ -103,7 +103,7 @@ fn hand_some(
 
 // ---- all whole lines
 
-// Hands all whole lines over, one call after the other, while more may be sent.
+// Hands all whole lines over, one call of feed after the other, as long as more may be sent.
 fn hand_over(
     to: Sink,
     expected: &[u8],
@@ -144,7 +144,7 @@ fn hand_over(
 
 // ---- a buffer
 
-// Moves the bytes from a place up to an end to the front.
+// Moves the bytes from `start` to `end` to the front of the buffer.
 fn to_front(buf: &mut [u8], start: usize, end: usize)
     requires { ⌜ (start ≤ end) × (end ≤ length (now buf)) ⌝ }
     ensures { λ _. ⌜ ToFront (now (buf .entry)) start end (now (buf .exit)) ⌝ }
@@ -177,7 +177,7 @@ fn reading_after(stage: Stage, to: Sink) -> Reading
     }
 }
 
-// Hands over what stands in the buffer up to an end, and keeps the rest at its front.
+// Hands over what stands in the buffer before `end`, and keeps the bytes that are left at its front.
 pub fn take_in(
     to: Sink,
     expected: &[u8],
@@ -208,7 +208,7 @@ pub fn take_in(
 
 // ---- the end of the input
 
-// What the end prints where no whole line is left, sent on.
+// Sends what the end of the input prints where no whole line is left.
 fn end_with(to: Sink, expected: &[u8], stage: Stage, rest: &[u8], out: &mut [u8]) -> Sink
     requires { ⌜ lineRoom ≤ length (now out) ⌝ }
     ensures { λ r. ⌜ SentAs (now (expected .entry)) to (endText stage (length (now (rest .entry)))) r ⌝ }
@@ -224,7 +224,7 @@ fn tell_end(to: Sink, expected: &[u8], stage: Stage, rest: &[u8]) -> Sink
     end_with(to, expected, stage, rest, &mut line)
 }
 
-// The end of the input: the lines that are left are taken, and all that is still to be printed is sent.
+// Ends the input: takes the lines that are left, and sends all that is still to be printed.
 pub fn ending(
     to: Sink,
     expected: &[u8],

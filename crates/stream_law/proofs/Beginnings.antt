@@ -1,4 +1,4 @@
--- Bytes that are the first of others.
+-- What it means that some bytes are the first bytes of others.
 use Prim.Native.Nat.{ℕ, suc, _+_, _-_, _≤_, _<_}
 use native.Mathlib.Omega.{arith}
 use native.Mathlib.Nat.{le-of-eq, le-of-lt}
@@ -13,7 +13,7 @@ use borrow.Author.Tests.{eqb-true, eq-eqb, ne-eqb}
 use Rattle.terms.proofs.Logic.{cases}
 use Rattle.stream_law.specs.Sinks.{begins}
 
--- ---- what it means
+-- ---- the first bytes, and the others behind them
 
 pub begins-is : (xs ys : List ℕ) → begins xs ys ≡ true → xs ++ drop (length xs) ys ≡ ys
 unfolding begins
@@ -43,7 +43,7 @@ begins-append (x ∷ xs) zs (y ∷ ys) =
 
 -- ---- a byte at a time
 
--- bytes that are more than the others are not their first
+-- bytes that are longer than others are not their first bytes
 longer : (xs ys : List ℕ) → length ys < length xs → begins xs ys ≡ false
 unfolding begins
 longer [] ys h = absurd (omega arith)
@@ -60,7 +60,7 @@ unfolding begins
 none [] ys h = refl
 none (x ∷ xs) ys h = absurd (let z : suc (length xs) ≤ 0 = h in omega arith)
 
--- the bytes before i are the same, so the rest decides
+-- the first i bytes are alike, so the bytes behind them decide
 pub record Agree (xs ys : List ℕ) (i : ℕ) : Type 0 where
   pub within : i ≤ length xs
   pub long : length xs ≤ length ys
@@ -91,9 +91,9 @@ module _ {xs ys : List ℕ} {i : ℕ} (a : Agree xs ys i) where
           rest = a .rest ∙ rw (add-one i, drop-cons xs i 0, drop-cons ys i 0, eq-eqb (getD xs i 0) (getD ys i 0) d);
         }
 
--- ---- the place of an expected output
+-- ---- the place up to which an expected output was printed
 
--- the rest of a slice, as it is lent
+-- the rest of a slice, as code lends it
 pub rest-is : (bytes : List ℕ) (at : ℕ) → take (length bytes - at) (drop at bytes) ≡ drop at bytes
 rest-is bytes at = take-all (length bytes - at) (drop at bytes) (le-of-eq (length-drop at bytes))
 
@@ -102,17 +102,17 @@ part-within s a n h k =
     let l = ap length (rest-is s a) ∙ length-drop a s in
     omega arith
 
--- past its end nothing follows
+-- past the end of the expected output, only no bytes at all agree with it
 pub past-end : (xs ys : List ℕ) (at : ℕ) → length ys < at → eqb (length xs) 0 ≡ begins xs (drop at ys)
 unfolding begins
 past-end [] ys at h = eq-eqb 0 0 refl
 past-end (x ∷ xs) ys at h = rw (drop-of-length-le ys (le-of-lt h)) (ne-eqb (suc (length xs)) 0 (λ e. omega arith))
 
--- the bytes that follow it decide
+-- the bytes of the expected output behind the place decide
 pub begins-there : (xs ys : List ℕ) (at : ℕ) {found : Bool} → found ≡ begins xs (take (length ys - at) (drop at ys)) → found ≡ begins xs (drop at ys)
 begins-there xs ys at e = e ∙ ap (begins xs) (rest-is ys at)
 
--- bytes that follow a place end within the expected output, or there are none: so the place is a number like these two
+-- Bytes that agree from a place on end within the expected output, or there are none: so the next place fits a machine number too.
 pub place-fits : (xs ys : List ℕ) (at most : ℕ) → begins xs (drop at ys) ≡ true → at < most → length ys < most → at + length xs < most
 place-fits xs ys at most e h k =
     let l = ap length (begins-is xs (drop at ys) e) ∙ length-drop at ys in

@@ -1,4 +1,4 @@
--- The end of the input.
+-- At the end of the input all that is still to be printed is sent.
 use Prim.Native.Nat.{ℕ, _-_}
 use mathlib.Core.Path.{_≡_, refl, sym, subst}
 use mathlib.Core.Bool.{Bool, true, false, true≢false}
@@ -15,7 +15,7 @@ use Rattle.stream_law.proofs.Beginnings.{rest-is}
 use Rattle.stream_law.proofs.Sends.{sent-then}
 use Rattle.stream_law.proofs.Goes.{room-text}
 
--- after a difference or a failure it does not matter what is sent
+-- once the sink is shut, it does not matter what is sent to it
 stands-shut : (expected text more : List ℕ) (to r : Sink) → isOpen to ≡ false → StandsAs expected to text r → StandsAs expected to more r
 stands-shut expected text more Sink.Print r e h = absurd (true≢false e)
 stands-shut expected text more (Sink.Match at) r e h = absurd (true≢false e)
@@ -42,7 +42,7 @@ module _ {expected : List ℕ} {a : Holding} {to : Sink} {buys′ sells′ : Lis
             (sent-then expected (k .goes .text) (toPrint b []) to (h .to) r (k .goes .sent) (sent-rest r (isOpen (h .to)) refl s′));
       }
 
--- what the end prints stands in the output room
+-- what the end prints stands in the output room, and is sent from there
 pub ended-sent : {expected : List ℕ} {to r : Sink} {text out out′ : List ℕ} {n : ℕ} → Prints out text n out′ → SentAs expected to (take (n - 0) out′) r →
     SentAs expected to text r
 ended-sent {expected} {to} {r} p s = subst (λ (x : List ℕ). SentAs expected to x r) (room-text p) s

@@ -1,4 +1,4 @@
--- Bytes of a buffer moved to its front.
+-- Bytes of a buffer are moved to its front, one by one.
 use Prim.Native.Nat.{ℕ, zero, suc, _+_, _-_, _≤_, _<_}
 use native.Mathlib.Omega.{arith}
 use native.Mathlib.Nat.{add-comm}
@@ -9,7 +9,7 @@ use lib.ListN.{length, getD, take, drop, set, length-set, length-drop}
 use lib.Seq.{take-suc, take-suc-set, drop-set-lt, drop-drop, getD-drop, take-nil}
 use Rattle.stream_law.specs.Streams.{ToFront}
 
--- the first i were moved, and what stands behind them is as it was
+-- the first i bytes were moved, and what stands behind them is as it was
 pub record Moved (buf₀ : List ℕ) (start i : ℕ) (buf : List ℕ) : Type 0 where
   pub same : length buf ≡ length buf₀
   pub front : take i buf ≡ take i (drop start buf₀)
@@ -19,7 +19,7 @@ pub moved-start : (buf : List ℕ) (start : ℕ) → Moved buf start 0 buf
 moved-start buf start = record { same = refl; front = refl; rest = refl }
 
 module _ {buf₀ : List ℕ} {start i : ℕ} {buf : List ℕ} (m : Moved buf₀ start i buf) (h : start + i < length buf) where
-  -- the byte that is moved is the one that was there
+  -- the byte that is moved next has not been written over
   byte-is : getD buf (start + i) 0 ≡ getD (drop start buf₀) i 0
   byte-is =
       let c : start + i ≡ i + start = add-comm start i in
@@ -49,7 +49,7 @@ module _ {buf₀ : List ℕ} {start i : ℕ} {buf : List ℕ} (m : Moved buf₀ 
             ∙ drop-drop 1 i buf₀;
       }
 
--- a part of what stands before an end
+-- the bytes before start and those from n on can be cut off in either order
 pub drop-take : (s : List ℕ) (start n : ℕ) → start ≤ n → drop start (take n s) ≡ take (n - start) (drop start s)
 drop-take s zero n h = let e : n ≡ n - 0 = omega arith in ap (λ (k : ℕ). take k s) e
 drop-take [] (suc start) zero h = absurd (omega arith)

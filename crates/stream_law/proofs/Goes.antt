@@ -1,4 +1,4 @@
--- From one standing to the next.
+-- How a run goes from one standing to the next: by a read, and by a call of feed whose output is sent on.
 use Prim.Native.Nat.{ℕ, _+_, _-_, _≤_, _<_}
 use native.Mathlib.Omega.{arith}
 use native.Mathlib.Nat.{le-of-eq}
@@ -57,7 +57,7 @@ goes-then {expected} {got} {got′} {a} {b} {c} {to} {s} {r} g h =
       sent = sent-then expected (g .text) (h .text) to s r (g .sent) (h .sent);
     }
 
--- a read: so many bytes stand behind those that were kept
+-- a read puts n bytes behind those that were kept
 pub goes-read : (expected : List ℕ) (to : Sink) (run : Run) (buys sells buf buf′ : List ℕ) (have n : ℕ) → take have buf′ ≡ take have buf →
     Goes expected (holding run buys sells (take have buf)) to (take n (drop have buf′)) (holding run buys sells (take (have + n) buf′)) to
 goes-read expected to run buys sells buf buf′ have n e =
@@ -72,9 +72,9 @@ goes-read expected to run buys sells buf buf′ have n e =
       sent = sent-none expected to;
     }
 
--- ---- a call of feed, and what it printed sent on
+-- ---- a call of feed, whose output is sent on
 
--- what was printed is what stands in the output room
+-- the text that was printed stands at the start of the output room
 pub room-text : {out text out′ : List ℕ} {n : ℕ} → Prints out text n out′ → take (n - 0) out′ ≡ text
 room-text {out} {text} {out′} {n} p =
     let z : n - 0 ≡ n = omega arith in
@@ -99,14 +99,14 @@ handed {expected} {to = to} {s = s} b h e =
       within = b .used-there;
     }
 
--- from a place on, in the program's rooms
+-- the same call on the bytes from a place on, in the program's rooms
 pub handed-from : {run : Run} {buys sells bytes : List ℕ} {at : ℕ} {expected : List ℕ} {to : Sink} {buys′ sells′ : List ℕ} {r : Handed} → at ≤ length bytes →
     HandedIn run buys sells (zeros roomLength) (take (length bytes - at) (drop at bytes)) (zeros outRoom) expected to buys′ sells′ r →
     HandedFrom run buys sells bytes at expected to buys′ sells′ r
 handed-from {bytes = bytes} {at = at} {r = r} there k =
     record { handed = rw (rest-is bytes at) at (k .handed); within = part-within bytes at (r .used) there (k .within) }
 
--- ---- what is lent is long enough
+-- ---- tables and rooms are long enough
 
 zeros-length : (n : ℕ) → length (zeros n) ≡ n
 zeros-length n = length-replicate {A = ℕ} n 0
@@ -126,7 +126,7 @@ fine-roomy : (buys sells room : List ℕ) → feedVerdict buys sells room ≡ Fi
 unfolding feedVerdict
 fine-roomy buys sells room v = fine-first SmallRoom (roomy buys sells room) _ v .0
 
--- ---- why a feed stopped
+-- ---- the reason why a feed stopped
 
 waits-at : (s : Stage) → (s ≡ Stage.Over → ⊥) → stopAt s ≡ Stop.Waits
 waits-at Stage.Awaiting n = refl
@@ -142,7 +142,7 @@ full-if (Stop.Refused r) e = absurd (false≢true e)
 more-if : (s : Stop) (to : Sink) → s ≡ Stop.Full → isOpen to ≡ true → moreAfter s to ≡ true
 more-if s to e o = rw (e, o)
 
--- ---- so
+-- ---- what follows
 
 module _ (run : Run) (buys sells room bytes out : List ℕ) (v : feedVerdict buys sells room ≡ Fine) (wide : textMost ≤ length out) {expected : List ℕ} {to : Sink} {buys′ sells′ : List ℕ}
     {r : Handed} (k : HandedAs (fedOf run buys sells room bytes out) expected to buys′ sells′ r) where
@@ -159,7 +159,7 @@ module _ (run : Run) (buys sells room bytes out : List ℕ) (v : feedVerdict buy
   unfolding fedOf
   as-fed = subst (λ (x : Verdict). HandedAs (fedBy x run buys sells room bytes out) expected to buys′ sells′ r) v k
 
-  -- what is printed after it, by the calls and by the days
+  -- what is printed after it is the same in the world of calls as in that of days
   by-days : (more : List ℕ) → printedFrom calls (f .stage) (f .world) (drop (f .used) bytes ++ more) ≡ toPrint after more
   by-days more =
       let a = as-fed in
@@ -180,7 +180,7 @@ module _ (run : Run) (buys sells room bytes out : List ℕ) (v : feedVerdict buy
         sent = as-fed .sent;
       }
 
-  -- where the room was not full, no whole line is left
+  -- where the output room was not full, no whole line is left
   pub handed-none : isOpen (r .to) ≡ true → r .more ≡ false → NoLine after
   handed-none o m =
       let a = as-fed in
@@ -198,7 +198,7 @@ module _ (run : Run) (buys sells room bytes out : List ℕ) (v : feedVerdict buy
             subst (λ (x : List ℕ). length x ≤ lineRoom) d (starts-short calls (length out) (run .stage) lent bytes w);
       }
 
-  -- where it was, something was taken
+  -- where it was full, something was taken
   pub handed-some : r .more ≡ true → 0 < r .used
   handed-some m =
       let e = full-if (f .stop) (split (isFull (f .stop)) (isOpen (r .to)) (sym (as-fed .more) ∙ m) .0) in

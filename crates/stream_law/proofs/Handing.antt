@@ -1,4 +1,4 @@
--- The lines of some bytes, one call of feed after the other; and a buffer whose bytes are handed over.
+-- All whole lines of some bytes are handed over, one call of feed after the other; and then those of a buffer.
 use Prim.Native.Nat.{ℕ, _+_, _-_, _≤_, _<_}
 use native.Mathlib.Omega.{arith}
 use mathlib.Core.Path.{_≡_, refl, sym, ap, _∙_, subst}
@@ -18,7 +18,7 @@ use Rattle.stream_law.specs.Sinks.{isOpen}
 use Rattle.stream_law.specs.Streams.{outRoom, zeros, Tables, HandedFrom, holding, Goes, NoLine, handedTo, OverAs, readingAfter, ToFront, TakesIn}
 use Rattle.stream_law.proofs.Goes.{goes-none, goes-then, rooms-wide, out-wide, handed-goes, handed-none, handed-some}
 
--- ---- the loop: so many bytes were taken, and how it stands
+-- ---- the loop: the first `at` bytes were taken, and the run went on from its start to where it stands now
 
 pub record Handing (expected : List ℕ) (run : Run) (buys₀ sells₀ bytes : List ℕ) (to : Sink) (now : Run) (buys sells : List ℕ) (at : ℕ) (sink : Sink) : Type 0 where
   pub within : at ≤ length bytes
@@ -28,7 +28,7 @@ pub handing-start : (expected bytes : List ℕ) (run : Run) (buys sells : List �
     Handing expected run buys sells bytes to run buys sells 0 to
 handing-start expected bytes run buys sells to = record { within = omega arith; goes = goes-none expected _ to }
 
--- no bytes are left
+-- where no bytes are left, there is no line
 none-left : (run : Run) (buys sells bytes : List ℕ) (at : ℕ) → length bytes ≤ at → NoLine (holding run buys sells (drop at bytes))
 unfolding printedIn
 none-left run buys sells bytes at h =
@@ -58,20 +58,20 @@ module _ {expected : List ℕ} {run : Run} {buys₀ sells₀ bytes : List ℕ} {
               (handed-goes now buys sells (zeros roomLength) (drop at bytes) (zeros outRoom) (rooms-wide buys sells t) out-wide (k .handed)));
         }
 
-    -- a further call has fewer bytes
+    -- each further call has fewer bytes
     pub handing-less : not (h .more) ≡ false → length bytes - (at + h .used) < length bytes - at
     handing-less m =
         let u = handed-some now buys sells (zeros roomLength) (drop at bytes) (zeros outRoom) (rooms-wide buys sells t) out-wide (k .handed) (not-false (h .more) m) in
         let w = k .within in
         omega arith
 
-    -- the room was not full, so no whole line is there; or the sink is shut
+    -- the room was not full, so no whole line is left; or the sink is shut
     stops-there : not (h .more) ≡ true → isOpen (h .to) ≡ true → NoLine (holding (h .run) buys′ sells′ (drop (at + h .used) bytes))
     stops-there m o =
         subst (λ (x : List ℕ). NoLine (holding (h .run) buys′ sells′ x)) further
         (handed-none now buys sells (zeros roomLength) (drop at bytes) (zeros outRoom) (rooms-wide buys sells t) out-wide (k .handed) o (not-true (h .more) m))
 
--- no further call
+-- the loop returns where no further call is to be made
 pub handing-stops : {expected : List ℕ} {run : Run} {buys₀ sells₀ bytes : List ℕ} {to : Sink} {now : Run} {buys sells : List ℕ} {at : ℕ} {sink : Sink} {buys′ sells′ : List ℕ} {h r : Handed} →
     Handing expected run buys₀ sells₀ bytes to now buys sells at sink → Tables buys sells → HandedFrom now buys sells bytes at expected sink buys′ sells′ h →
     r ≡ handedTo (h .run) (at + h .used) (h .to) → not (h .more) ≡ true → OverAs expected (holding run buys₀ sells₀ bytes) to buys′ sells′ r

@@ -1,4 +1,4 @@
--- Reads, one after the other, and what came of them.
+-- Reads are made one after the other, and each leads the run on.
 use Prim.Native.Nat.{ℕ, _+_, _≤_, _<_}
 use native.Mathlib.Omega.{arith}
 use mathlib.Core.Path.{_≡_, refl, sym, ap, _∙_, subst}
@@ -16,7 +16,7 @@ use Rattle.stream_law.specs.declared.Reading.{Reading}
 use Rattle.stream_law.specs.Streams.{holding, Goes, isOn, heldAs, heldOn, TakesIn, FrontKept, Hears, HearsOn}
 use Rattle.stream_law.proofs.Goes.{goes-none, goes-then, goes-read}
 
--- before the first read: nothing is kept
+-- before the first read nothing is kept
 pub hears-start : (expected buf buys sells : List ℕ) {run : Run} {to : Sink} {reading : Reading} {h : Buffered} → h ≡ heldAs run 0 to reading →
     HearsOn expected h buf buys sells buf buys sells h
 hears-start expected buf buys sells {h = h} e =
@@ -45,7 +45,7 @@ pub hears-last : {buf₀ expected buys₀ sells₀ buf buys sells buf′ buys′
     Hears expected (holding begun buys₀ sells₀ []) to buf′ buys′ sells′ r
 hears-last s e p q = hears-first s e (hears-then p q)
 
--- whatever comes to stand behind what is kept
+-- what is kept stays the same, whatever comes to stand behind it
 pub front-kept : (buf behind : List ℕ) (have : ℕ) → have ≤ length buf → take have (take have buf ++ behind) ≡ take have buf
 front-kept buf behind have h = take-at (take have buf) behind have (length-take-le have buf h)
 
@@ -66,7 +66,7 @@ module _ {expected buys sells : List ℕ} {h : Buffered} {buf buf₁ : List ℕ}
             };
       })
 
-  -- so many bytes came, and were taken in
+  -- n bytes came, and were taken in
   pub hears-some : (n : ℕ) {buf′ buys′ sells′ : List ℕ} {r : Buffered} → TakesIn expected (h .run) buf₁ (h .have + n) buys sells (h .to) buf′ buys′ sells′ r →
       HearsOn expected h buf buys sells buf′ buys′ sells′ r
   hears-some n k =
@@ -89,7 +89,7 @@ pub hears-on : {expected buf buys sells buf′ buys′ sells′ : List ℕ} {h r
     on ≡ isOn (r .reading) → not on ≡ false → r .have ≤ lineRoom
 hears-on {r = r} {on = on} k e n = k .hears .room .short (on-is (r .reading) (sym e ∙ not-false on n))
 
--- an input that is at its end, and a read that failed, are not read on
+-- at the end of the input, and after a read that failed, nothing more is read
 pub off-done : Reading.Done ≡ Reading.On → ⊥
 off-done e = let z : _≡_ {A = ℕ} 0 1 = cc in omega arith
 

@@ -1,4 +1,4 @@
--- What is sent in parts stands as what is sent whole.
+-- A sink stands the same after a text that is sent in parts as after the whole text.
 use Prim.Native.Nat.{ℕ, _+_}
 use native.Mathlib.Omega.{arith}
 use native.Mathlib.Nat.{zero-add, add-assoc}
@@ -26,7 +26,7 @@ module _ (expected : List ℕ) where
       Sink.Differs ≡ matched expected at text
   matched-not at text e h = ap (λ (b : Bool). matchedBy b (at + length text)) (sym h ∙ e)
 
-  -- ---- a sink that is known
+  -- ---- what `send` answers, sink by sink
 
   module _ {text : List ℕ} {to r : Sink} where
     pub sent-print : to ≡ Sink.Print → Takes r → SentAs expected to text r
@@ -45,7 +45,7 @@ module _ (expected : List ℕ) where
       r ≡ finishOf expected to
   finish-matched at e h k = k ∙ ap comparedBy h ∙ ap (finishOf expected) (sym e)
 
-  -- ---- nothing
+  -- ---- where nothing is sent, the sink stays as it is
 
   stands-none : (to : Sink) → StandsAs expected to [] to
   unfolding begins
@@ -88,7 +88,7 @@ module _ (expected : List ℕ) where
   -- ---- the end
 
   module _ (text : List ℕ) where
-    -- the first bytes, and as many
+    -- first bytes that are as many as the others are all of them
     whole : begins text expected ≡ true → length text ≡ length expected → text ≡ expected
     whole e l =
         let d : drop (length text) expected ≡ [] = ap (λ (n : ℕ). drop n expected) l ∙ drop-length expected in

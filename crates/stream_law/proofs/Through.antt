@@ -1,4 +1,4 @@
--- A whole run, from the start to the end.
+-- A whole run sends all that the program prints, from its start to the end of its input.
 use Prim.Native.Nat.{ℕ, _-_}
 use native.Mathlib.Omega.{arith}
 use mathlib.Core.Path.{_≡_, refl, sym, ap, _∙_, subst}
@@ -22,7 +22,7 @@ from-start : (buys sells input : List ℕ) → printed input ≡ toPrint (holdin
 unfolding printed fixedSession decode
 from-start buys sells input = refl
 
--- all that was read, then the end
+-- all that could be read was read, and then the end was told
 pub run-whole : {expected buys sells : List ℕ} {to last : Sink} {buf′ buys′ sells′ : List ℕ} {h : Buffered} {r : Finish} →
     Hears expected (holding begun buys sells []) to buf′ buys′ sells′ h →
     EndsAs expected (holding (h .run) buys′ sells′ (take (h .have - 0) buf′)) (h .to) last → r ≡ finishOf expected last → ThroughAs expected to r
@@ -41,7 +41,7 @@ run-whole {expected} {buys} {sells} {to} {last} {buf′} {buys′} {sells′} {h
       finish = q;
     })
 
--- ---- what is told
+-- ---- what the answers of `compare` and `print` say
 
 pub through-compares : {expected : List ℕ} {r : Finish} → ThroughAs expected (Sink.Match 0) r → Compares expected r
 through-compares {expected} {r} (unread e) = record { input = []; tells = subst (Tells (printed []) expected) (sym e) tt }

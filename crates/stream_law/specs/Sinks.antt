@@ -8,7 +8,7 @@ use lib.Dec.{eqb}
 use Rattle.stream_law.specs.declared.Sink.{Sink}
 use Rattle.stream_law.specs.declared.Finish.{Finish}
 
--- some bytes are the first of others
+-- the bytes xs are the first bytes of ys
 unfoldable pub begins : List ℕ → List ℕ → Bool
 begins [] ys = true
 begins (x ∷ xs) [] = false
@@ -18,18 +18,18 @@ abbrev pub matchedBy : Bool → ℕ → Sink
 matchedBy true at = Sink.Match at
 matchedBy false at = Sink.Differs
 
--- text is printed behind the first so many bytes of what is expected
+-- how a comparison stands after text was printed behind the first `at` bytes of what is expected
 abbrev pub matched : List ℕ → ℕ → List ℕ → Sink
 matched expected at text = matchedBy (begins text (drop at expected)) (at + length text)
 
--- standard output takes what is printed, or it fails
+-- standard output took what was printed, or failed
 abbrev pub Takes : Sink → Type 0
 Takes Sink.Print = Unit {0}
 Takes (Sink.Match at) = ⊥
 Takes Sink.Differs = ⊥
 Takes Sink.Lost = Unit {0}
 
--- how it stands after text was printed. After a difference or a failure nothing is compared or printed any more
+-- how a sink stands after text was sent to it; after a difference or a failure nothing is compared or printed any more
 abbrev pub StandsAs : List ℕ → Sink → List ℕ → Sink → Type 0
 StandsAs expected Sink.Print text r = Takes r
 StandsAs expected (Sink.Match at) text r = r ≡ matched expected at text
@@ -40,7 +40,7 @@ StandsAs expected Sink.Lost text r = r ≡ Sink.Lost
 pub record SentAs (expected : List ℕ) (to : Sink) (text : List ℕ) (r : Sink) : Type 0 where
   pub stands : StandsAs expected to text r
 
--- more may be sent
+-- more may be sent to the sink
 abbrev pub isOpen : Sink → Bool
 isOpen Sink.Print = true
 isOpen (Sink.Match at) = true
@@ -51,7 +51,7 @@ abbrev pub comparedBy : Bool → Finish
 comparedBy true = Finish.Same
 comparedBy false = Finish.Differs
 
--- at the end: all of the expected output must have been printed
+-- how a run ends: for "same", all of the expected output must have been printed
 abbrev pub finishOf : List ℕ → Sink → Finish
 finishOf expected Sink.Print = Finish.Printed
 finishOf expected (Sink.Match at) = comparedBy (eqb at (length expected))

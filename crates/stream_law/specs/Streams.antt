@@ -1,4 +1,4 @@
--- A run whose input comes in pieces and whose output is sent on.
+-- A run whose input is read in pieces and whose output is sent on.
 use Prim.Native.Nat.{ℕ, _+_, _-_, _*_, _≤_}
 use mathlib.Core.Path.{_≡_}
 use mathlib.Core.Bool.{Bool, true, false, cond, _&&_}
@@ -23,14 +23,14 @@ use Rattle.stream_law.specs.Sinks.{SentAs, isOpen, finishOf}
 
 -- ---- one call of feed
 
--- the program's output room: what two lines of input can print at most, so that many go out in one write
+-- the program's output room: it holds the most that two lines of input can print, so that the output of many lines goes out in one write
 abbrev pub outRoom : ℕ
 outRoom = textMost * 2
 
 abbrev pub zeros : ℕ → List ℕ
 zeros n = replicate n 0
 
--- what `feed::lines::take_lines` comes to in the program's rooms, which are empty before it
+-- what `feed::lines::take_lines` comes to in the program's rooms, in which all is zero before the call
 abbrev pub fedHere : Run → List ℕ → List ℕ → List ℕ → Fed Lent
 fedHere run buys sells bytes = fedOf run buys sells (zeros roomLength) bytes (zeros outRoom)
 
@@ -73,8 +73,8 @@ pub record HandedFrom (run : Run) (buys sells bytes : List ℕ) (at : ℕ) (expe
 abbrev pub holding : Run → List ℕ → List ℕ → List ℕ → Holding
 holding run buys sells kept = record { run = run; buys = buys; sells = sells; kept = kept }
 
--- from one standing to another: some bytes were read, some text was sent; whatever follows, the text and what is still to be printed are
--- what was to be printed
+-- A run goes from one standing to another: some bytes were read and some text was sent. Whatever bytes follow, this text and what is then
+-- still to be printed are what was to be printed before.
 pub record Goes (expected : List ℕ) (a : Holding) (to : Sink) (got : List ℕ) (b : Holding) (to′ : Sink) : Type 0 where
   pub text : List ℕ
   pub prints : (more : List ℕ) → toPrint a (got ++ more) ≡ text ++ toPrint b more
@@ -88,11 +88,11 @@ pub record NoLine (h : Holding) : Type 0 where
 abbrev pub handedTo : Run → ℕ → Sink → Handed
 handedTo run used to = record { run = run; used = used; to = to; more = false }
 
--- what is held after bytes were handed over
+-- what a run holds after bytes were handed over
 abbrev pub handedOn : Holding → List ℕ → List ℕ → Handed → Holding
 handedOn a buys′ sells′ r = holding (r .run) buys′ sells′ (drop (r .used) (a .kept))
 
--- THE CONTRACT of `hand_over`: all whole lines are taken, unless the sink shut before
+-- THE CONTRACT of `hand_over`: all whole lines are taken, unless the sink was shut before
 pub record OverAs (expected : List ℕ) (a : Holding) (to : Sink) (buys′ sells′ : List ℕ) (r : Handed) : Type 0 where
   pub within : r .used ≤ length (a .kept)
   pub goes : Goes expected a to [] (handedOn a buys′ sells′ r) (r .to)
@@ -106,7 +106,7 @@ isOn Reading.On = true
 isOn Reading.Done = false
 isOn Reading.Failed = false
 
--- after a call: nothing more is read where the run is over or the sink is shut
+-- whether to read on after a call: not where the run is over or the sink is shut
 abbrev pub readingAfter : Stage → Sink → Reading
 readingAfter Stage.Awaiting to = cond (isOpen to) Reading.On Reading.Done
 readingAfter Stage.Trading to = cond (isOpen to) Reading.On Reading.Done
@@ -115,66 +115,66 @@ readingAfter Stage.Over to = Reading.Done
 abbrev pub heldAs : Run → ℕ → Sink → Reading → Buffered
 heldAs run have to reading = record { run = run; have = have; to = to; reading = reading }
 
--- what is held where the start of a line stands at a buffer's front
+-- what a run holds whose unfinished line stands at a buffer's front
 abbrev pub heldOn : List ℕ → List ℕ → List ℕ → Buffered → Holding
 heldOn buf buys sells h = holding (h .run) buys sells (take (h .have) buf)
 
--- what stands at the front is within the buffer, and short where more is to be read: so there is room for it
+-- what stands at the front is within the buffer; and where more is to be read it is short, so there is room for a read behind it
 pub record Room (buf : List ℕ) (h : Buffered) : Type 0 where
   pub within : h .have ≤ length buf
   pub short : h .reading ≡ Reading.On → h .have ≤ lineRoom
 
--- the bytes from a place up to an end stand at a buffer's front
+-- the bytes from start to end now stand at the buffer's front
 pub record ToFront (buf : List ℕ) (start end : ℕ) (buf′ : List ℕ) : Type 0 where
   pub front : take (end - start) buf′ ≡ drop start (take end buf)
 
--- THE CONTRACT of `take_in`: what stands in the buffer is handed over, and what is left of it is moved to the front
+-- THE CONTRACT of `take_in`: the bytes in the buffer are handed over, and those that are left are moved to its front
 pub record TakesIn (expected : List ℕ) (run : Run) (buf : List ℕ) (end : ℕ) (buys sells : List ℕ) (to : Sink) (buf′ buys′ sells′ : List ℕ) (r : Buffered) : Type 0 where
   pub room : Room buf′ r
   pub goes : Goes expected (holding run buys sells (take end buf)) to [] (heldOn buf′ buys′ sells′ r) (r .to)
   pub reading : r .reading ≡ readingAfter (r .run .stage) (r .to)
 
--- a read behind what is kept leaves it as it was
+-- a read behind what is kept leaves that as it was
 pub record FrontKept (have : ℕ) (buf buf′ : List ℕ) : Type 0 where
   pub same : length buf′ ≡ length buf
   pub front : take have buf′ ≡ take have buf
 
--- THE CONTRACT of a read, and of many: some bytes came, and what came of them
+-- THE CONTRACT of a read, and of many: there are bytes that came, and what they come to was sent or is still to be printed
 pub record Hears (expected : List ℕ) (a : Holding) (to : Sink) (buf′ buys′ sells′ : List ℕ) (r : Buffered) : Type 0 where
   pub room : Room buf′ r
   pub got : List ℕ
   pub goes : Goes expected a to got (heldOn buf′ buys′ sells′ r) (r .to)
 
--- the same from what is held on, with the buffer that it stands in
+-- the same, for a run that holds an unfinished line at the front of a buffer
 pub record HearsOn (expected : List ℕ) (h : Buffered) (buf buys sells buf′ buys′ sells′ : List ℕ) (r : Buffered) : Type 0 where
   pub hears : Hears expected (heldOn buf buys sells h) (h .to) buf′ buys′ sells′ r
 
 -- ---- the end
 
--- THE CONTRACT of the end: what is printed for the bytes that are left is sent
+-- THE CONTRACT of the end: all that is printed for the bytes that are left is sent
 pub record EndsAs (expected : List ℕ) (a : Holding) (to r : Sink) : Type 0 where
   pub sent : SentAs expected to (toPrint a []) r
 
 -- ---- a whole run
 
--- all was read that is to be read
+-- the reading came to its end without a failure
 abbrev pub isDone : Reading → Bool
 isDone Reading.On = false
 isDone Reading.Done = true
 isDone Reading.Failed = false
 
--- how a run ends that prints text
+-- how a run ends that sends this text
 pub record Finished (expected : List ℕ) (to : Sink) (text : List ℕ) (r : Finish) : Type 0 where
   pub sink : Sink
   pub sent : SentAs expected to text sink
   pub finish : r ≡ finishOf expected sink
 
--- THE CONTRACT of `through`: a read failed; or these bytes were read, and all that THE PROGRAM prints for them was sent
+-- THE CONTRACT of `through`: not all could be read; or there are bytes for which all that THE PROGRAM prints was sent
 pub data ThroughAs (expected : List ℕ) (to : Sink) (r : Finish) : Type 0 where
   unread : r ≡ Finish.Unread → ThroughAs expected to r
   whole : (input : List ℕ) → Finished expected to (printed input) r → ThroughAs expected to r
 
--- what a comparison tells of what was printed
+-- what the answer of a comparison says of the text that was sent
 abbrev pub Tells : List ℕ → List ℕ → Finish → Type 0
 Tells text expected Finish.Printed = ⊥
 Tells text expected Finish.Same = text ≡ expected
@@ -182,12 +182,12 @@ Tells text expected Finish.Differs = text ≡ expected → ⊥
 Tells text expected Finish.Unread = Unit {0}
 Tells text expected Finish.Unwritten = ⊥
 
--- THE CONTRACT of `compare`: the bytes that were read, and what is told of all that THE PROGRAM prints for them
+-- THE CONTRACT of `compare`: there are bytes, and the answer is right for all that THE PROGRAM prints for them
 pub record Compares (expected : List ℕ) (r : Finish) : Type 0 where
   pub input : List ℕ
   pub tells : Tells (printed input) expected r
 
--- THE CONTRACT of `print`
+-- THE CONTRACT of `print`: it answers whether all was read and printed, and never as a comparison does
 abbrev pub PrintedAs : Finish → Type 0
 PrintedAs Finish.Printed = Unit {0}
 PrintedAs Finish.Same = ⊥

@@ -1,11 +1,11 @@
-// stream_law: what a run comes to whose input is read piece by piece and whose output is printed, or held against an expected one.
-// It has no code and may use feed_law and promises. It promises: in whatever pieces the input came, a comparison answers "same" just where
-// `printed` of all that was read is what was expected.
+// stream_law: what a run comes to that reads its input in pieces and prints its output, or holds it against an expected one.
+// It has no code, and may use feed_law and promises, and what these use. It promises: in whatever pieces some bytes come, all is sent that
+// `printed` says of them, and a comparison answers "same" just where that is what was expected.
 
 use feed_law::Run;
 
-// Where printed bytes go, and how it stands with them. They are printed, and so far all went out; they are held against an expected
-// output, and so far they are its first so many bytes; they are not what was expected; some could not be printed.
+// Where printed bytes go, and how they fared: all went to standard output; or they are held against an expected output, and are its first so
+// many bytes; or they are not what was expected; or some could not be printed.
 pub enum Sink {
     Print,
     Match(usize),
@@ -23,7 +23,7 @@ pub enum Finish {
     Unwritten,
 }
 
-// What was handed to feed, and what it printed sent on: how many bytes were taken, and whether there are more lines to take.
+// What a call of feed came to: where the run stands, how many bytes were taken, where its output went, whether there are more lines to take.
 pub struct Handed {
     pub run: Run,
     pub used: usize,
@@ -31,15 +31,15 @@ pub struct Handed {
     pub more: bool,
 }
 
-// Why no more is read: nothing yet; the input or the run is at its end, or nothing more is to be printed; a read failed.
+// Whether to read on: yes; no, since the input or the run is at its end or nothing more may be sent; no, since a read failed.
 pub enum Reading {
     On,
     Done,
     Failed,
 }
 
-// What is kept from read to read: the run, how many bytes of an unfinished line stand at the buffer's front, and how it stands with what
-// was printed and with the reading.
+// What is kept from read to read: the run, how many bytes of an unfinished line stand at the buffer's front, where the output went and how
+// it fared, and whether to read on.
 pub struct Buffered {
     pub run: Run,
     pub have: usize,

@@ -1,6 +1,6 @@
-// stream_sink: where printed bytes go: to standard output, or held against an expected output that is lent.
-// It may use descriptors and the definitions of stream_law. It promises, of any bytes: what the comparison comes to; and that after a
-// difference, or after a write that failed, nothing is compared or printed any more.
+// stream_sink: where printed bytes go: to standard output, or against an expected output that is lent.
+// It may use libc, descriptors and the definitions of stream_law. It promises, of any bytes: a comparison answers what stream_law says; and
+// after a difference, or after a write that failed, nothing is compared or printed any more.
 
 use descriptors::writing;
 use stream_law::Finish;
@@ -10,7 +10,7 @@ ghost use lib.ListN.{length, drop};
 ghost use lib.Dec.{eqb};
 ghost use Rattle.stream_law.specs.Sinks.{begins, matched, Takes, SentAs, isOpen, comparedBy, finishOf};
 
-// Whether some bytes are the first of others.
+// Whether some bytes are the first bytes of others.
 fn begins(bytes: &[u8], all: &[u8]) -> bool
     ensures { λ r. ⌜ r ≡ begins (now (bytes .entry)) (now (all .entry)) ⌝ }
 {
@@ -27,7 +27,7 @@ fn begins(bytes: &[u8], all: &[u8]) -> bool
     true
 }
 
-// Whether some bytes are the next ones of an expected output, of which so many were printed.
+// Whether some bytes come next in an expected output, of which the first `at` bytes were printed.
 fn is_next(expected: &[u8], at: usize, bytes: &[u8]) -> bool
     ensures { λ r. ⌜ r ≡ begins (now (bytes .entry)) (drop at (now (expected .entry))) ⌝ }
 {
@@ -37,7 +37,7 @@ fn is_next(expected: &[u8], at: usize, bytes: &[u8]) -> bool
     begins(bytes, &expected[at..])
 }
 
-// Holds some bytes against an expected output, of which so many were printed.
+// Holds some bytes against an expected output, of which the first `at` bytes were printed.
 fn hold(expected: &[u8], at: usize, bytes: &[u8]) -> Sink
     ensures { λ r. ⌜ r ≡ matched (now (expected .entry)) at (now (bytes .entry)) ⌝ }
 {
@@ -57,7 +57,7 @@ fn print(bytes: &[u8]) -> Sink
     Sink::Lost
 }
 
-// Sends some bytes, and answers how it stands then.
+// Sends some bytes, and answers how the sink stands then.
 pub fn send(to: Sink, expected: &[u8], bytes: &[u8]) -> Sink
     ensures { λ r. ⌜ SentAs (now (expected .entry)) to (now (bytes .entry)) r ⌝ }
 {
@@ -97,7 +97,7 @@ fn compared(same: bool) -> Finish
     Finish::Differs
 }
 
-// How a run ends that sends no more.
+// The end of a run that sends no more.
 pub fn finish(to: Sink, expected: &[u8]) -> Finish
     ensures { λ r. ⌜ r ≡ finishOf (now (expected .entry)) to ⌝ }
 {

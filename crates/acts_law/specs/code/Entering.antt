@@ -1,4 +1,4 @@
--- What code leaves in the lent numbers when an order comes in.
+-- What code finds and leaves in the lent numbers when an order comes in.
 use Prim.Native.Nat.{ℕ, _+_, _*_, _≤_, _<_}
 use mathlib.Core.Path.{_≡_}
 use mathlib.Core.List.{List, _∷_}
@@ -31,7 +31,7 @@ abbrev pub incomingIn : Session → Entry → ℕ → Incoming
 incomingIn s n number =
     record { side = n .side; kind = n .kind; range = rangeNow s; number = number; lots = n .lots; time = s .clock .time; last = lastIn s }
 
--- what the code asks: room for the accept report and a trade with each counter order, and one more
+-- what an order must find to be matched; the room must hold the accept report and a trade with each counter order
 pub record Meeting (s : Session) (band : Band) (count : ℕ) (t room : List ℕ) (at : ℕ) : Type 0 where
   pub banded : band ≡ bandNow s
   pub given-few : s .live .given < numbersMost
@@ -41,12 +41,12 @@ pub record Meeting (s : Session) (band : Band) (count : ℕ) (t room : List ℕ)
   pub fits : TradesFit s count
   pub deals : Each Deals (decode count t)
 
--- the accept report and the trades
+-- the accept report, and the reports of the trades behind it
 abbrev pub acceptedReports : Session → Entry → List Order → List Report
 acceptedReports s n os =
     reportAt (s .clock .time) (Accept (s .live .given + 1)) ∷ tradeReports (s .clock .time) (n .side) (s .live .given + 1) (sweepIn s n os .fills)
 
--- the table across and the room once its trades are reported; the records of these can be remembered, and are then the trades
+-- the table across and the room after the trades; from their records a session can remember the trades, and they are those that were made
 pub record CrossedAs (s : Session) (n : Entry) (os : List Order) (t room : List ℕ) (at : ℕ) (t′ room′ : List ℕ) (r : Crossed) : Type 0 where
   pub book : t′ ≡ tableOf (sweepIn s n os .rest) t
   pub count : r .matched .count ≡ length (sweepIn s n os .rest)
@@ -59,7 +59,7 @@ pub record CrossedAs (s : Session) (n : Entry) (os : List Order) (t room : List 
   pub remembers : Remembering (setGiven s (s .live .given + 1)) (bandNow s) room′ (r .first) (r .matched .trades)
   pub recalled : withTrades (setGiven s (s .live .given + 1)) (fillsAt (r .matched .trades) (drop (r .first) room′)) ≡ withTrades (setGiven s (s .live .given + 1)) (sweepIn s n os .fills)
 
--- the table across, the room and the answer once it has met the counter side
+-- the table across, the room and the answer after the order has met the counter side
 pub record MetAs (s : Session) (n : Entry) (os : List Order) (t room : List ℕ) (at : ℕ) (t′ room′ : List ℕ) (r : Met) : Type 0 where
   pub book : t′ ≡ tableOf (sweepIn s n os .rest) t
   pub count : r .count ≡ length (sweepIn s n os .rest)
@@ -71,7 +71,7 @@ pub record MetAs (s : Session) (n : Entry) (os : List Order) (t room : List ℕ)
   pub out : r .out ≡ sweepIn s n os .out
   pub few : r .at ≤ at + recordLength * (length os + 1)
 
--- ---- the whole of an order
+-- ---- an order from its acceptance to its remainder: what it must find, and what it leaves
 
 pub record Entering (s : Session) (n : Entry) (nmine : ℕ) (mine : List ℕ) (ntheirs : ℕ) (theirs room : List ℕ) (at : ℕ) : Type 0 where
   pub clocked : Clocked s

@@ -1,4 +1,4 @@
--- What code leaves in the lent numbers while an event acts.
+-- What code finds and leaves in the lent numbers while an event acts.
 use Prim.Native.Nat.{ℕ, zero, suc, _+_, _*_, _≤_, _<_}
 use mathlib.Core.Path.{_≡_}
 use mathlib.Core.Bool.{Bool, true, false, cond, _||_}
@@ -28,18 +28,18 @@ use Rattle.state_law.specs.Now.{Steady, bandNow}
 use Rattle.state_law.specs.Trades.{TradesFit}
 use Rattle.acts_law.specs.Acts.{ended, finished}
 
--- reports stand in the room from a place on, and next is the place behind them
+-- these reports were written into the room from a place on, and next is the place behind them
 pub record Written (room : List ℕ) (at : ℕ) (rs : List Report) (room′ : List ℕ) (next : ℕ) : Type 0 where
   pub laid : room′ ≡ put room at (recordsOf rs)
   pub behind : next ≡ at + recordLength * length rs
 
 -- ---- trades read back from their records
 
--- a trade's lots and price, as they stand in its record
+-- a trade's price and lots, as they stand in its record
 abbrev pub fillAt : List ℕ → Order
 fillAt l = record { number = 0; price = getD l 5 0; lots = getD l 4 0 }
 
--- n trades, record after record
+-- n trades, from records that stand one behind the other
 unfoldable pub fillsAt : ℕ → List ℕ → List Order
 fillsAt zero l = []
 fillsAt (suc n) l = fillAt l ∷ fillsAt n (drop recordLength l)
@@ -50,11 +50,11 @@ pub record Deals (f : Order) : Type 0 where
   pub lots-some : 1 ≤ f .lots
   pub lots-small : f .lots ≤ lotsMost
 
--- each of n trades is
+-- each of n trades, read from their records, is such a trade
 pub record EachDeals (n : ℕ) (l : List ℕ) : Type 0 where
   pub at : (k : ℕ) → k < n → Deals (fillAt (drop (recordLength * k) l))
 
--- n trades, whose records stand in the room from a place on, can be remembered in a session
+-- a session can remember n trades whose records stand in the room from a place on
 pub record Remembering (s : Session) (band : Band) (room : List ℕ) (at n : ℕ) : Type 0 where
   pub fits : TradesFit s n
   pub banded : band ≡ bandNow s
@@ -62,30 +62,30 @@ pub record Remembering (s : Session) (band : Band) (room : List ℕ) (at n : ℕ
   pub space : at + recordLength * n ≤ length room
   pub deals : EachDeals n (drop at room)
 
--- ---- the remainder, from what code has of a sweep
+-- ---- the fate of a remainder, from what code knows of a sweep
 
 abbrev pub fateFrom : Life → Kind → Band → ℕ → ℕ → Bool → Fate
 fateFrom life kind band last left out = cond (eqb left 0) Done (cond out (Ends OutOfRange) (fateOfLeft life kind band last))
 
--- it takes a place on its side
+-- the remainder takes a place on its side
 abbrev pub takesPlace : Fate → Bool
 takesPlace Done = false
 takesPlace (Rests price) = true
 takesPlace (Turns price) = true
 takesPlace (Ends why) = false
 
--- an order takes its place on a side
+-- an order has taken its place on a side
 pub record RestedAs (side : Side) (o : Order) (n : ℕ) (t t′ : List ℕ) (count : ℕ) : Type 0 where
   pub book : t′ ≡ tableOf (insert side o (decode n t)) t
   pub counted : count ≡ length (insert side o (decode n t))
 
--- a remainder can be settled
+-- what must be there before a remainder is settled: a place on its side, if it takes one, and room for a report
 pub record Settling (n : ℕ) (t room : List ℕ) (at : ℕ) (fate : Fate) : Type 0 where
   pub holds : Holds n t
   pub space : at + recordLength ≤ length room
   pub place : takesPlace fate ≡ true → n < slots
 
--- and is: the own side's table, the room and the answer
+-- the remainder was settled: the table of its own side, the room and the answer
 pub record Settled (side : Side) (time number left : ℕ) (fate : Fate) (os : List Order) (t room : List ℕ) (at : ℕ) (t′ room′ : List ℕ) (r : Placed) : Type 0 where
   pub book : t′ ≡ tableOf (settled side number left fate os) t
   pub count : r .count ≡ length (settled side number left fate os)
@@ -93,11 +93,11 @@ pub record Settled (side : Side) (time number left : ℕ) (fate : Fate) (os : Li
 
 -- ---- a cancel
 
--- the order rests on one of the sides
+-- the order of that number rests on one of the sides
 pub record RestsIn (number : ℕ) (buys sells : List Order) : Type 0 where
   pub somewhere : (rests number buys || rests number sells) ≡ true
 
--- the orders of each side after it, and the report
+-- the orders of each side after the cancel, the lots that were cancelled, and what the cancel leaves
 abbrev pub buysWithout : ℕ → List Order → List Order → List Order
 buysWithout number buys sells = cond (rests number buys) (removed number buys) buys
 
@@ -116,14 +116,14 @@ pub record WithdrawnAs (number time : ℕ) (buys sells : List Order) (tb ts room
 
 -- ---- the close
 
--- it can be carried out
+-- what must be there before the day is closed: long tables, and room for all cancels and the close report
 pub record Finishing (s : Session) (buys sells room : List ℕ) : Type 0 where
   pub steady : Steady s
   pub buys-long : tableLength ≤ length buys
   pub sells-long : tableLength ≤ length sells
   pub room-long : recordLength * (slots + slots + 1) ≤ length room
 
--- and is
+-- the day was closed: both tables are empty, and the reports stand in the room
 pub record Finished (s : Session) (time settle : ℕ) (buys sells : List Order) (tb ts room tb′ ts′ room′ : List ℕ) (next : ℕ) : Type 0 where
   pub bought : tb′ ≡ tableOf [] tb
   pub sold : ts′ ≡ tableOf [] ts

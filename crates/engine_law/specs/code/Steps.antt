@@ -1,4 +1,4 @@
--- What an accepted event begins and ends with, in the lent numbers.
+-- What an accepted event finds and leaves in the lent numbers, where it begins and where it ends.
 use Prim.Native.Nat.{ℕ, _+_, _/_, _*_, _≤_}
 use mathlib.Core.Path.{_≡_}
 use mathlib.Core.List.{List}
@@ -22,11 +22,11 @@ use Rattle.engine_law.specs.declared.Answer.{Answer}
 use Rattle.engine_law.specs.declared.Applied.{Applied}
 use Rattle.engine_law.specs.declared.Begun.{Begun}
 
--- the answer: live counts in the session, and the count of reports by the place behind them
+-- the answer: the session with its live counts, and how many reports end at that place of the room
 abbrev pub doneAt : Session → ℕ → ℕ → ℕ → Applied
 doneAt s nbuys nsells at = record { answer = Answer.Reported (at / recordLength); session = setSells (setBuys s nbuys) nsells }
 
--- the clock steps lead from old to s
+-- what must be there before the clock steps from old to s are reported; and what they leave, with the tables' tails cleared
 pub record Stepping (old s : Session) (buys sells room : List ℕ) : Type 0 where
   pub clocked : Clocked s
   pub buys-few : old .live .buys ≤ slots
@@ -40,7 +40,7 @@ pub record SteppedAs (old s : Session) (buys sells room buys′ sells′ room′
   pub sold : sells′ ≡ tableOf (decode (old .live .sells) sells) sells
   pub told : Written room 0 (clockReports old s) room′ next
 
--- any event but the close can begin, at time t
+-- what must be there before an event at time t begins, if it is not the close
 pub record Begins (s : Session) (t : ℕ) (buys sells room : List ℕ) : Type 0 where
   pub clocked : Clocked s
   pub forward : s .clock .time ≤ t
@@ -49,7 +49,7 @@ pub record Begins (s : Session) (t : ℕ) (buys sells room : List ℕ) : Type 0 
   pub sells-long : tableLength ≤ length sells
   pub room-long : recordLength * 2 ≤ length room
 
--- and has begun
+-- such an event has begun
 pub record BegunAs (s : Session) (t : ℕ) (buys sells room buys′ sells′ room′ : List ℕ) (b : Begun) : Type 0 where
   pub could : Begins s t buys sells room
   pub session : b .session ≡ clockStep s t
@@ -57,36 +57,36 @@ pub record BegunAs (s : Session) (t : ℕ) (buys sells room buys′ sells′ roo
 
 -- ---- behind the clock steps
 
--- an order's answer: the table of its own side is the buys' or the sells'
+-- an order's answer: its own side's count is that of the buys or that of the sells
 abbrev pub doneOn : Side → Entered → Applied
 doneOn Buy f = doneAt (f .session) (f .mine) (f .theirs) (f .at)
 doneOn Sell f = doneAt (f .session) (f .theirs) (f .mine) (f .at)
 
--- an order on its own side's table and the one across
+-- an order was carried out on its own side's table and on the one across
 pub record OrderedAs (side : Side) (s : Session) (n : Entry) (nmine : ℕ) (mine : List ℕ) (ntheirs : ℕ) (theirs room : List ℕ) (at : ℕ)
     (mine′ theirs′ room′ : List ℕ) (r : Applied) : Type 0 where
   pub order : Entered
   pub entered : EnteredAs s n (decode nmine mine) (decode ntheirs theirs) mine theirs room at mine′ theirs′ room′ order
   pub answer : r ≡ doneOn side order
 
--- an order asks of both tables what it asks of its own side's and of the one across
+-- what a buy or a sell must find in its own side's table and the one across, said of the buys' table and the sells'
 pub record EntersOn (s : Session) (n : Entry) (nbuys : ℕ) (buys : List ℕ) (nsells : ℕ) (sells room : List ℕ) (at : ℕ) : Type 0 where
   pub a-buy : n .side ≡ Buy → Entering s n nbuys buys nsells sells room at
   pub a-sell : n .side ≡ Sell → Entering s n nsells sells nbuys buys room at
 
--- and leaves both as it leaves these
+-- what a buy or a sell leaves in its own side's table and the one across, said of the buys' table and the sells'
 pub record OrderedOn (s : Session) (n : Entry) (nbuys : ℕ) (buys : List ℕ) (nsells : ℕ) (sells room : List ℕ) (at : ℕ)
     (buys′ sells′ room′ : List ℕ) (r : Applied) : Type 0 where
   pub a-buy : n .side ≡ Buy → OrderedAs Buy s n nbuys buys nsells sells room at buys′ sells′ room′ r
   pub a-sell : n .side ≡ Sell → OrderedAs Sell s n nsells sells nbuys buys room at sells′ buys′ room′ r
 
--- the clock steps alone, and perhaps another underlying
+-- the clock steps were made, and at most the underlying was set
 pub record QuietAs (s : Session) (t under : ℕ) (buys sells room buys′ sells′ room′ : List ℕ) (r : Applied) : Type 0 where
   pub begun : Begun
   pub began : BegunAs s t buys sells room buys′ sells′ room′ begun
   pub answer : r ≡ doneAt (setUnder (begun .session) under) (s .live .buys) (s .live .sells) (begun .at)
 
--- a cancel, of an order that rests on one of the sides
+-- what a cancel must find: an order that rests on one of the sides, and room for a report; and what it leaves
 pub record Withdrawing (number nbuys : ℕ) (buys : List ℕ) (nsells : ℕ) (sells room : List ℕ) (at : ℕ) : Type 0 where
   pub holds-buys : Holds nbuys buys
   pub holds-sells : Holds nsells sells

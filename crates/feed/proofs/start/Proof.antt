@@ -1,3 +1,4 @@
+-- The session is the fixed one, and settings are due.
 use mathlib.Core.Path.{ap}
 use borrow.Author.Needs.{needs}
 use Rattle.state_law.specs.declared.Session.{Session}

@@ -1,4 +1,4 @@
--- The grammar's answer is the right one.
+-- The code answers as the grammar does, and that answer is the right one.
 use Rattle.lines_reading_law.proofs.EventLines.{event-right}
 use borrow.Author.Needs.{needs}
 use Rattle.lines_reading.proofs.read_event.Statement.{statement}

@@ -1,4 +1,4 @@
--- Bytes put into a lent room.
+-- What it means that bytes are put into a lent room.
 use Prim.Native.Nat.{ℕ, _+_, _≤_}
 use mathlib.Core.Path.{_≡_}
 use mathlib.Core.List.{List}
@@ -14,18 +14,18 @@ pub record Put (d : List ℕ) (n : ℕ) (bs d′ : List ℕ) (r : ℕ) : Type 0 
   pub next : r ≡ n + length bs
   pub laid : d′ ≡ put d n bs
 
--- the same from a spot to a spot, with so many numbers used on the way
+-- the same from one spot to another, with so many numbers used on the way
 pub record PutFrom (d : List ℕ) (from : Spot) (bs : List ℕ) (count : ℕ) (d′ : List ℕ) (to : Spot) : Type 0 where
   pub there : Put d (from .at) bs d′ (to .at)
   pub used : to .used ≡ from .used + count
 
--- a form fits at a spot: the room holds its line, and of the numbers there are enough, each of which can be written
+-- a form fits at a spot: the room can hold its line, there are enough numbers for it, and each of them can be written
 pub record Fits (d : List ℕ) (from : Spot) (f ns : List ℕ) : Type 0 where
   pub within : from .at + length (fill f (drop (from .used) ns)) ≤ length d
   pub enough : from .used + holes f ≤ length ns
   pub writable : Writable ns
 
--- so does what one byte of a form stands for
+-- what one byte of a form stands for fits at a spot
 pub record PieceFits (d : List ℕ) (from : Spot) (c : ℕ) (ns : List ℕ) : Type 0 where
   pub within : from .at + length (piece c (getD ns (from .used) 0)) ≤ length d
   pub enough : from .used + taken c ≤ length ns

@@ -1,4 +1,4 @@
--- By kind and life, the form and the numbers of the definition.
+-- One arm for each kind and each life, each with the definition's form and numbers.
 use native.Mathlib.Omega.{arith}
 use Rattle.lines_text_law.specs.Forms.{holes, longest}
 use Rattle.lines_writing_law.proofs.ByKind.{by-order}

@@ -1,3 +1,4 @@
+-- A run against an expected output tells what the comparison must tell.
 use Rattle.stream_law.proofs.Through.{through-compares}
 use borrow.Author.Needs.{needs}
 use Rattle.stream.proofs.compare.Statement.{statement}

@@ -1,3 +1,4 @@
+-- A run to standard output never answers as a comparison does.
 use borrow.Author.Needs.{needs}
 use Rattle.stream_law.proofs.Through.{through-prints}
 use Rattle.stream.proofs.print.Statement.{statement}

@@ -1,4 +1,4 @@
--- What was read so far, and what came of it; the buffer has room; the turns that are left fall.
+-- The loop keeps what the reads came to, and that the buffer has room for another; the number of turns left falls.
 use Prim.Native.Nat.{_≤_, _<_}
 use mathlib.Core.Path.{_≡_}
 use lib.ListN.{length}

@@ -1,3 +1,4 @@
+-- The read goes into the rest of the buffer, so its front is kept.
 use Rattle.stream.proofs.Behind.{read-behind}
 use borrow.Author.Needs.{needs}
 use Rattle.stream.proofs.read_behind.Statement.{statement}

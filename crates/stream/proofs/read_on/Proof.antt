@@ -1,3 +1,4 @@
+-- Each return is one case: the read failed, it gave no bytes, or its bytes are taken in.
 use Rattle.stream.proofs.Behind.{end-within, end-fits, came-some, came-none, came-failed}
 use borrow.Author.Needs.{needs}
 use Rattle.stream.proofs.read_on.Statement.{statement}

@@ -1,3 +1,4 @@
+-- Each return is one case: not all could be read, or the end is told behind all that was.
 use Rattle.stream_law.specs.Streams.ThroughAs.{unread}
 use Rattle.stream_law.proofs.Through.{run-whole}
 use mathlib.Core.Path.{refl}

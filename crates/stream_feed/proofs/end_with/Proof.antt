@@ -1,3 +1,4 @@
+-- The text of the end stands in the output room, and is sent from there.
 use borrow.Author.Needs.{needs}
 use Rattle.stream_law.proofs.Ending.{ended-sent}
 use Rattle.stream_feed.proofs.end_with.Statement.{statement}

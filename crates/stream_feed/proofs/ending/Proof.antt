@@ -1,3 +1,4 @@
+-- All whole lines are handed over first, and then the end is told of the bytes that are left.
 use Rattle.stream_law.proofs.Ending.{ends-as}
 use borrow.Author.Needs.{needs}
 use Rattle.stream_feed.proofs.ending.Statement.{statement}

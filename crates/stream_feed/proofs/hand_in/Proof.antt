@@ -1,3 +1,4 @@
+-- The call of feed leaves its text in the output room, and the text is sent from there.
 use Rattle.stream_law.proofs.Goes.{handed}
 use borrow.Author.Needs.{needs}
 use Rattle.stream_feed.proofs.hand_in.Statement.{statement}

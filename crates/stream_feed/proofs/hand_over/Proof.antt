@@ -1,4 +1,4 @@
--- So many bytes were taken, and the tables keep their lengths.
+-- Before each turn the run has gone from its start to where it stands, and the tables keep their lengths: that is what the loop keeps.
 use Prim.Native.Nat.{_-_, _^_, _<_}
 use mathlib.Core.Path.{_≡_}
 use lib.ListN.{length}

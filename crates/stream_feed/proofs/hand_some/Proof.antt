@@ -1,3 +1,4 @@
+-- The call is made on the bytes from the place on, in rooms of zeros.
 use Rattle.stream_law.proofs.Goes.{handed-from}
 use borrow.Author.Needs.{needs}
 use Rattle.stream_feed.proofs.hand_some.Statement.{statement}

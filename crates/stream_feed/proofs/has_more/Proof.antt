@@ -1,3 +1,4 @@
+-- Both tests are the definition's.
 use borrow.Author.Needs.{needs}
 use Rattle.stream_feed.proofs.has_more.Statement.{statement}
 use Rattle.stream_feed.proofs.has_more.Tie as tie

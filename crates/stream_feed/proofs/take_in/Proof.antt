@@ -1,3 +1,4 @@
+-- The bytes before the end are handed over, and those that are left are moved to the front.
 use Rattle.stream_law.proofs.Handing.{takes-in}
 use borrow.Author.Needs.{needs}
 use Rattle.stream_feed.proofs.take_in.Statement.{statement}

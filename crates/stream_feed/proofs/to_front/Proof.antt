@@ -1,4 +1,4 @@
--- The first i bytes were moved.
+-- Before each turn the first i bytes were moved: that is what the loop keeps.
 use borrow.Author.Needs.{needs}
 use Prim.Native.Nat.{_≤_, _-_}
 use denote.Ref.{now}

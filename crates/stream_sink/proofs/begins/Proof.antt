@@ -1,4 +1,4 @@
--- The bytes before i are the same, so the rest decides.
+-- The bytes before i are alike, so those from i on decide: that is what the loop keeps.
 use borrow.Author.Needs.{needs}
 use Prim.Native.Nat.{_-_}
 use lib.ListN.{length}

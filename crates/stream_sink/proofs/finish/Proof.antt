@@ -1,3 +1,4 @@
+-- One arm for each state of the sink.
 use Rattle.stream_law.proofs.Sends.{finish-matched}
 use borrow.Author.Needs.{needs}
 use Rattle.stream_sink.proofs.finish.Statement.{statement}

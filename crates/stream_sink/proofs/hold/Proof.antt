@@ -1,3 +1,4 @@
+-- Each return is one case: the bytes come next in the expected output, or they do not.
 use borrow.Author.Needs.{needs}
 use mathlib.Core.Path.{_∙_, sym}
 use denote.Ref.{now}

@@ -1,3 +1,4 @@
+-- Each return is one case: the place lies past the end of the expected output, or the bytes behind it decide.
 use Rattle.stream_law.proofs.Beginnings.{past-end, begins-there}
 use borrow.Author.Needs.{needs}
 use Rattle.stream_sink.proofs.is_next.Statement.{statement}

@@ -1,3 +1,4 @@
+-- One arm for each state of the sink.
 use Rattle.stream_law.proofs.Sends.{sent-print, sent-match, sent-differs, sent-lost}
 use borrow.Author.Needs.{needs}
 use Rattle.stream_sink.proofs.send.Statement.{statement}

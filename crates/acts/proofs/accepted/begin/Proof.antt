@@ -1,4 +1,4 @@
--- The clock steps within their bounds.
+-- The clock steps stay within their bounds, so that they can be made and then reported.
 use borrow.Author.Needs.{needs}
 use Rattle.engine_law.proofs.Starts.{steps-in}
 use Rattle.acts.proofs.accepted.begin.Statement.{statement}

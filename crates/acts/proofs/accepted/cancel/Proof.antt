@@ -1,4 +1,4 @@
--- The clock steps, then the cancel.
+-- The clock steps come first, then the cancel on the tables that they leave.
 use borrow.Author.Needs.{needs}
 use Rattle.engine_law.proofs.Starts.{begins}
 use Rattle.engine_law.proofs.Dones.{cancel-asks, cancel-acted}

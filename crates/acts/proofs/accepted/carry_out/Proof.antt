@@ -1,4 +1,4 @@
--- What each callee asks and shows of the act that its arm matched is so of the event.
+-- One arm for each act: what its call asks holds of the event, and what the call leaves is what the event leaves.
 use borrow.Author.Needs.{needs}
 use Rattle.engine_law.proofs.Dones.{ready-by, acted-by, under-begins, clock-begins, under-acted, clock-acted}
 use Rattle.acts.proofs.accepted.carry_out.Statement.{statement}

@@ -1,4 +1,4 @@
--- The cancels and the close report; the session keeps all but its time, the closed mark and the live counts.
+-- The cancels and the close report are written; the session keeps all but its time, the closed mark and the live counts.
 use borrow.Author.Needs.{needs}
 use Rattle.engine_law.proofs.Dones.{finishes, closed-done}
 use Rattle.acts.proofs.accepted.close.Statement.{statement}

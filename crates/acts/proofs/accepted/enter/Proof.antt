@@ -1,4 +1,4 @@
--- An arm for each side.
+-- One arm for each side, each with its own table first.
 use borrow.Author.Needs.{needs}
 use Rattle.engine_law.proofs.Orders.{buys-enter, sells-enter, buys-ordered, sells-ordered}
 use Rattle.acts.proofs.accepted.enter.Statement.{statement}

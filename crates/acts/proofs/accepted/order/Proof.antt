@@ -1,4 +1,4 @@
--- The clock steps, then the order on both tables.
+-- The clock steps come first, then the order on the tables that they leave.
 use borrow.Author.Needs.{needs}
 use Rattle.engine_law.proofs.Starts.{begins}
 use Rattle.engine_law.proofs.Orders.{enters-on, ordered-done}

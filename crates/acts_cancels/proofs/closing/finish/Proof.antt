@@ -1,4 +1,4 @@
--- No order is left in the tables.
+-- The reports are written first, and then both tables are cleared from their start on.
 use borrow.Author.Needs.{needs}
 use Rattle.acts_law.proofs.Ends.{all-finished}
 use Rattle.acts_cancels.proofs.closing.finish.Statement.{statement}

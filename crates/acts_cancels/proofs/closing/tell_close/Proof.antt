@@ -1,4 +1,4 @@
--- The cancels of the sells stand behind those of the buys, the close report behind both.
+-- The cancels of the sells stand behind those of the buys, and the close report stands behind both.
 use borrow.Author.Needs.{needs}
 use Rattle.acts_law.proofs.Ends.{sells-fit, close-fits, all-told}
 use Rattle.acts_cancels.proofs.closing.tell_close.Statement.{statement}

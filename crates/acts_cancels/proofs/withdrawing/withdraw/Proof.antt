@@ -1,4 +1,4 @@
--- The order goes from the side on which it rests; that side has one order less, the other is as it was.
+-- The order goes from the side on which it rests; that side has one order fewer, and the other is as it was.
 use Rattle.acts_law.proofs.Ends.{some-buys, some-sells, from-buys, from-sells}
 use borrow.Author.Needs.{needs}
 use Rattle.acts_cancels.proofs.withdrawing.withdraw.Statement.{statement}

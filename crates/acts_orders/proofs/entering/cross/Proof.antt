@@ -1,4 +1,4 @@
--- The accept report, and the trades behind it.
+-- The accept report is written first, and the sweep writes the trades behind it.
 use borrow.Author.Needs.{needs}
 use Rattle.acts_law.proofs.Meets.{sweep-space, sweep-range, crossed}
 use Rattle.acts_orders.proofs.entering.cross.Statement.{statement}

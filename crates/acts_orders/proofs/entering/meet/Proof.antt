@@ -1,4 +1,4 @@
--- The trades are remembered in the session.
+-- The call before wrote the trades' records, and the session remembers them from there.
 use borrow.Author.Needs.{needs}
 use Rattle.acts_law.proofs.Meets.{cross-asks, remember-asks, met}
 use Rattle.acts_orders.proofs.entering.meet.Statement.{statement}

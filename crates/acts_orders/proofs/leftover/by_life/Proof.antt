@@ -1,4 +1,4 @@
--- Both lives, and both kinds of an order that lives all day.
+-- One arm for each life, and within an order that lives all day one for each kind.
 use borrow.Author.Needs.{needs}
 use Rattle.acts_orders.proofs.leftover.by_life.Statement.{statement}
 use Rattle.acts_orders.proofs.leftover.by_life.Tie as tie

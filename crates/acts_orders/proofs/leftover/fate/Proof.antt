@@ -1,4 +1,4 @@
--- Nothing left, out of range, or by life and kind.
+-- Each return is one case: nothing is left, the order stopped out of range, or its life and kind decide.
 use borrow.Author.Needs.{needs}
 use borrow.Author.Tests.{eq-eqb, ne-eqb}
 use Rattle.acts_orders.proofs.leftover.fate.Statement.{statement}

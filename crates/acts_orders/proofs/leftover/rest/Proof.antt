@@ -1,4 +1,4 @@
--- One order more.
+-- The order is inserted, and the side has one order more.
 use borrow.Author.Needs.{needs}
 use Rattle.acts_law.proofs.Leftovers.{rested}
 use Rattle.acts_orders.proofs.leftover.rest.Statement.{statement}

@@ -1,4 +1,4 @@
--- The four cases of a remainder.
+-- One arm for each fate of a remainder: there is none, it rests, it turns into a limit, it is cancelled.
 use borrow.Author.Needs.{needs}
 use Rattle.acts_law.proofs.Leftovers.{rest-asks, turn-asks, left-none, left-rests, left-turns, left-ends}
 use Rattle.acts_orders.proofs.leftover.settle.Statement.{statement}

@@ -1,4 +1,4 @@
--- Both answers of the band.
+-- Each return is one case: the price is in the band, or it is not.
 use borrow.Author.Needs.{needs}
 use mathlib.Core.Path.{sym, _∙_}
 use Rattle.acts_orders.proofs.leftover.turned.Statement.{statement}

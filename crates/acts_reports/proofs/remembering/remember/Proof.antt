@@ -1,4 +1,4 @@
--- The trades that are left, from the session so far, make the session that all of them make.
+-- At each turn, remembering the trades that are left makes of the session what all trades make of the first: that is what the loop keeps.
 use Prim.Native.Nat.{_-_}
 use borrow.Author.Needs.{needs}
 use Rattle.acts_law.proofs.Recalled.{Recalling, recall-from, trade-asks, recall-next, recall-all}

@@ -1,4 +1,4 @@
--- The second report stands behind the first, where there is one.
+-- The ref report is written behind the slab report, where there is one.
 use Rattle.acts_law.specs.Acts.{clockReports}
 use Rattle.acts_law.proofs.Reports.{only-leaves, only-then}
 use borrow.Author.Needs.{needs}

@@ -1,4 +1,4 @@
--- Where the value is the old one nothing is written; else one report.
+-- Each return is one case: the value is the old one and nothing is written, or one report is.
 use Rattle.acts_law.proofs.Reports.{only-none, only-one}
 use borrow.Author.Needs.{needs}
 use Rattle.acts_reports.proofs.telling.tell_ref.Statement.{statement}

@@ -1,4 +1,4 @@
--- Where the percent is the old one nothing is written; else one report, of the band now.
+-- Each return is one case: the percent is the old one and nothing is written, or one report of the new band is.
 use Rattle.acts_law.proofs.Reports.{only-none, only-one, slab-one, alike, apart}
 use borrow.Author.Needs.{needs}
 use Rattle.acts_reports.proofs.telling.tell_slab.Statement.{statement}

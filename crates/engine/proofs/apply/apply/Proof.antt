@@ -1,4 +1,4 @@
--- Row 1 by the lengths, and then the other rows.
+-- The lengths decide row 1, and then the other rows are judged.
 use borrow.Author.Needs.{needs}
 use Rattle.engine_law.proofs.Applies.{found-long, too-small}
 use Rattle.engine.proofs.apply.apply.Statement.{statement}

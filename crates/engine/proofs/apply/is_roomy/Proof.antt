@@ -1,4 +1,4 @@
--- The three tests are those of the definition.
+-- The code makes the three tests of the definition.
 use Rattle.terms.specs.Truth.{_⊓_}
 use Rattle.engine_law.specs.Calls.{roomy}
 use Rattle.engine.proofs.apply.is_roomy.Statement.{statement}

@@ -1,4 +1,4 @@
--- The rows by their verdict, and what no row refuses by what is carried out.
+-- Each arm is a case of the verdict: the row that refuses is answered, or the event is carried out.
 use borrow.Author.Needs.{needs}
 use Rattle.engine_law.proofs.Applies.{ready, refused-as, accepted-as}
 use Rattle.engine.proofs.apply.judged.Statement.{statement}

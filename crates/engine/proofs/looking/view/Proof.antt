@@ -1,4 +1,4 @@
--- The tests of the lengths and of soundness in the definition's order, then the view of the book.
+-- The lengths and the soundness are tested in the definition's order, then the book gives the view.
 use borrow.Author.Tests.{lt-ltb, le-ltb, not-true, not-false}
 use Rattle.engine_law.specs.Calls.{viewCall}
 use borrow.Author.Needs.{needs}

@@ -1,4 +1,4 @@
--- The refusal, and the standing of none.
+-- Both fields are the definition's: the refusal, and a standing of zeros.
 use borrow.Author.Needs.{needs}
 use Rattle.engine.proofs.standings.refused.Statement.{statement}
 use Rattle.engine.proofs.standings.refused.Tie as tie

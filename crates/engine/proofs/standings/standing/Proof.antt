@@ -1,4 +1,4 @@
--- The tests of the lengths and of soundness in the definition's order, then what is in force.
+-- The lengths and the soundness are tested in the definition's order, then what is in force is answered.
 use borrow.Author.Needs.{needs}
 use Rattle.engine_law.proofs.Stands.{short-bought, short-sold, found-unsound, found-clocked, found-sound}
 use Rattle.engine.proofs.standings.standing.Statement.{statement}

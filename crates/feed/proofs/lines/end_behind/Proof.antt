@@ -1,3 +1,4 @@
+-- One arm for each reason why the lines stopped: only where no whole one is left is the end told.
 use Rattle.feed_law.proofs.Ending.{end-full, end-ended, end-refused}
 use borrow.Author.Needs.{needs}
 use Rattle.feed.proofs.lines.end_behind.Statement.{statement}

@@ -1,3 +1,4 @@
+-- Each return is one case: the room must be emptied first, or the end is told.
 use borrow.Author.Needs.{needs}
 use Rattle.feed_law.proofs.Ending.{end-filled, end-told}
 use Rattle.feed.proofs.lines.finish.Statement.{statement}

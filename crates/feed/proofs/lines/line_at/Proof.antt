@@ -1,3 +1,4 @@
+-- The turn of the bytes from the place on, printed into the rest of the room, is that of the line there.
 use Rattle.feed_law.proofs.Going.{line-taken}
 use borrow.Author.Needs.{needs}
 use Rattle.feed.proofs.lines.line_at.Statement.{statement}

@@ -1,3 +1,4 @@
+-- The lines are taken first, and the end is told behind them.
 use Rattle.feed_law.proofs.Calls.{took-end}
 use borrow.Author.Needs.{needs}
 use Rattle.feed.proofs.lines.take_end.Statement.{statement}

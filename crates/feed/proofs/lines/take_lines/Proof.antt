@@ -1,3 +1,4 @@
+-- Each return is one case: something lent is too short, or the lines are taken.
 use Rattle.feed_law.proofs.Calls.{took-none, took-lines}
 use borrow.Author.Needs.{needs}
 use Rattle.feed.proofs.lines.take_lines.Statement.{statement}

@@ -1,3 +1,4 @@
+-- Before each turn, what was taken and printed and what the bytes left come to make up the whole: that is what the loop keeps.
 use Prim.Native.Nat.{_-_, _^_, _<_}
 use mathlib.Core.Path.{_≡_}
 use lib.ListN.{length}

@@ -1,3 +1,4 @@
+-- The writer's line is printed, and the count is how many bytes it wrote.
 use borrow.Author.Needs.{needs}
 use Rattle.feed_law.proofs.Prints.{writes-prints}
 use Rattle.feed_prints.proofs.printing.tell_bad.Statement.{statement}

@@ -1,3 +1,4 @@
+-- One arm for each place at which the run can stand.
 use Rattle.feed_law.proofs.Ending.{end-awaiting, end-trading, end-over}
 use borrow.Author.Needs.{needs}
 use Rattle.feed_prints.proofs.printing.tell_end.Statement.{statement}

@@ -1,3 +1,4 @@
+-- Each arm is one case: the numbers are a report's and its line is printed, or nothing is.
 use Rattle.feed_law.proofs.Prints.{told-prints, nothing-prints}
 use borrow.Author.Needs.{needs}
 use Rattle.feed_prints.proofs.printing.tell_record.Statement.{statement}

@@ -1,3 +1,4 @@
+-- Before each turn the lines of the first i records are printed, and the next record stands at `at`.
 use Prim.Native.Nat.{_-_, _≤_}
 use mathlib.Core.Path.{_≡_}
 use lib.ListN.{length}

@@ -1,3 +1,4 @@
+-- Each return is one case: no bytes are left, or their count is told.
 use borrow.Author.Needs.{needs}
 use Rattle.feed_law.proofs.Ending.{none-left, some-left}
 use Rattle.feed_prints.proofs.printing.tell_tail.Statement.{statement}

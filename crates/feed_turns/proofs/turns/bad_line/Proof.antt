@@ -1,3 +1,4 @@
+-- The bad line is told, and the run stands at its end.
 use Rattle.feed_law.proofs.Taking.{ends-here}
 use borrow.Author.Needs.{needs}
 use Rattle.feed_turns.proofs.turns.bad_line.Statement.{statement}

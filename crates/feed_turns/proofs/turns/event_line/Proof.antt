@@ -1,3 +1,4 @@
+-- One arm for each answer of the reader: an event, an unfinished line, a wrong one.
 use borrow.Author.Needs.{needs}
 use Rattle.feed_law.proofs.Taking.{event-whole, event-unfinished, event-wrong}
 use Rattle.feed_turns.proofs.turns.event_line.Statement.{statement}

@@ -1,3 +1,4 @@
+-- One arm for each answer of `apply`: the reports are printed, or the refusal is.
 use Rattle.feed_law.proofs.Taking.{reports-held, lines-held, goes-told, goes-refused}
 use borrow.Author.Needs.{needs}
 use Rattle.feed_turns.proofs.turns.goes.Statement.{statement}

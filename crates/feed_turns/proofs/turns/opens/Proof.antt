@@ -1,3 +1,4 @@
+-- One arm for each verdict on the settings: the session is opened, or the refusal is told.
 use Rattle.feed_law.proofs.Taking.{opens-fine, opens-refused}
 use borrow.Author.Needs.{needs}
 use Rattle.feed_turns.proofs.turns.opens.Statement.{statement}

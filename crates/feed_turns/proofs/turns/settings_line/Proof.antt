@@ -1,3 +1,4 @@
+-- One arm for each answer of the reader: settings, an unfinished line, a wrong one.
 use borrow.Author.Needs.{needs}
 use Rattle.feed_law.proofs.Taking.{settings-whole, settings-unfinished, settings-wrong}
 use Rattle.feed_turns.proofs.turns.settings_line.Statement.{statement}

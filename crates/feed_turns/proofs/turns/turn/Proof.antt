@@ -1,3 +1,4 @@
+-- One arm for each place at which the run can stand: settings are due, an event is due, or nothing is.
 use borrow.Author.Needs.{needs}
 use Rattle.feed_law.proofs.Taking.{most-awaiting, most-trading, turn-settings, turn-event, turn-over}
 use Rattle.feed_turns.proofs.turns.turn.Statement.{statement}

@@ -1,4 +1,4 @@
--- An arm for each act.
+-- One arm for each act.
 use borrow.Author.Needs.{needs}
 use Rattle.lines_reading.proofs.events.act_of.Statement.{statement}
 use Rattle.lines_reading.proofs.events.act_of.Tie as tie

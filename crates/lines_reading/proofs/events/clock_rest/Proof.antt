@@ -1,4 +1,4 @@
--- By the byte, and what the pieces found.
+-- Each return is answered by the byte that decides, and by what the pieces behind it found.
 use Rattle.lines_text_law.proofs.Steps.{steps}
 use Rattle.lines_reading_law.specs.Grammars.{clockRest}
 use borrow.Author.Needs.{needs}

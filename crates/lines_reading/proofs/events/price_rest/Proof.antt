@@ -1,4 +1,4 @@
--- By the kind, and what the pieces found.
+-- Each return is answered by the kind of order, and by what the pieces of the line found.
 use Rattle.lines_text_law.proofs.Steps.{pieces}
 use Rattle.lines_reading_law.proofs.Prices.{price-due, end-due, stop-as}
 use borrow.Author.Needs.{needs}

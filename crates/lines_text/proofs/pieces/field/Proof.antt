@@ -1,4 +1,4 @@
--- By what the word found.
+-- Each return is answered by what the word found.
 use Rattle.lines_text_law.proofs.Steps.{field-on, field-cut, field-off}
 use borrow.Author.Needs.{needs}
 use Rattle.lines_text.proofs.pieces.field.Statement.{statement}

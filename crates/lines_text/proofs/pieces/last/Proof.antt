@@ -1,4 +1,4 @@
--- By what the field found, and then the newline.
+-- Each return is answered by what the field found, and then by the newline.
 use Rattle.lines_text_law.proofs.Steps.{last-on, last-cut, last-off, end-cut, end-off}
 use borrow.Author.Needs.{needs}
 use Rattle.lines_text.proofs.pieces.last.Statement.{statement}

@@ -1,4 +1,4 @@
--- The loop's invariant: the digits left are worth what is left of the definition, and the value has as many digits as were read.
+-- At each turn, the digits left make the number that the whole makes, and the value so far has as many digits as were read.
 use Prim.Native.Nat.{_≤_, _<_, _-_, _^_}
 use mathlib.Core.Path.{_≡_}
 use lib.ListN.{drop}

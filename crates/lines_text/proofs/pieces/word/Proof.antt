@@ -1,4 +1,4 @@
--- The loop's invariant: the word is worth what is left of it from here.
+-- At each turn, what is left of the word decides from here what the whole word decides: that is what the loop keeps.
 use Prim.Native.Nat.{_≤_, _-_}
 use mathlib.Core.Path.{_≡_}
 use lib.ListN.{length, drop}

@@ -1,4 +1,4 @@
--- The loop's invariant: the test of all is the test of those left.
+-- At each turn, the numbers left decide what all of them decide: that is what the loop keeps.
 use Prim.Native.Nat.{_≤_, _-_}
 use native.Mathlib.Omega.{arith}
 use mathlib.Core.Path.{_≡_, _∙_, sym}

@@ -1,4 +1,4 @@
--- By the powers of ten that the number lies between.
+-- Each return is answered by the powers of ten between which the number lies.
 use Rattle.lines_text_law.proofs.Digits.{width-first, width-is, width-last}
 use Rattle.lines_text.proofs.room.digits.Statement.{statement}
 use Rattle.lines_text.proofs.room.digits.Tie as tie

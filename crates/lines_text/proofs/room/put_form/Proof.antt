@@ -1,4 +1,4 @@
--- The loop's invariant: putting the whole form is putting, into the room as it stands, what is left of it from the spot on.
+-- At each turn, putting what is left of the form into the room as it stands gives what putting the whole form gives.
 use Prim.Native.Nat.{_-_}
 use lib.ListN.{length}
 use Rattle.lines_text_law.proofs.Fills.{Left, left-all, left-fits, left-turn, left-none}

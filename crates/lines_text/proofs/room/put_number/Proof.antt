@@ -1,4 +1,4 @@
--- The loop's invariant: putting the whole numeral is putting, into the room as it stands, the numeral of what is left.
+-- At each turn, putting the numeral of what is left into the room as it stands gives what putting the whole numeral gives.
 use Prim.Native.Nat.{_+_, _-_, _≤_}
 use native.Mathlib.Omega.{arith}
 use mathlib.Core.Path.{_≡_, refl, _∙_, sym}

@@ -1,4 +1,4 @@
--- By what the byte stands for.
+-- Each return is one case: the byte stands for a number, or for itself.
 use Rattle.lines_text_law.proofs.Fills.{number-there, number-fits, number-placed, byte-fits, byte-placed}
 use borrow.Author.Needs.{needs}
 use Rattle.lines_text.proofs.room.put_piece.Statement.{statement}

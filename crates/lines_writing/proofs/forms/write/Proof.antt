@@ -1,4 +1,4 @@
--- The three ways to answer; the two parts of the form are put one after the other.
+-- Each return is one of the three ways to answer; the two parts of the form are put one after the other.
 use Rattle.lines_writing_law.proofs.Writing.{writer}
 use borrow.Author.Needs.{needs}
 use Rattle.lines_writing.proofs.forms.write.Statement.{statement}
