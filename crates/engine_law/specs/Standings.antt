@@ -1,4 +1,4 @@
--- WHERE A SESSION STANDS: what an app shows of it. Every part is by the definition that judges orders.
+-- WHERE A SESSION STANDS: what an app shows of it, by the definitions that judge orders.
 use Prim.Native.Nat.{ℕ}
 use mathlib.Core.Bool.{Bool, false, not}
 use mathlib.Core.List.{List, [], _∷_}
