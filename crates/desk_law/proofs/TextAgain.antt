@@ -27,7 +27,7 @@ use Rattle.feed_law.specs.declared.Stop.{Stop}
 use Rattle.feed_law.specs.Worlds.{Lent, lentOf, calls}
 use Rattle.feed_law.specs.Turns.{Fed, stopAt, halted, turnOf, settingsTurn, eventTurn, printedFrom, fedIn, endBy, endBehind}
 use Rattle.feed_law.specs.Pieces.{fedToEnd}
-use Rattle.feed_law.specs.Feeds.{Feed, begun, feedVerdict, linesOf, fedBy, fedOf, endedOf}
+use Rattle.feed_law.specs.Feeds.{Feed, freshRun, feedVerdict, linesOf, fedBy, fedOf, endedOf}
 use Rattle.feed_law.proofs.Going.{fed-by}
 use Rattle.feed_law.proofs.Pieces.{pieces, end-prints-rest}
 use Rattle.feed_law.proofs.Starts.{end-world}
@@ -146,9 +146,9 @@ end-calls =
 
 -- ---- what a call writes, the next call reads
 
-pub started-again : (run run′ : List ℕ) (r : ℕ) → runLength ≤ length run → StartedAs run run′ r → runFrom run′ ≡ begun
+pub started-again : (run run′ : List ℕ) (r : ℕ) → runLength ≤ length run → StartedAs run run′ r → runFrom run′ ≡ freshRun
 unfolding startVerdict
-started-again run run′ r h o = ap runFrom (o .laid) ∙ rw (le-ltb (length run) runLength h) (run-laid-back run begun fixed-ten)
+started-again run run′ r h o = ap runFrom (o .laid) ∙ rw (le-ltb (length run) runLength h) (run-laid-back run freshRun fixed-ten)
 
 module _ (of : Feed) (law : Calls of)
     (run bytes buys sells room out counts run′ buys′ sells′ room′ out′ counts′ : List ℕ) (r : ℕ)

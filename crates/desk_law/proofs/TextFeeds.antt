@@ -13,7 +13,7 @@ use Rattle.feed_law.specs.declared.Run.{Run}
 use Rattle.feed_law.specs.declared.Taken.{Taken}
 use Rattle.feed_law.specs.Worlds.{Lent}
 use Rattle.feed_law.specs.Turns.{Fed}
-use Rattle.feed_law.specs.Feeds.{Feed, begun, TakenAs, TakenBy}
+use Rattle.feed_law.specs.Feeds.{Feed, freshRun, TakenAs, TakenBy}
 use Rattle.desk_packing_law.specs.Answers.{answerOf}
 use Rattle.desk_packing_law.specs.Stages.{runLength, runNumbers, runFrom}
 use Rattle.desk_law.specs.Feeding.{startVerdict, StartedAs, countsLength, stopNumber, isRefusal, laidBy, LaidAfter, LaidTaken, fedOn, runAfter, FedAs}
@@ -25,7 +25,7 @@ module _ (run : List ℕ) (r : ℕ) where
   unfolding startVerdict
   start-no-run h e = let s = lt-ltb (length run) runLength h in record { answer = rw s e; laid = rw s }
 
-  pub start-done : (b : Run) (run′ : List ℕ) → runLength ≤ length run → b ≡ begun → run′ ≡ put run 0 (runNumbers b) → r ≡ answerOf Fine 0 →
+  pub start-done : (b : Run) (run′ : List ℕ) → runLength ≤ length run → b ≡ freshRun → run′ ≡ put run 0 (runNumbers b) → r ≡ answerOf Fine 0 →
       StartedAs run run′ r
   unfolding startVerdict
   start-done b run′ h e l a = let s = le-ltb (length run) runLength h in record { answer = rw s a; laid = rw (s, ← e) l }

@@ -14,7 +14,7 @@ use Rattle.feed_law.specs.declared.Stop.{Stop}
 use Rattle.feed_law.specs.declared.Taken.{Taken}
 use Rattle.feed_law.specs.Worlds.{Lent, lentOf, calls}
 use Rattle.feed_law.specs.Turns.{Fed, halted}
-use Rattle.feed_law.specs.Feeds.{Feed, laid, begun}
+use Rattle.feed_law.specs.Feeds.{Feed, laid, freshRun}
 use Rattle.desk_packing_law.specs.Answers.{answerNumber, answerOf}
 use Rattle.desk_law.specs.Calls.{whereLong}
 use Rattle.desk_packing_law.specs.Stages.{runLength, runNumbers, runFrom}
@@ -26,7 +26,7 @@ unfoldable pub startVerdict : List ℕ → Verdict
 startVerdict run = cond (ltb (length run) runLength) (Refused SmallRoom) Fine
 
 abbrev pub startedBy : Verdict → List ℕ → List ℕ
-startedBy Fine run = put run 0 (runNumbers begun)
+startedBy Fine run = put run 0 (runNumbers freshRun)
 startedBy (Refused r) run = run
 
 pub record StartedAs (run run′ : List ℕ) (r : ℕ) : Type 0 where

@@ -8,11 +8,11 @@ use feed_law::Run;
 use feed_law::Stage;
 use state::opening;
 ghost use mathlib.Core.Path.{_≡_};
-ghost use Rattle.feed_law.specs.Feeds.{begun};
+ghost use Rattle.feed_law.specs.Feeds.{freshRun};
 
 // A run before its first line.
 pub fn start() -> Run
-    ensures { λ r. ⌜ r ≡ begun ⌝ }
+    ensures { λ r. ⌜ r ≡ freshRun ⌝ }
 {
     Run {
         stage: Stage::Awaiting,

@@ -55,8 +55,8 @@ wroteLength (Wrote.Refused r) = 0
 
 -- ---- before the first line
 
-abbrev pub begun : Run
-begun = record { stage = Stage.Awaiting; session = fixedSession }
+abbrev pub freshRun : Run
+freshRun = record { stage = Stage.Awaiting; session = fixedSession }
 
 -- ---- one line
 

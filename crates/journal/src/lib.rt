@@ -5,7 +5,7 @@
 use lines_reading_law::ReadEvent;
 ghost use mathlib.Core.Path.{_≡_};
 ghost use Rattle.lines_reading_law.specs.Answers.{eventAnswer};
-ghost use Rattle.lines_reading_law.specs.Walk.{eventAt};
+ghost use Rattle.lines_reading_law.specs.Walk.{readAt};
 
 // A walker: the caller's bytes, and a place in them.
 pub struct Walker<'a> {
@@ -15,7 +15,7 @@ pub struct Walker<'a> {
 
 // What the reader answers on the bytes from a place on.
 pub fn event_at(bytes: &[u8], at: usize) -> ReadEvent
-    ensures { λ r. ⌜ eventAnswer r ≡ eventAt (now (bytes .entry)) at ⌝ }
+    ensures { λ r. ⌜ eventAnswer r ≡ readAt (now (bytes .entry)) at ⌝ }
 {
     if bytes.len() < at {
         return lines_reading::read_event(&bytes[0..0]);
@@ -32,7 +32,7 @@ pub fn new<'a>(bytes: &'a [u8]) -> Walker<'a>
 
 // What the reader answers at the walker's place.
 pub fn step<'a>(w: Walker<'a>) -> ReadEvent
-    ensures { λ r. ⌜ eventAnswer r ≡ eventAt (now (w .entry .bytes)) (w .entry .at) ⌝ }
+    ensures { λ r. ⌜ eventAnswer r ≡ readAt (now (w .entry .bytes)) (w .entry .at) ⌝ }
 {
     event_at(w.bytes, w.at)
 }
@@ -46,7 +46,7 @@ pub fn moved<'a>(w: Walker<'a>, at: usize) -> Walker<'a>
 
 // A walker's step at a place of plain bytes, for callers that hold no walker.
 pub fn line_at(bytes: &[u8], at: usize) -> ReadEvent
-    ensures { λ r. ⌜ eventAnswer r ≡ eventAt (now (bytes .entry)) at ⌝ }
+    ensures { λ r. ⌜ eventAnswer r ≡ readAt (now (bytes .entry)) at ⌝ }
 {
     step(moved(new(bytes), at))
 }

@@ -5,12 +5,12 @@ use mathlib.Core.List.{List, _++_}
 use lib.ListN.{length}
 use lib.Seq.{drop-append-seam}
 use Rattle.lines_reading_law.specs.Answers.{readEvent}
-use Rattle.lines_reading_law.specs.Walk.{eventAt}
+use Rattle.lines_reading_law.specs.Walk.{readAt}
 
-pub walk-starts : (bytes : List ℕ) → eventAt bytes 0 ≡ readEvent bytes
-unfolding eventAt
+pub walk-starts : (bytes : List ℕ) → readAt bytes 0 ≡ readEvent bytes
+unfolding readAt
 walk-starts bytes = refl
 
-pub walk-goes-on : (line rest : List ℕ) → eventAt (line ++ rest) (length line) ≡ readEvent rest
-unfolding eventAt
+pub walk-goes-on : (line rest : List ℕ) → readAt (line ++ rest) (length line) ≡ readEvent rest
+unfolding readAt
 walk-goes-on line rest = ap readEvent (drop-append-seam line rest)

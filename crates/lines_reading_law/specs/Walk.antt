@@ -8,5 +8,5 @@ use Rattle.lines_reading_law.specs.Answers.{readEvent}
 
 -- "After each line the rest of the bytes is handed on from there as a part": this is the reader's answer to the bytes from the place on.
 -- Past the end there are none.
-unfoldable pub eventAt : List ℕ → ℕ → Answer Event
-eventAt bytes place = readEvent (drop place bytes)
+unfoldable pub readAt : List ℕ → ℕ → Answer Event
+readAt bytes place = readEvent (drop place bytes)

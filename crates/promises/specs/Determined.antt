@@ -23,8 +23,8 @@ use Rattle.lines_writing_law.specs.declared.Wrote.{Wrote}
 use Rattle.lines_writing_law.specs.Writes.{Writes}
 use Rattle.feed_law.specs.declared.Run.{Run}
 use Rattle.feed_law.specs.declared.Taken.{Taken}
-use Rattle.feed_law.specs.Feeds.{Feed, begun, TakenBy}
-use Rattle.lines_reading_law.specs.Walk.{eventAt}
+use Rattle.feed_law.specs.Feeds.{Feed, freshRun, TakenBy}
+use Rattle.lines_reading_law.specs.Walk.{readAt}
 
 -- `terms::judge::check`
 abbrev pub CheckDetermined : Type 0
@@ -68,7 +68,7 @@ SettingsReadDetermined = (bytes : List ℕ) (r r′ : ReadSettings) → Settings
 -- the walker's calls: `journal::step`, `line_at`, `event_at`
 abbrev pub WalkDetermined : Type 0
 WalkDetermined =
-    (bytes : List ℕ) (place : ℕ) (r r′ : ReadEvent) → eventAnswer r ≡ eventAt bytes place → eventAnswer r′ ≡ eventAt bytes place → r ≡ r′
+    (bytes : List ℕ) (place : ℕ) (r r′ : ReadEvent) → eventAnswer r ≡ readAt bytes place → eventAnswer r′ ≡ readAt bytes place → r ≡ r′
 
 -- every writer of lines: the answer and each byte of the room
 abbrev pub WriteDetermined : Type 0
@@ -82,7 +82,7 @@ RecordReadDetermined = (numbers : List ℕ) (r r′ : ReadRecord) → RecordRead
 
 -- `feed::start`
 abbrev pub StartDetermined : Type 0
-StartDetermined = (r r′ : Run) → r ≡ begun → r′ ≡ begun → r ≡ r′
+StartDetermined = (r r′ : Run) → r ≡ freshRun → r′ ≡ freshRun → r ≡ r′
 
 pub record SameTaken (r₁ r₂ : Taken) (buys₁ sells₁ room₁ out₁ buys₂ sells₂ room₂ out₂ : List ℕ) : Type 0 where
   pub stage : r₁ .run .stage ≡ r₂ .run .stage

@@ -13,7 +13,7 @@ use Rattle.feed_law.specs.declared.Stop.{Stop}
 use Rattle.feed_law.specs.declared.Taken.{Taken}
 use Rattle.feed_law.specs.Worlds.{Lent, days}
 use Rattle.feed_law.specs.Turns.{Fed, printedFrom, printed}
-use Rattle.feed_law.specs.Feeds.{Feed, begun, feedVerdict, fedOf, endedOf, TakenBy}
+use Rattle.feed_law.specs.Feeds.{Feed, freshRun, feedVerdict, fedOf, endedOf, TakenBy}
 
 -- ---- what a caller holds between calls: the run, both tables, and the bytes that were not taken
 
@@ -25,7 +25,7 @@ pub record Holding : Type 0 where
 
 -- before the first call; the tables may hold anything
 abbrev pub atStart : List ℕ → List ℕ → Holding
-atStart buys sells = record { run = begun; buys = buys; sells = sells; kept = [] }
+atStart buys sells = record { run = freshRun; buys = buys; sells = sells; kept = [] }
 
 abbrev pub dayOn : Holding → Day
 dayOn h = dayIn (h .run .session) (h .buys) (h .sells)

@@ -15,8 +15,8 @@ unfoldable pub coolingBy : ℕ → ℕ → ℕ
 coolingBy cooling t = cond (overBy cooling t) 0 cooling
 
 -- the clock at time t, with the slab that is then in force
-abbrev pub clockAt : Dial → ℕ → Dial
-clockAt c t =
+abbrev pub dialAt : Dial → ℕ → Dial
+dialAt c t =
     record {
       time = t;
       closed = c .closed;
@@ -30,7 +30,7 @@ unfoldable pub clockStep : Session → ℕ → Session
 clockStep s t =
     record {
       settings = s .settings;
-      clock = clockAt (s .clock) t;
+      clock = dialAt (s .clock) t;
       live = s .live;
       reckoning = reckoned (s .reckoning) (s .clock .under) (s .settings .days) (s .clock .time) t;
       tape = s .tape;

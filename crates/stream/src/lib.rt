@@ -18,7 +18,7 @@ ghost use mathlib.Core.Path.{_≡_};
 ghost use mathlib.Core.List.{[]};
 ghost use lib.ListN.{length};
 ghost use Rattle.terms.specs.Sizes.{lineRoom};
-ghost use Rattle.feed_law.specs.Feeds.{begun};
+ghost use Rattle.feed_law.specs.Feeds.{freshRun};
 ghost use Rattle.stream.specs.Front.{ReadBehind};
 ghost use Rattle.stream_law.specs.Streams.{Tables, holding, isOn, heldAs, Hears, HearsOn, isDone, ThroughAs, Compares, PrintedAs};
 
@@ -92,7 +92,7 @@ fn read_all(
 ) -> Buffered
     requires { ⌜ Tables (now buys) (now sells) ⌝ }
     requires { ⌜ lineRoom < length (now buf) ⌝ }
-    ensures { λ r. ⌜ Hears (now (expected .entry)) (holding begun (now (buys .entry)) (now (sells .entry)) []) to (now (buf .exit)) (now (buys .exit)) (now (sells .exit)) r ⌝ }
+    ensures { λ r. ⌜ Hears (now (expected .entry)) (holding freshRun (now (buys .entry)) (now (sells .entry)) []) to (now (buf .exit)) (now (buys .exit)) (now (sells .exit)) r ⌝ }
 {
     let mut h = held(feed::start(), 0, to, Reading::On);
     let mut turns = u64::MAX;

@@ -9,7 +9,7 @@ use lib.ListN.{length, take, drop}
 use lib.Seq.{length-take-le, take-at}
 use Rattle.terms.specs.Sizes.{lineRoom}
 use Rattle.feed_law.specs.declared.Run.{Run}
-use Rattle.feed_law.specs.Feeds.{begun}
+use Rattle.feed_law.specs.Feeds.{freshRun}
 use Rattle.stream_law.specs.declared.Sink.{Sink}
 use Rattle.stream_law.specs.declared.Buffered.{Buffered}
 use Rattle.stream_law.specs.declared.Reading.{Reading}
@@ -27,8 +27,8 @@ pub start-short : {run : Run} {to : Sink} {reading : Reading} {h : Buffered} →
 start-short e = let z = ap (λ (x : Buffered). x .have) e in omega arith
 
 pub hears-first : {buf expected buys sells buf′ buys′ sells′ : List ℕ} {run : Run} {to : Sink} {reading : Reading} {h r : Buffered} →
-    run ≡ begun → h ≡ heldAs run 0 to reading → HearsOn expected h buf buys sells buf′ buys′ sells′ r →
-    Hears expected (holding begun buys sells []) to buf′ buys′ sells′ r
+    run ≡ freshRun → h ≡ heldAs run 0 to reading → HearsOn expected h buf buys sells buf′ buys′ sells′ r →
+    Hears expected (holding freshRun buys sells []) to buf′ buys′ sells′ r
 hears-first {buf} {expected} {buys} {sells} {buf′} {buys′} {sells′} {run} {to} {reading} {h} {r} s e k =
     subst (λ (x : Buffered). Hears expected (heldOn buf buys sells x) (x .to) buf′ buys′ sells′ r) (e ∙ ap (λ (x : Run). heldAs x 0 to reading) s) (k .hears)
 
@@ -41,8 +41,8 @@ hears-then p q =
     record { hears = record { room = b .room; got = a .got ++ b .got; goes = goes-then (a .goes) (b .goes) } }
 
 pub hears-last : {buf₀ expected buys₀ sells₀ buf buys sells buf′ buys′ sells′ : List ℕ} {run : Run} {to : Sink} {reading : Reading} {h₀ h r : Buffered} →
-    run ≡ begun → h₀ ≡ heldAs run 0 to reading → HearsOn expected h₀ buf₀ buys₀ sells₀ buf buys sells h → HearsOn expected h buf buys sells buf′ buys′ sells′ r →
-    Hears expected (holding begun buys₀ sells₀ []) to buf′ buys′ sells′ r
+    run ≡ freshRun → h₀ ≡ heldAs run 0 to reading → HearsOn expected h₀ buf₀ buys₀ sells₀ buf buys sells h → HearsOn expected h buf buys sells buf′ buys′ sells′ r →
+    Hears expected (holding freshRun buys₀ sells₀ []) to buf′ buys′ sells′ r
 hears-last s e p q = hears-first s e (hears-then p q)
 
 -- what is kept stays the same, whatever comes to stand behind it

@@ -7,7 +7,7 @@ use lib.ListN.{take}
 use Rattle.tables.specs.Tables.{decode}
 use Rattle.state_law.specs.Opening.{fixedSession}
 use Rattle.feed_law.specs.Turns.{printed}
-use Rattle.feed_law.specs.Feeds.{begun}
+use Rattle.feed_law.specs.Feeds.{freshRun}
 use Rattle.promises.specs.Printed.{Holding, toPrint}
 use Rattle.stream_law.specs.declared.Sink.{Sink}
 use Rattle.stream_law.specs.declared.Finish.{Finish}
@@ -18,20 +18,20 @@ use Rattle.stream_law.specs.Streams.ThroughAs.{unread, whole}
 use Rattle.stream_law.proofs.Sends.{sent-then, finish-tells, finish-printed}
 
 -- before the first line, whatever the tables hold, all is still to be printed
-from-start : (buys sells input : List ℕ) → printed input ≡ toPrint (holding begun buys sells []) input
+from-start : (buys sells input : List ℕ) → printed input ≡ toPrint (holding freshRun buys sells []) input
 unfolding printed fixedSession decode
 from-start buys sells input = refl
 
 -- all that could be read was read, and then the end was told
 pub run-whole : {expected buys sells : List ℕ} {to last : Sink} {buf′ buys′ sells′ : List ℕ} {h : Buffered} {r : Finish} →
-    Hears expected (holding begun buys sells []) to buf′ buys′ sells′ h →
+    Hears expected (holding freshRun buys sells []) to buf′ buys′ sells′ h →
     EndsAs expected (holding (h .run) buys′ sells′ (take (h .have - 0) buf′)) (h .to) last → r ≡ finishOf expected last → ThroughAs expected to r
 run-whole {expected} {buys} {sells} {to} {last} {buf′} {buys′} {sells′} {h} k e q =
     let b : Holding = heldOn buf′ buys′ sells′ h in
     let z : h .have - 0 ≡ h .have = omega arith in
     let e′ : EndsAs expected b (h .to) last = rw z at e in
     let p : printed (k .got) ≡ k .goes .text ++ toPrint b [] =
-    from-start buys sells (k .got) ∙ ap (toPrint (holding begun buys sells [])) (sym (append-nil (k .got))) ∙ k .goes .prints [] in
+    from-start buys sells (k .got) ∙ ap (toPrint (holding freshRun buys sells [])) (sym (append-nil (k .got))) ∙ k .goes .prints [] in
     whole (k .got)
     (record {
       sink = last;

@@ -39,7 +39,7 @@ use denote.Triple.Clauses.{ensured, lasts}
 use Rattle.terms.specs.declared.Event.{Event}
 use Rattle.lines_text_law.specs.Grammar.{Answer}
 use Rattle.lines_reading_law.specs.Answers.{eventAnswer}
-use Rattle.lines_reading_law.specs.Walk.{eventAt}
+use Rattle.lines_reading_law.specs.Walk.{readAt}
 use Rattle.journal.specs.declared.Walker.{Walker}
 use Rattle.lines_reading_law.specs.declared.ReadEvent.{ReadEvent}
 use Rattle.journal.proofs.Walker as T
@@ -87,7 +87,7 @@ module _ {M : Type 1} (𝓤 : URA M) (H : Heap 𝓤) (A : Atoms 𝓤) (W : Given
   v = sliceVal (s .ptr) (length (s .now))
 
   abbrev found : Answer Event
-  found = eventAt (now s) n
+  found = readAt (now s) n
 
   -- the struct's type as a local of a body has it
   abbrev αᵉ : NamedLft
@@ -140,8 +140,8 @@ module _ {M : Type 1} (𝓤 : URA M) (H : Heap 𝓤) (A : Atoms 𝓤) (W : Given
   goes-step : (r : Walker) (u : Val) → ent 𝓤 (⋆ 𝓤 H A (‵ (B (κ, tt) .own r (u ∷ [])) ∷ (‵ (flft κ q) ⊛ ‵ ftrue) ∷ [])) (Step 𝓤 H A mem run .pre (to-step r u))
   goes-step r u = qed W (‵ (B (κ, tt) .own r (u ∷ [])) ∷ (‵ (flft κ q) ⊛ ‵ ftrue) ∷ []) ∵ nothing ! $ move ! (1 ∷ 0 ∷ []) $ fjoin ! $ move ! (1 ∷ 0 ∷ []) $ join ! $ frame ! $ done !
 
-  step-said : (r : Walker) (t : ReadEvent) → ent 𝓤 (ensured 𝓤 H A step.ended (step.clauses 𝓤 H A mem run) (κ, tt) (r, tt) tt t) (fact 𝓤 (eventAnswer t ≡ eventAt (now (r .bytes)) (r .at)))
-  step-said r t = exE 𝓤 _ (λ ws. snd∗ 𝓤 (sem 𝓤 H A (lasts step.ended (κ, tt) (r, tt) ws)) (fact 𝓤 (eventAnswer t ≡ eventAt (now (r .bytes)) (r .at))))
+  step-said : (r : Walker) (t : ReadEvent) → ent 𝓤 (ensured 𝓤 H A step.ended (step.clauses 𝓤 H A mem run) (κ, tt) (r, tt) tt t) (fact 𝓤 (eventAnswer t ≡ readAt (now (r .bytes)) (r .at)))
+  step-said r t = exE 𝓤 _ (λ ws. snd∗ 𝓤 (sem 𝓤 H A (lasts step.ended (κ, tt) (r, tt) ws)) (fact 𝓤 (eventAnswer t ≡ readAt (now (r .bytes)) (r .at))))
 
   exits : (t : ReadEvent) (u : Val) → eventAnswer t ≡ found → ent 𝓤 (⋆ 𝓤 H A (‵ (S.the-row .own t (u ∷ [])) ∷ (‵ (flft κ q) ⊛ ‵ ftrue) ∷ ‵ Kept ∷ [])) (Post u)
   exits t u e =
@@ -171,13 +171,13 @@ module _ {M : Type 1} (𝓤 : URA M) (H : Heap 𝓤) (A : Atoms 𝓤) (W : Given
         use2 W (raw (Step 𝓤 H A mem run .pre (to-step r₁ u₁))) (goes-step r₁ u₁) $
         calls-at ! fm (Step 𝓤 H A mem run) known-step (to-step r₁ u₁) (and-then ! (load ! (from ! (stop !)) (look ! 4 refl)) (no-more !)) (λ u₂.
         use1 W (later (some (λ (t : ReadEvent). ((‵ (flft κ q) ⊛ ‵ ftrue) ⊛ ‵ (S.the-row .own t (u₂ ∷ []))) ⊛ raw (ensured 𝓤 H A step.ended (step.clauses 𝓤 H A mem run) (κ, tt) (r₁, tt) tt t)))) (id⊢ 𝓤 _) $ await ! tt $ pick ! (λ t.
-        split ! $ move ! (1 ∷ []) $ use1 W (raw (fact 𝓤 (eventAnswer t ≡ eventAt (now (r₁ .bytes)) (r₁ .at)))) (step-said r₁ t) $ heard ! (eventAnswer t ≡ eventAt (now (r₁ .bytes)) (r₁ .at)) (λ e₂. split ! $ move ! (1 ∷ []) $
+        split ! $ move ! (1 ∷ []) $ use1 W (raw (fact 𝓤 (eventAnswer t ≡ readAt (now (r₁ .bytes)) (r₁ .at)))) (step-said r₁ t) $ heard ! (eventAnswer t ≡ readAt (now (r₁ .bytes)) (r₁ .at)) (λ e₂. split ! $ move ! (1 ∷ []) $
         -- [the result; the token; what is kept; _4; …; _3; …; _2; …; _1; …; room for _0; …]
         peeks ! S.the-row (Is S.the-row) (shows 𝓤 H A S.the-row) t (u₂ ∷ []) (λ is₂.
         land ! (from ! (stop !)) (init ! 11 refl (EL.lawful S.the-type S′.the-laws 𝓤 H A W tt .typed t _ is₂ .0)) $
         returns ! (look ! 11 refl) $ forget ! 3 refl $ forget ! 5 refl $ forget ! 7 refl $ forget ! 9 refl $ forget ! 11 refl $
         move ! (11 ∷ 12 ∷ []) $ free1 ! $ move ! (9 ∷ 10 ∷ []) $ free1 ! $ move ! (7 ∷ 8 ∷ []) $ free1 ! $ move ! (5 ∷ 6 ∷ []) $ free1 ! $ move ! (3 ∷ 4 ∷ []) $ free1 ! $ free0 ! $
-        by ! (exits t u₂ (e₂ ∙ ap (λ (x : RefT (List ℕ)). eventAt (now x) (r₁ .at)) (e₁ .0 ∙ e .0) ∙ ap (eventAt (now s)) (e₁ .1))))))))))))))))))))
+        by ! (exits t u₂ (e₂ ∙ ap (λ (x : RefT (List ℕ)). readAt (now x) (r₁ .at)) (e₁ .0 ∙ e .0) ∙ ap (readAt (now s)) (e₁ .1))))))))))))))))))))
 
 module _ {M : Type 1} (𝓤 : URA M) (H : Heap 𝓤) (A : Atoms 𝓤) (W : Given 𝓤 H A) (mem : Memory → SProp 𝓤) (run : Routine → Fun 𝓤) where
   line-at-walks : (C : Calls 𝓤 H) (Λ : Loops 𝓤 H) → FmC 𝓤 H (W .laws) C → Triple 𝓤 (C #journal·new) (New 𝓤 H A mem run) → Triple 𝓤 (C #journal·moved) (Moved 𝓤 H A mem run) → Triple 𝓤 (C #journal·step) (Step 𝓤 H A mem run)

@@ -46,7 +46,7 @@ use denote.Triple.Clauses.{ensured, lasts}
 use Rattle.terms.specs.declared.Event.{Event}
 use Rattle.lines_text_law.specs.Grammar.{Answer}
 use Rattle.lines_reading_law.specs.Answers.{eventAnswer}
-use Rattle.lines_reading_law.specs.Walk.{eventAt}
+use Rattle.lines_reading_law.specs.Walk.{readAt}
 use Rattle.journal.specs.declared.Walker.{Walker}
 use Rattle.lines_reading_law.specs.declared.ReadEvent.{ReadEvent}
 use Rattle.journal.proofs.Walker as T
@@ -83,7 +83,7 @@ module _ {M : Type 1} (𝓤 : URA M) (H : Heap 𝓤) (A : Atoms 𝓤) (W : Given
   v = sliceVal (d .bytes .ptr) (length (d .bytes .now))
 
   abbrev found : Answer Event
-  found = eventAt (now (d .bytes)) (d .at)
+  found = readAt (now (d .bytes)) (d .at)
 
   abbrev Post : Val → SProp 𝓤
   Post = walkOf 𝓤 H A step.ended stayed (step.clauses 𝓤 H A mem run) .post (((κ, tt), (q, tt), tt, (d, tt), (mach ∷ [], tt)), tt)
