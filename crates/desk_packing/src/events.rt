@@ -8,9 +8,12 @@ use terms::Life;
 use terms::Side;
 ghost use mathlib.Core.Path.{_≡_};
 ghost use Prim.Native.Nat.{_≤_};
+ghost use mathlib.Core.Bool.{cond};
+ghost use lib.Dec.{eqb};
 ghost use lib.ListN.{length};
+ghost use Rattle.terms.specs.Carried.{limitOf};
 ghost use Rattle.desk_packing_law.specs.Runs.{eventLength};
-ghost use Rattle.desk_packing_law.specs.Events.{sideNumber, kindNumber, lifeNumber, limitNumber, eventNumbers, toldIf, orderFrom, entryFrom, foundFrom, foundIn, eventFrom};
+ghost use Rattle.desk_packing_law.specs.Events.{sideNumber, kindNumber, lifeNumber, orZero, eventNumbers, entryBy, actBy, foundFrom, foundIn, eventFrom};
 
 fn of_side(side: Side) -> u64
     ensures { λ r. ⌜ r ≡ sideNumber side ⌝ }
@@ -41,7 +44,7 @@ fn of_life(life: Life) -> u64
 
 // A limit order's price; 0 for a market order.
 fn limit_of(kind: Kind) -> u64
-    ensures { λ r. ⌜ r ≡ limitNumber kind ⌝ }
+    ensures { λ r. ⌜ r ≡ orZero (limitOf kind) ⌝ }
 {
     match kind {
         Kind::Limit(price) => price,
@@ -76,85 +79,75 @@ pub fn pack(e: Event) -> [u64; 6]
     }
 }
 
-// The event, where the numbers that it leaves unused are zero.
-fn told_if(unused: bool, time: u64, act: Act) -> FoundEvent
-    ensures { λ r. ⌜ r ≡ toldIf unused time act ⌝ }
-{
-    if unused {
-        return FoundEvent::Told(Event {
-            time: time,
-            act: act,
-        });
-    }
-    FoundEvent::Nothing
-}
-
-// An order, by the number of its life.
-fn order_from(unused: bool, time: u64, side: Side, kind: Kind, life: u64, lots: u64) -> FoundEvent
-    ensures { λ r. ⌜ r ≡ orderFrom unused time side kind life lots ⌝ }
-{
-    if life == 1 {
-        return told_if(
-            unused,
-            time,
-            Act::Enter(Entry {
-                side: side,
-                kind: kind,
-                life: Life::AllDay,
-                lots: lots,
-            }),
-        );
-    }
-    if life == 2 {
-        return told_if(
-            unused,
-            time,
-            Act::Enter(Entry {
-                side: side,
-                kind: kind,
-                life: Life::Ioc,
-                lots: lots,
-            }),
-        );
-    }
-    FoundEvent::Nothing
-}
-
-// An order, by the number of its kind.
-fn entry_from(time: u64, side: Side, kind: u64, life: u64, lots: u64, price: u64) -> FoundEvent
-    ensures { λ r. ⌜ r ≡ entryFrom time side kind life lots price ⌝ }
+fn kind_by(kind: u64, price: u64) -> Kind
+    ensures { λ r. ⌜ r ≡ cond (eqb kind 1) (Kind.Limit price) Kind.Market ⌝ }
 {
     if kind == 1 {
-        return order_from(true, time, side, Kind::Limit(price), life, lots);
+        return Kind::Limit(price);
     }
-    if kind == 2 {
-        return order_from(price == 0, time, side, Kind::Market, life, lots);
-    }
-    FoundEvent::Nothing
+    Kind::Market
 }
 
-// An event, by the number of what it does.
+fn life_by(life: u64) -> Life
+    ensures { λ r. ⌜ r ≡ cond (eqb life 1) Life.AllDay Life.Ioc ⌝ }
+{
+    if life == 1 {
+        return Life::AllDay;
+    }
+    Life::Ioc
+}
+
+// The order of a side that some numbers make.
+fn entry_by(side: Side, kind: u64, life: u64, lots: u64, price: u64) -> Entry
+    ensures { λ r. ⌜ r ≡ entryBy side kind life lots price ⌝ }
+{
+    let of_kind = kind_by(kind, price);
+    let of_life = life_by(life);
+    Entry {
+        side: side,
+        kind: of_kind,
+        life: of_life,
+        lots: lots,
+    }
+}
+
+// The act that some numbers make; a number that is no act's is taken for a clock event's.
+fn act_by(what: u64, kind: u64, life: u64, amount: u64, price: u64) -> Act
+    ensures { λ r. ⌜ r ≡ actBy what kind life amount price ⌝ }
+{
+    if what == 1 {
+        let buy = entry_by(Side::Buy, kind, life, amount, price);
+        return Act::Enter(buy);
+    }
+    if what == 2 {
+        let sell = entry_by(Side::Sell, kind, life, amount, price);
+        return Act::Enter(sell);
+    }
+    if what == 3 {
+        return Act::Withdraw(amount);
+    }
+    if what == 4 {
+        return Act::Under(price);
+    }
+    if what == 6 {
+        return Act::Finish(price);
+    }
+    Act::Clock
+}
+
+// The event that six numbers stand for: they must be its own.
 fn found_from(time: u64, what: u64, kind: u64, life: u64, amount: u64, price: u64) -> FoundEvent
     ensures { λ r. ⌜ r ≡ foundFrom time what kind life amount price ⌝ }
 {
-    let orderless = (kind == 0) & (life == 0);
-    if what == 1 {
-        return entry_from(time, Side::Buy, kind, life, amount, price);
-    }
-    if what == 2 {
-        return entry_from(time, Side::Sell, kind, life, amount, price);
-    }
-    if what == 3 {
-        return told_if(orderless & (price == 0), time, Act::Withdraw(amount));
-    }
-    if what == 4 {
-        return told_if(orderless & (amount == 0), time, Act::Under(price));
-    }
-    if what == 5 {
-        return told_if(orderless & (amount == 0) & (price == 0), time, Act::Clock);
-    }
-    if what == 6 {
-        return told_if(orderless & (amount == 0), time, Act::Finish(price));
+    let act = act_by(what, kind, life, amount, price);
+    let e = Event {
+        time: time,
+        act: act,
+    };
+    let own = pack(e);
+    let order = (own[1] == what) & (own[2] == kind) & (own[3] == life);
+    if order & (own[4] == amount) & (own[5] == price) {
+        return FoundEvent::Told(e);
     }
     FoundEvent::Nothing
 }

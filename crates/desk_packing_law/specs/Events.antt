@@ -1,12 +1,14 @@
 -- AN EVENT as six numbers: time, do (1 buy, 2 sell, 3 cancel, 4 under, 5 clock, 6 close), kind (1 limit, 2 market), life (1 day, 2 ioc),
 -- amount (lots, or the number of the order to cancel), price (limit, underlying or settlement). Unused ones are zero.
 use Prim.Native.Nat.{ℕ}
-use mathlib.Core.Bool.{Bool, true, cond, _&&_}
+use mathlib.Core.Bool.{cond}
+use mathlib.Core.Option.{Option}
 use mathlib.Core.List.{List, [], _∷_}
 use lib.Dec.{eqb}
 use lib.ListN.{getD}
 use Rattle.terms.specs.declared.Act.{Act}
 use Rattle.terms.specs.declared.Act.the-variants.{Enter, Withdraw, Under, Clock, Finish}
+use Rattle.terms.specs.declared.Entry.{Entry}
 use Rattle.terms.specs.declared.Event.{Event}
 use Rattle.terms.specs.declared.Kind.{Kind}
 use Rattle.terms.specs.declared.Kind.the-variants.{Limit, Market}
@@ -14,6 +16,9 @@ use Rattle.terms.specs.declared.Life.{Life}
 use Rattle.terms.specs.declared.Life.the-variants.{AllDay, Ioc}
 use Rattle.terms.specs.declared.Side.{Side}
 use Rattle.terms.specs.declared.Side.the-variants.{Buy, Sell}
+use Rattle.terms.specs.Options.{maybe}
+use Rattle.terms.specs.Carried.{carries}
+use Rattle.tables.specs.Same.{areSame}
 use Rattle.desk_packing_law.specs.declared.FoundEvent.{FoundEvent}
 
 abbrev pub sideNumber : Side → ℕ
@@ -28,48 +33,53 @@ abbrev pub lifeNumber : Life → ℕ
 lifeNumber AllDay = 1
 lifeNumber Ioc = 2
 
-abbrev pub limitNumber : Kind → ℕ
-limitNumber (Limit price) = price
-limitNumber Market = 0
+-- what an act does
+abbrev pub doNumber : Act → ℕ
+doNumber (Enter n) = sideNumber (n .side)
+doNumber (Withdraw number) = 3
+doNumber (Under price) = 4
+doNumber Clock = 5
+doNumber (Finish settle) = 6
 
--- the five numbers after the time
+abbrev pub orZero : Option ℕ → ℕ
+orZero n = maybe 0 (λ x. x) n
+
+-- the five numbers after the time: what the act does, then what it carries
 abbrev pub actNumbers : Act → List ℕ
-actNumbers (Enter n) = sideNumber (n .side) ∷ kindNumber (n .kind) ∷ lifeNumber (n .life) ∷ n .lots ∷ limitNumber (n .kind) ∷ []
-actNumbers (Withdraw number) = 3 ∷ 0 ∷ 0 ∷ number ∷ 0 ∷ []
-actNumbers (Under price) = 4 ∷ 0 ∷ 0 ∷ 0 ∷ price ∷ []
-actNumbers Clock = 5 ∷ 0 ∷ 0 ∷ 0 ∷ 0 ∷ []
-actNumbers (Finish settle) = 6 ∷ 0 ∷ 0 ∷ 0 ∷ settle ∷ []
+actNumbers a =
+    doNumber a
+    ∷ maybe 0 (λ n. kindNumber (n .kind)) (carries a .entry)
+    ∷ maybe 0 (λ n. lifeNumber (n .life)) (carries a .entry)
+    ∷ maybe (orZero (carries a .number)) (λ lots. lots) (carries a .lots)
+    ∷ orZero (carries a .price)
+    ∷ []
 
 unfoldable pub eventNumbers : Event → List ℕ
 eventNumbers e = e .time ∷ actNumbers (e .act)
 
 -- ---- events read back
 
--- the event, where the numbers that it leaves unused are zero
-abbrev pub toldIf : Bool → ℕ → Act → FoundEvent
-toldIf unused time act = cond unused (FoundEvent.Told (record { time = time; act = act })) FoundEvent.Nothing
+-- the order of a side that some numbers make; a number that is no kind's or no life's is taken for the last
+abbrev pub entryBy : Side → ℕ → ℕ → ℕ → ℕ → Entry
+entryBy side kind life lots price =
+    record { side = side; kind = cond (eqb kind 1) (Limit price) Market; life = cond (eqb life 1) AllDay Ioc; lots = lots }
 
--- an order, by the number of its life
-abbrev pub orderFrom : Bool → ℕ → Side → Kind → ℕ → ℕ → FoundEvent
-orderFrom unused time side kind life lots =
-    cond (eqb life 1) (toldIf unused time (Enter (record { side = side; kind = kind; life = AllDay; lots = lots })))
-    (cond (eqb life 2) (toldIf unused time (Enter (record { side = side; kind = kind; life = Ioc; lots = lots }))) FoundEvent.Nothing)
+-- the act that some numbers make, a row for each number of what it does; a number that is none of these is taken for a clock event's
+unfoldable pub actBy : ℕ → ℕ → ℕ → ℕ → ℕ → Act
+actBy what kind life amount price =
+    cond (eqb what 1) (Enter (entryBy Buy kind life amount price))
+    (cond (eqb what 2) (Enter (entryBy Sell kind life amount price))
+    (cond (eqb what 3) (Withdraw amount)
+    (cond (eqb what 4) (Under price)
+    (cond (eqb what 6) (Finish price) Clock))))
 
--- an order, by the number of its kind
-abbrev pub entryFrom : ℕ → Side → ℕ → ℕ → ℕ → ℕ → FoundEvent
-entryFrom time side kind life lots price =
-    cond (eqb kind 1) (orderFrom true time side (Limit price) life lots)
-    (cond (eqb kind 2) (orderFrom (eqb price 0) time side Market life lots) FoundEvent.Nothing)
+-- the event, where the numbers are its own
+abbrev pub eventIf : Event → List ℕ → FoundEvent
+eventIf e numbers = cond (areSame (eventNumbers e) numbers) (FoundEvent.Told e) FoundEvent.Nothing
 
--- an event, by the number of what it does
 unfoldable pub foundFrom : ℕ → ℕ → ℕ → ℕ → ℕ → ℕ → FoundEvent
 foundFrom time what kind life amount price =
-    cond (eqb what 1) (entryFrom time Buy kind life amount price)
-    (cond (eqb what 2) (entryFrom time Sell kind life amount price)
-    (cond (eqb what 3) (toldIf (eqb kind 0 && eqb life 0 && eqb price 0) time (Withdraw amount))
-    (cond (eqb what 4) (toldIf (eqb kind 0 && eqb life 0 && eqb amount 0) time (Under price))
-    (cond (eqb what 5) (toldIf (eqb kind 0 && eqb life 0 && eqb amount 0 && eqb price 0) time Clock)
-    (cond (eqb what 6) (toldIf (eqb kind 0 && eqb life 0 && eqb amount 0) time (Finish price)) FoundEvent.Nothing)))))
+    eventIf (record { time = time; act = actBy what kind life amount price }) (time ∷ what ∷ kind ∷ life ∷ amount ∷ price ∷ [])
 
 -- the event that some numbers stand for, or that they stand for none
 unfoldable pub foundIn : List ℕ → FoundEvent

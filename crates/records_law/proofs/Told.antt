@@ -3,38 +3,28 @@ use Prim.Native.Nat.{ℕ, _+_, _-_, _≤_, _<_}
 use native.Mathlib.Omega.{arith}
 use native.Mathlib.Numerals.{add-one}
 use mathlib.Core.Path.{_≡_, refl, sym, ap, _∙_}
-use mathlib.Core.Bool.{Bool, true, false, cond, _&&_}
+use mathlib.Core.Bool.{Bool, true, false, _&&_}
 use mathlib.Core.List.{List, [], _∷_, _++_}
 use lib.ListN.{length, getD, take, drop, length-append, length-take, length-drop}
 use lib.Seq.{drop-cons, take-at}
 use lib.Dec.{eqb}
-use borrow.Author.Tests.{eqb-true, eq-eqb, ne-eqb}
+use borrow.Author.Tests.{eq-eqb}
 use Rattle.terms.specs.declared.Report.{Report}
 use Rattle.terms.specs.declared.Said.{Said}
 use Rattle.terms.specs.declared.Said.the-variants.{Accept, Trade, Convert, Cancel, Slab, Ref, Close}
 use Rattle.terms.specs.declared.Why.{Why}
 use Rattle.terms.specs.declared.Why.the-variants.{Asked, Immediate, OutOfRange, OutsideBand, DayEnd}
 use Rattle.tables.specs.Lengths.{recordLength}
-use Rattle.terms.specs.Reports.{whyOf}
-use Rattle.tables.specs.Records.{recordOf}
-use Rattle.terms.proofs.Logic.{by, split}
+use Rattle.terms.specs.Reports.{kindOf, whyOf}
+use Rattle.tables.specs.declared.room.Four.{Four}
+use Rattle.tables.specs.Records.{fieldsOf, recordOf}
+use Rattle.tables.specs.Fields.{listed}
+use Rattle.tables.specs.Same.{areSame}
+use Rattle.terms.proofs.Logic.{by, cond-true, cond-false}
+use Rattle.tables.proofs.Same.{same-itself, same-runs}
 use Rattle.tables.proofs.Records.{length-record}
 use Rattle.records_law.specs.declared.ReadRecord.{ReadRecord}
-use Rattle.records_law.specs.declared.ReadWhy.{ReadWhy}
-use Rattle.records_law.specs.Back.{RecordRead, whyFrom, zeroTwo, zeroThree, toldIf, endedFrom, reportFrom, reportIn}
-
--- ---- a function that tests for one number after the other: `search numbered` answers each `return`
-
-pub here : {A : Type 0} (k n : ℕ) (o x y : A) → k ≡ n → o ≡ x → o ≡ cond (eqb k n) x y
-here k n o x y e h = rw (eq-eqb k n e) h
-
-pub there : {A : Type 0} (k n : ℕ) (o x y : A) → (k ≡ n → ⊥) → o ≡ y → o ≡ cond (eqb k n) x y
-there k n o x y e h = rw (ne-eqb k n e) h
-
-pub same : {A : Type 0} (o : A) → o ≡ o
-same o = refl
-
-pub ruleset numbered = (here, there, same)
+use Rattle.records_law.specs.Back.{RecordRead, whyBy, saidBy, reportIf, reportFrom, reportIn}
 
 -- six numbers as a list
 abbrev six : ℕ → ℕ → ℕ → ℕ → ℕ → ℕ → List ℕ
@@ -42,25 +32,29 @@ six k t a b c d = k ∷ t ∷ a ∷ b ∷ c ∷ d ∷ []
 
 -- ---- a report is read back from its record
 
-told-why : (t : ℕ) (n l : ℕ) (w : Why) → endedFrom (whyFrom (whyOf w)) t n l 0 ≡ ReadRecord.Told (record { time = t; said = Cancel (record { number = n; lots = l; why = w }) })
-told-why t n l Asked = refl
-told-why t n l Immediate = refl
-told-why t n l OutOfRange = refl
-told-why t n l OutsideBand = refl
-told-why t n l DayEnd = refl
+why-again : (w : Why) → whyBy (whyOf w) ≡ w
+why-again Asked = refl
+why-again Immediate = refl
+why-again OutOfRange = refl
+why-again OutsideBand = refl
+why-again DayEnd = refl
 
-told-said : (t : ℕ) (s : Said) → reportIn (recordOf (record { time = t; said = s })) ≡ ReadRecord.Told (record { time = t; said = s })
-unfolding recordOf reportFrom
-told-said t (Accept n) = refl
-told-said t (Trade d) = refl
-told-said t (Convert o) = refl
-told-said t (Cancel e) = told-why t (e .number) (e .lots) (e .why)
-told-said t (Slab b) = refl
-told-said t (Ref p) = refl
-told-said t (Close c) = refl
+abbrev reported : ℕ → Said → Report
+reported t s = record { time = t; said = s }
+
+-- kind and fields of a record make what its report says; one clause for each kind
+said-again : (t : ℕ) (s : Said) → reportIn (recordOf (reported t s)) ≡ reportIf (reported t s) (recordOf (reported t s))
+unfolding recordOf reportFrom saidBy
+said-again t (Accept n) = refl
+said-again t (Trade d) = refl
+said-again t (Convert o) = refl
+said-again t (Cancel e) = rw (why-again (e .why))
+said-again t (Slab b) = refl
+said-again t (Ref p) = refl
+said-again t (Close c) = refl
 
 pub told-back : (r : Report) → reportIn (recordOf r) ≡ ReadRecord.Told r
-told-back r = told-said (r .time) (r .said)
+told-back r = said-again (r .time) (r .said) ∙ cond-true (areSame (recordOf r) (recordOf r)) _ _ (same-itself (recordOf r))
 
 -- ---- a report that is read has the given record
 
@@ -69,57 +63,12 @@ abbrev Only : List ℕ → ReadRecord → Type 0
 Only ns (ReadRecord.Told r) = ns ≡ recordOf r
 Only ns ReadRecord.Nothing = Unit
 
-only-if : (ns : List ℕ) (unused : Bool) (t : ℕ) (s : Said) → (unused ≡ true → ns ≡ recordOf (record { time = t; said = s })) → Only ns (toldIf unused t s)
-only-if ns true t s f = f refl
-only-if ns false t s f = tt
-
--- nothing was read, or a reason with this number
-abbrev Meant : ℕ → ReadWhy → Type 0
-Meant c (ReadWhy.Reason w) = c ≡ whyOf w
-Meant c ReadWhy.Nothing = Unit
-
-meant : (c : ℕ) → Meant c (whyFrom c)
-meant c =
-    by (Meant c) (eqb c 1) _ _ (eqb-true c 1)
-    (λ _. by (Meant c) (eqb c 2) _ _ (eqb-true c 2)
-    (λ _. by (Meant c) (eqb c 3) _ _ (eqb-true c 3)
-    (λ _. by (Meant c) (eqb c 4) _ _ (eqb-true c 4)
-    (λ _. by (Meant c) (eqb c 5) _ _ (eqb-true c 5) (λ _. tt)))))
-
-only-why : (t a b c d : ℕ) (w : ReadWhy) → Meant c w → Only (six 4 t a b c d) (endedFrom w t a b d)
-unfolding recordOf
-only-why t a b c d ReadWhy.Nothing m = tt
-only-why t a b c d (ReadWhy.Reason w) m =
-    only-if _ (eqb d 0) t (Cancel (record { number = a; lots = b; why = w })) (λ z. rw (eqb-true d 0 z, m))
-
-zero-two : (c d : ℕ) → zeroTwo c d ≡ true → (c ≡ 0) × (d ≡ 0)
-zero-two c d e = let p = split (eqb c 0) (eqb d 0) e in (eqb-true c 0 (p .0), eqb-true d 0 (p .1))
-
-zero-three : (b c d : ℕ) → zeroThree b c d ≡ true → (b ≡ 0) × (c ≡ 0) × (d ≡ 0)
-zero-three b c d e =
-    let p = split (eqb b 0 && eqb c 0) (eqb d 0) e in
-    let q = split (eqb b 0) (eqb c 0) (p .0) in
-    (eqb-true b 0 (q .0), eqb-true c 0 (q .1), eqb-true d 0 (p .1))
+only-told : (r : Report) (ns : List ℕ) → Only ns (reportIf r ns)
+only-told r ns = by (Only ns) (areSame (recordOf r) ns) (ReadRecord.Told r) ReadRecord.Nothing (λ e. sym (same-runs (recordOf r) ns e)) (λ _. tt)
 
 only : (k t a b c d : ℕ) → Only (six k t a b c d) (reportFrom k t a b c d)
-unfolding reportFrom recordOf
-only k t a b c d =
-    let P = Only (six k t a b c d) in
-    by P (eqb k 1) _ _
-    (λ e. only-if _ (zeroThree b c d) t (Accept a) (λ z. let q = zero-three b c d z in rw (eqb-true k 1 e, q .0, q .1, q .2)))
-    (λ _. by P (eqb k 2) _ _
-    (λ e. rw (eqb-true k 2 e))
-    (λ _. by P (eqb k 3) _ _
-    (λ e. only-if _ (eqb d 0) t (Convert (record { number = a; price = c; lots = b })) (λ z. rw (eqb-true k 3 e, eqb-true d 0 z)))
-    (λ _. by P (eqb k 4) _ _
-    (λ e. rw (eqb-true k 4 e) (only-why t a b c d (whyFrom c) (meant c)))
-    (λ _. by P (eqb k 5) _ _
-    (λ e. only-if _ (zeroTwo c d) t (Slab (record { low = a; high = b })) (λ z. let q = zero-two c d z in rw (eqb-true k 5 e, q .0, q .1)))
-    (λ _. by P (eqb k 6) _ _
-    (λ e. only-if _ (zeroThree b c d) t (Ref a) (λ z. let q = zero-three b c d z in rw (eqb-true k 6 e, q .0, q .1, q .2)))
-    (λ _. by P (eqb k 7) _ _
-    (λ e. only-if _ (zeroTwo c d) t (Close (record { price = a; base = b })) (λ z. let q = zero-two c d z in rw (eqb-true k 7 e, q .0, q .1)))
-    (λ _. tt)))))))
+unfolding reportFrom
+only k t a b c d = only-told (record { time = t; said = saidBy k a b c d }) (six k t a b c d)
 
 -- ---- so the numbers have one right answer
 
@@ -187,3 +136,32 @@ told-front r l =
     let n = length-record r in
     let long : recordLength ≤ length (recordOf r ++ l) = rw length-append (omega arith) in
     sym (told-first (recordOf r ++ l) (ReadRecord.Told r) long (take-at (recordOf r) l recordLength n))
+
+-- ---- what code compares: the kind and the four fields, the time being the same
+
+-- so many tests, in the order in which code and definition join them
+joined : (k p q r s : Bool) → (k && (p && q && r && s)) ≡ (k && (true && (p && (q && (r && (s && true))))))
+joined false p q r s = refl
+joined true false q r s = refl
+joined true true false r s = refl
+joined true true true false s = refl
+joined true true true true false = refl
+joined true true true true true = refl
+
+-- `n` is the kind and `own` the fields of what code made of the numbers
+module _ (kind time a b c d n : ℕ) (said : Said) (own : Four)
+    (e : said ≡ saidBy kind a b c d) (k : n ≡ kindOf said) (f : listed own ≡ fieldsOf said) where
+  abbrev compared : Bool
+  compared = eqb n kind && (eqb (own .first) a && eqb (own .second) b && eqb (own .third) c && eqb (own .fourth) d)
+
+  compared-right : compared ≡ areSame (recordOf (reported time said)) (six kind time a b c d)
+  unfolding recordOf areSame
+  compared-right = rw (← k, ← f, eq-eqb time time refl) (joined (eqb n kind) (eqb (own .first) a) (eqb (own .second) b) (eqb (own .third) c) (eqb (own .fourth) d))
+
+  pub told-so : compared ≡ true → ReadRecord.Told (record { time = time; said = said }) ≡ reportFrom kind time a b c d
+  unfolding reportFrom
+  told-so t = rw (← e) (sym (cond-true (areSame (recordOf (reported time said)) (six kind time a b c d)) _ _ (sym compared-right ∙ t)))
+
+  pub told-none : compared ≡ false → ReadRecord.Nothing ≡ reportFrom kind time a b c d
+  unfolding reportFrom
+  told-none t = rw (← e) (sym (cond-false (areSame (recordOf (reported time said)) (six kind time a b c d)) _ _ (sym compared-right ∙ t)))

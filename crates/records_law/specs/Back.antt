@@ -1,18 +1,18 @@
 -- Document 01, "Book and report room": a report read back from the six numbers of its record.
 use Prim.Native.Nat.{ℕ}
 use mathlib.Core.Path.{_≡_}
-use mathlib.Core.Bool.{Bool, true, cond, _&&_}
-use mathlib.Core.List.{List}
+use mathlib.Core.Bool.{cond}
+use mathlib.Core.List.{List, [], _∷_}
 use lib.ListN.{getD}
 use lib.Dec.{eqb}
 use Rattle.terms.specs.declared.Report.{Report}
-use Rattle.terms.specs.declared.Deal.{Deal}
 use Rattle.terms.specs.declared.Said.{Said}
 use Rattle.terms.specs.declared.Said.the-variants.{Accept, Trade, Convert, Cancel, Slab, Ref, Close}
+use Rattle.terms.specs.declared.Why.{Why}
 use Rattle.terms.specs.declared.Why.the-variants.{Asked, Immediate, OutOfRange, OutsideBand, DayEnd}
 use Rattle.tables.specs.Records.{recordOf}
+use Rattle.tables.specs.Same.{areSame}
 use Rattle.records_law.specs.declared.ReadRecord.{ReadRecord}
-use Rattle.records_law.specs.declared.ReadWhy.{ReadWhy}
 
 -- the contract: the answer is the report whose record the numbers are, or says that no report has them
 abbrev pub RecordRead : List ℕ → ReadRecord → Type 0
@@ -21,42 +21,28 @@ RecordRead numbers ReadRecord.Nothing = (r : Report) → numbers ≡ recordOf r 
 
 -- ---- the same answer computed
 
-abbrev pub whyFrom : ℕ → ReadWhy
-whyFrom n =
-    cond (eqb n 1) (ReadWhy.Reason Asked)
-    (cond (eqb n 2) (ReadWhy.Reason Immediate)
-    (cond (eqb n 3) (ReadWhy.Reason OutOfRange)
-    (cond (eqb n 4) (ReadWhy.Reason OutsideBand)
-    (cond (eqb n 5) (ReadWhy.Reason DayEnd) ReadWhy.Nothing))))
+-- the reason with this number; a number that is none's is taken for the last
+abbrev pub whyBy : ℕ → Why
+whyBy n = cond (eqb n 1) Asked (cond (eqb n 2) Immediate (cond (eqb n 3) OutOfRange (cond (eqb n 4) OutsideBand DayEnd)))
 
--- "unused ones zero"
-abbrev pub zeroTwo : ℕ → ℕ → Bool
-zeroTwo c d = eqb c 0 && eqb d 0
+-- what a report of this kind says by its four fields, a row for each kind; a number that is no kind's is taken for the last
+unfoldable pub saidBy : ℕ → ℕ → ℕ → ℕ → ℕ → Said
+saidBy kind a b c d =
+    cond (eqb kind 1) (Accept a)
+    (cond (eqb kind 2) (Trade (record { buy = a; sell = b; lots = c; price = d }))
+    (cond (eqb kind 3) (Convert (record { number = a; price = c; lots = b }))
+    (cond (eqb kind 4) (Cancel (record { number = a; lots = b; why = whyBy c }))
+    (cond (eqb kind 5) (Slab (record { low = a; high = b }))
+    (cond (eqb kind 6) (Ref a)
+    (Close (record { price = a; base = b })))))))
 
-abbrev pub zeroThree : ℕ → ℕ → ℕ → Bool
-zeroThree b c d = eqb b 0 && eqb c 0 && eqb d 0
+-- the report, where the numbers are its record
+abbrev pub reportIf : Report → List ℕ → ReadRecord
+reportIf r numbers = cond (areSame (recordOf r) numbers) (ReadRecord.Told r) ReadRecord.Nothing
 
--- the report, where the numbers that its kind leaves unused are zero
-abbrev pub toldIf : Bool → ℕ → Said → ReadRecord
-toldIf unused time said = cond unused (ReadRecord.Told (record { time = time; said = said })) ReadRecord.Nothing
-
-abbrev pub endedFrom : ReadWhy → ℕ → ℕ → ℕ → ℕ → ReadRecord
-endedFrom (ReadWhy.Reason why) time a b d = toldIf (eqb d 0) time (Cancel (record { number = a; lots = b; why = why }))
-endedFrom ReadWhy.Nothing time a b d = ReadRecord.Nothing
-
-abbrev pub dealFrom : ℕ → ℕ → ℕ → ℕ → Deal
-dealFrom a b c d = record { buy = a; sell = b; lots = c; price = d }
-
--- the report that six numbers stand for, by their kind
+-- the report that six numbers stand for
 unfoldable pub reportFrom : ℕ → ℕ → ℕ → ℕ → ℕ → ℕ → ReadRecord
-reportFrom kind time a b c d =
-    cond (eqb kind 1) (toldIf (zeroThree b c d) time (Accept a))
-    (cond (eqb kind 2) (toldIf true time (Trade (dealFrom a b c d)))
-    (cond (eqb kind 3) (toldIf (eqb d 0) time (Convert (record { number = a; price = c; lots = b })))
-    (cond (eqb kind 4) (endedFrom (whyFrom c) time a b d)
-    (cond (eqb kind 5) (toldIf (zeroTwo c d) time (Slab (record { low = a; high = b })))
-    (cond (eqb kind 6) (toldIf (zeroThree b c d) time (Ref a))
-    (cond (eqb kind 7) (toldIf (zeroTwo c d) time (Close (record { price = a; base = b }))) ReadRecord.Nothing))))))
+reportFrom kind time a b c d = reportIf (record { time = time; said = saidBy kind a b c d }) (kind ∷ time ∷ a ∷ b ∷ c ∷ d ∷ [])
 
 -- the report that the first six of some numbers stand for
 abbrev pub reportIn : List ℕ → ReadRecord

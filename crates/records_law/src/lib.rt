@@ -2,16 +2,9 @@
 // It has no code and may use terms and tables. It promises: a report's record is read back as that report, and no other answer is right.
 
 use terms::Report;
-use terms::Why;
 
 // A report, or that some numbers are no report's.
 pub enum ReadRecord {
     Told(Report),
-    Nothing,
-}
-
-// A reason, or that a number is no reason's.
-pub enum ReadWhy {
-    Reason(Why),
     Nothing,
 }

@@ -5,3 +5,4 @@ pub mod Slots
 pub mod Whole
 pub mod Written
 pub mod Papers
+pub mod Same

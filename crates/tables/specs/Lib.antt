@@ -3,3 +3,4 @@ pub mod Records
 pub mod Put
 pub mod Tables
 pub mod Fields
+pub mod Same

@@ -1,4 +1,5 @@
 pub mod Logic
+pub mod Numbered
 pub mod Cascade
 pub mod Valid
 pub mod Multiples

@@ -1,5 +1,5 @@
 -- The code tests for the numbers of stages in the definition's order.
-use Rattle.records_law.proofs.Told.{numbered}
+use Rattle.terms.proofs.Numbered.{numbered}
 use Rattle.desk_runs.proofs.stage_from.Statement.{statement}
 use Rattle.desk_runs.proofs.stage_from.Tie as tie
 

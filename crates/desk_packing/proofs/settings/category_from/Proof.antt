@@ -1,5 +1,5 @@
 -- The code tests for the rows in the definition's order.
-use Rattle.records_law.proofs.Told.{numbered}
+use Rattle.terms.proofs.Numbered.{numbered}
 use Rattle.desk_packing.proofs.settings.category_from.Statement.{statement}
 use Rattle.desk_packing.proofs.settings.category_from.Tie as tie
 

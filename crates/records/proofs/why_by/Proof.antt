@@ -1,7 +1,7 @@
 -- The code tests for the numbers of reasons in the definition's order.
-use Rattle.records_law.proofs.Told.{numbered}
-use Rattle.records.proofs.why_from.Statement.{statement}
-use Rattle.records.proofs.why_from.Tie as tie
+use Rattle.terms.proofs.Numbered.{numbered}
+use Rattle.records.proofs.why_by.Statement.{statement}
+use Rattle.records.proofs.why_by.Tie as tie
 
 returns : tie.Need-returns
 returns c = search numbered depth 20
@@ -18,8 +18,5 @@ returns-4 c = search numbered depth 20
 returns-5 : tie.Need-returns-5
 returns-5 c = search numbered depth 20
 
-returns-6 : tie.Need-returns-6
-returns-6 c = search numbered depth 20
-
-pub why-from-spec : {M : Type 1} → statement M
-why-from-spec = tie.close (tie.spec returns returns-2 returns-3 returns-4 returns-5 returns-6)
+pub why-by-spec : {M : Type 1} → statement M
+why-by-spec = tie.close (tie.spec returns returns-2 returns-3 returns-4 returns-5)
