@@ -6,7 +6,7 @@ use lib.Dec.{leb, ltb}
 use lib.ListN.{length}
 use Rattle.terms.specs.declared.Event.{Event}
 use Rattle.terms.specs.declared.Act.{Act}
-use Rattle.terms.specs.declared.Kind.{Kind}
+use Rattle.terms.specs.declared.Entry.{Entry}
 use Rattle.terms.specs.declared.Life.{Life}
 use Rattle.terms.specs.declared.Life.the-variants.{AllDay, Ioc}
 use Rattle.terms.specs.declared.Band.{Band}
@@ -22,11 +22,7 @@ use Rattle.book_law.specs.Priority.{rests}
 use Rattle.state_law.specs.Now.{bandNow}
 use Rattle.state_law.specs.Day.{Day, own, steppedDay}
 use Rattle.soundness_law.specs.Sound.{soundBy}
-use Rattle.terms.specs.Carried.{limitOf, carries}
-
--- the limit passes a test; a market order has none
-abbrev pub ofLimit : (ℕ → Bool) → Kind → Bool
-ofLimit test kind = ofAny test (limitOf kind)
+use Rattle.terms.specs.Carried.{carries}
 
 -- 4: "a number of the event out of its range"
 unfoldable pub numbersRight : Act → Bool
@@ -44,9 +40,12 @@ ticksRight tick a = ofAny (onTick tick) (carries a .ticked)
 unfoldable pub bandRight : Band → Act → Bool
 bandRight band a = ofAny (inBand band) (carries a .limit)
 
+abbrev pub restsOn : Day → ℕ → Bool
+restsOn d number = rests number (d .buys) || rests number (d .sells)
+
 -- 9: "cancel: no such resting order"
 unfoldable pub finds : Day → Act → Bool
-finds d a = ofAny (λ number. rests number (d .buys) || rests number (d .sells)) (carries a .number)
+finds d a = ofAny (restsOn d) (carries a .number)
 
 abbrev pub lifeHasPlace : Sizes → Life → ℕ → Bool
 lifeHasPlace z AllDay held = ltb held (z .side)
@@ -56,9 +55,12 @@ lifeHasPlace z Ioc held = true
 unfoldable pub hasPlace : Sizes → Day → Act → Bool
 hasPlace z d a = ofAny (λ n. lifeHasPlace z (n .life) (length (own (n .side) d))) (carries a .entry)
 
+abbrev pub numberLeft : Sizes → ℕ → ℕ → Entry → Bool
+numberLeft z given trades n = ltb given (z .numbers) ⊓ leb trades (z .before)
+
 -- 11: "order, and 60,000 orders given or over 59,744 trades made"
 unfoldable pub hasNumbers : Sizes → ℕ → ℕ → Act → Bool
-hasNumbers z given trades a = ofAny (λ n. ltb given (z .numbers) ⊓ leb trades (z .before)) (carries a .entry)
+hasNumbers z given trades a = ofAny (numberLeft z given trades) (carries a .entry)
 
 -- rows 8 to 11; "bands are judged after the clock steps"
 abbrev pub bookRules : Sizes → Day → Event → List Rule
@@ -69,15 +71,20 @@ bookRules z d e =
     ∷ unless DayFull (hasNumbers z (d .session .live .given) (d .session .tape .trades) (e .act))
     ∷ []
 
+-- rows 6 to 11
+abbrev pub marketRules : Sizes → Day → Event → List Rule
+marketRules z d e =
+    unless OutOfHours (inHours (e .act) (e .time) (d .session .settings .length))
+    ∷ unless OffTick (ticksRight (d .session .settings .tick) (e .act))
+    ∷ bookRules z d e
+
 -- rows 3 to 11
 abbrev pub laterRules : Sizes → Day → Event → List Rule
 laterRules z d e =
     unless Closed (not (d .session .clock .closed))
     ∷ unless NumberRange (isTime (e .time) ⊓ numbersRight (e .act))
     ∷ unless TimeBack (leb (d .session .clock .time) (e .time))
-    ∷ unless OutOfHours (inHours (e .act) (e .time) (d .session .settings .length))
-    ∷ unless OffTick (ticksRight (d .session .settings .tick) (e .act))
-    ∷ bookRules z d e
+    ∷ marketRules z d e
 
 -- rows 2 to 11 of the table, in its order, by the given sizes
 abbrev pub rulesBy : Sizes → Day → Event → List Rule

@@ -1,5 +1,6 @@
 pub mod Logic
 pub mod Numbered
+pub mod Carried
 pub mod Cascade
 pub mod Valid
 pub mod Multiples

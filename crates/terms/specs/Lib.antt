@@ -6,5 +6,5 @@ pub mod Reports
 pub mod Refusals
 pub mod Settings
 pub mod Options
-pub mod code
 pub mod Carried
+pub mod code

@@ -4,6 +4,7 @@
 
 pub mod judge;
 pub mod numbers;
+pub mod parts;
 pub mod sizes;
 pub mod ticks;
 

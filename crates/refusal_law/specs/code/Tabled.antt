@@ -5,12 +5,10 @@ use mathlib.Core.List.{List}
 use lib.ListN.{length}
 use Rattle.terms.specs.declared.Side.{Side}
 use Rattle.terms.specs.declared.Side.the-variants.{Buy, Sell}
-use Rattle.terms.specs.declared.Act.{Act}
+use Rattle.terms.specs.declared.Entry.{Entry}
 use Rattle.terms.specs.Sizes.{slots, sizes}
 use Rattle.tables.specs.Lengths.{tableLength}
-use Rattle.terms.specs.Options.{ofAny}
 use Rattle.state_law.specs.declared.Session.{Session}
-use Rattle.terms.specs.Carried.{carries}
 use Rattle.refusal_law.specs.Refusals.{lifeHasPlace}
 
 -- the tables are long enough, and the live counts are no more than the slots of a table
@@ -25,6 +23,6 @@ abbrev pub liveOn : Side → Session → ℕ
 liveOn Buy s = s .live .buys
 liveOn Sell s = s .live .sells
 
--- row 10, judged by the live counts
-unfoldable pub placeFor : Session → Act → Bool
-placeFor s a = ofAny (λ n. lifeHasPlace sizes (n .life) (liveOn (n .side) s)) (carries a .entry)
+-- row 10 of an order, judged by the live counts
+abbrev pub placeOn : Session → Entry → Bool
+placeOn s n = lifeHasPlace sizes (n .life) (liveOn (n .side) s)

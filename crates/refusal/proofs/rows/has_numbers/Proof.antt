@@ -1,6 +1,6 @@
--- Act by act: each arm makes the test that row 11 makes of it.
-use Rattle.refusal_law.specs.Refusals.{hasNumbers}
+-- The test is made where an order comes in.
 use borrow.Author.Needs.{needs}
+use Rattle.terms.proofs.Carried.{of-part}
 use Rattle.terms.specs.Truth.{_⊓_}
 use Rattle.refusal.proofs.rows.has_numbers.Statement.{statement}
 use Rattle.refusal.proofs.rows.has_numbers.Tie as tie
@@ -11,46 +11,13 @@ enum-told c = search needs
 enum-told-2 : tie.Need-enum-told-2
 enum-told-2 c = search needs
 
-enum-told-3 : tie.Need-enum-told-3
-enum-told-3 c = search needs
-
-enum-told-4 : tie.Need-enum-told-4
-enum-told-4 c = search needs
-
-enum-told-5 : tie.Need-enum-told-5
-enum-told-5 c = search needs
-
 returns : tie.Need-returns
-unfolding hasNumbers _⊓_
-returns c = simp (c .enum-told .given .1)
+unfolding _⊓_
+returns c = search of-part
 
 returns-2 : tie.Need-returns-2
-unfolding hasNumbers
-returns-2 c = simp (c .enum-told2 .given .1)
-
-returns-3 : tie.Need-returns-3
-unfolding hasNumbers
-returns-3 c = simp (c .enum-told3 .given .1)
-
-returns-4 : tie.Need-returns-4
-unfolding hasNumbers
-returns-4 c = simp (c .enum-told4 .given .1)
-
-returns-5 : tie.Need-returns-5
-unfolding hasNumbers
-returns-5 c = simp (c .enum-told5 .given .1)
+unfolding _⊓_
+returns-2 c = search of-part
 
 pub has-numbers-spec : {M : Type 1} → statement M
-has-numbers-spec =
-    tie.close
-    (tie.spec
-    enum-told
-    enum-told-2
-    enum-told-3
-    enum-told-4
-    enum-told-5
-    returns
-    returns-2
-    returns-3
-    returns-4
-    returns-5)
+has-numbers-spec = tie.close (tie.spec enum-told enum-told-2 returns returns-2)
