@@ -9,11 +9,12 @@ use terms::Side;
 ghost use mathlib.Core.Path.{_≡_};
 ghost use Prim.Native.Nat.{_≤_};
 ghost use mathlib.Core.Bool.{cond};
+ghost use mathlib.Core.List.{[], _∷_};
 ghost use lib.Dec.{eqb};
 ghost use lib.ListN.{length};
 ghost use Rattle.terms.specs.Carried.{limitOf};
 ghost use Rattle.desk_packing_law.specs.Runs.{eventLength};
-ghost use Rattle.desk_packing_law.specs.Events.{sideNumber, kindNumber, lifeNumber, orZero, eventNumbers, entryBy, actBy, foundFrom, foundIn, eventFrom};
+ghost use Rattle.desk_packing_law.specs.Events.{sideNumber, kindNumber, lifeNumber, orZero, eventNumbers, entryBy, eventIf, foundFrom, foundIn, eventFrom};
 
 fn of_side(side: Side) -> u64
     ensures { λ r. ⌜ r ≡ sideNumber side ⌝ }
@@ -111,35 +112,18 @@ fn entry_by(side: Side, kind: u64, life: u64, lots: u64, price: u64) -> Entry
     }
 }
 
-// The act that some numbers make; a number that is no act's is taken for a clock event's.
-fn act_by(what: u64, kind: u64, life: u64, amount: u64, price: u64) -> Act
-    ensures { λ r. ⌜ r ≡ actBy what kind life amount price ⌝ }
+// The event, where the six numbers are its own.
+fn told_if(
+    act: Act,
+    time: u64,
+    what: u64,
+    kind: u64,
+    life: u64,
+    amount: u64,
+    price: u64,
+) -> FoundEvent
+    ensures { λ r. ⌜ r ≡ eventIf (record { time = time; act = act }) (time ∷ what ∷ kind ∷ life ∷ amount ∷ price ∷ []) ⌝ }
 {
-    if what == 1 {
-        let buy = entry_by(Side::Buy, kind, life, amount, price);
-        return Act::Enter(buy);
-    }
-    if what == 2 {
-        let sell = entry_by(Side::Sell, kind, life, amount, price);
-        return Act::Enter(sell);
-    }
-    if what == 3 {
-        return Act::Withdraw(amount);
-    }
-    if what == 4 {
-        return Act::Under(price);
-    }
-    if what == 6 {
-        return Act::Finish(price);
-    }
-    Act::Clock
-}
-
-// The event that six numbers stand for: they must be its own.
-fn found_from(time: u64, what: u64, kind: u64, life: u64, amount: u64, price: u64) -> FoundEvent
-    ensures { λ r. ⌜ r ≡ foundFrom time what kind life amount price ⌝ }
-{
-    let act = act_by(what, kind, life, amount, price);
     let e = Event {
         time: time,
         act: act,
@@ -150,6 +134,30 @@ fn found_from(time: u64, what: u64, kind: u64, life: u64, amount: u64, price: u6
         return FoundEvent::Told(e);
     }
     FoundEvent::Nothing
+}
+
+// The event that six numbers stand for, a row for each number of what it does; a number that is none of these is taken for a clock event's.
+fn found_from(time: u64, what: u64, kind: u64, life: u64, amount: u64, price: u64) -> FoundEvent
+    ensures { λ r. ⌜ r ≡ foundFrom time what kind life amount price ⌝ }
+{
+    if what == 1 {
+        let buy = entry_by(Side::Buy, kind, life, amount, price);
+        return told_if(Act::Enter(buy), time, what, kind, life, amount, price);
+    }
+    if what == 2 {
+        let sell = entry_by(Side::Sell, kind, life, amount, price);
+        return told_if(Act::Enter(sell), time, what, kind, life, amount, price);
+    }
+    if what == 3 {
+        return told_if(Act::Withdraw(amount), time, what, kind, life, amount, price);
+    }
+    if what == 4 {
+        return told_if(Act::Under(price), time, what, kind, life, amount, price);
+    }
+    if what == 6 {
+        return told_if(Act::Finish(price), time, what, kind, life, amount, price);
+    }
+    told_if(Act::Clock, time, what, kind, life, amount, price)
 }
 
 // The event that some numbers stand for, or that they stand for none.

@@ -5,7 +5,7 @@ use mathlib.Core.Bool.{Bool, true, false, not, _&&_}
 use mathlib.Core.List.{List, [], _∷_, _++_}
 use lib.Dec.{leb, eqb}
 use lib.ListN.{getD, replicate}
-use borrow.Author.Tests.{not-true, not-false, eq-eqb}
+use borrow.Author.Tests.{not-true, not-false}
 use Rattle.terms.specs.declared.Act.{Act}
 use Rattle.terms.specs.declared.Act.the-variants.{Enter, Clock}
 use Rattle.terms.specs.declared.Entry.{Entry}
@@ -17,6 +17,7 @@ use Rattle.terms.specs.Truth.{_⊓_}
 use Rattle.terms.specs.Carried.{limitOf}
 use Rattle.tables.specs.Same.{areSame}
 use Rattle.terms.proofs.Logic.{cond-true, cond-false}
+use Rattle.tables.proofs.Same.{five-same, same-first}
 use Rattle.rules_law.specs.declared.Reckoning.{Reckoning}
 use Rattle.rules_law.specs.declared.Tape.{Tape}
 use Rattle.state_law.specs.declared.Dial.{Dial}
@@ -27,7 +28,7 @@ use Rattle.desk_packing_law.specs.declared.FoundEvent.{FoundEvent}
 use Rattle.desk_packing_law.specs.Runs.{sessionLength, layout, settingsBase, clockBase, liveBase, reckoningBase, tapeBase, tenAt}
 use Rattle.desk_packing_law.specs.Settings.{settingsNumbers, settingsAt, isCategory, categoryFrom}
 use Rattle.desk_packing_law.specs.Sessions.{flag, liveNumbers, reckoningNumbers, tapeNumbers, clockFrom, liveFrom, reckoningFrom, tapeFrom, sessionNumbers, isSession, sessionOf, sessionFrom}
-use Rattle.desk_packing_law.specs.Events.{sideNumber, kindNumber, lifeNumber, orZero, actNumbers, eventNumbers, actBy, foundFrom, foundIn, greatest, eventFrom}
+use Rattle.desk_packing_law.specs.Events.{sideNumber, kindNumber, lifeNumber, orZero, actNumbers, eventNumbers, actBy, eventIf, foundFrom, foundIn, greatest, eventFrom}
 
 -- ---- a session, section by section
 
@@ -106,15 +107,6 @@ module _ (e : Event) where
   unfolding eventNumbers
   packs-act a h = rw h
 
--- so many tests, in the order in which code and definition join them
-joined : (p q r s t : Bool) → (p && q && r && s && t) ≡ (true && (p && (q && (r && (s && (t && true))))))
-joined false q r s t = refl
-joined true false r s t = refl
-joined true true false s t = refl
-joined true true true false t = refl
-joined true true true true false = refl
-joined true true true true true = refl
-
 -- what code compares, the time being the same: `own` are the numbers of the event that it made of these
 abbrev compared : List ℕ → ℕ → ℕ → ℕ → ℕ → ℕ → Bool
 compared own what kind life amount price =
@@ -125,23 +117,30 @@ module _ (time what kind life amount price : ℕ) (act : Act) where
   made = record { time = time; act = act }
 
   compared-right : compared (eventNumbers made) what kind life amount price ≡ areSame (eventNumbers made) (time ∷ what ∷ kind ∷ life ∷ amount ∷ price ∷ [])
-  unfolding eventNumbers areSame
+  unfolding eventNumbers
   compared-right =
       let own = actNumbers act in
-      rw (eq-eqb time time refl)
-      (joined (eqb (getD own 0 0) what) (eqb (getD own 1 0) kind) (eqb (getD own 2 0) life) (eqb (getD own 3 0) amount) (eqb (getD own 4 0) price))
+      five-same (getD own 0 0) (getD own 1 0) (getD own 2 0) (getD own 3 0) (getD own 4 0) what kind life amount price
+      ∙ same-first time own (what ∷ kind ∷ life ∷ amount ∷ price ∷ [])
 
-  module _ (own : List ℕ) (h : act ≡ actBy what kind life amount price) (k : own ≡ eventNumbers made) where
+  module _ (own : List ℕ) (k : own ≡ eventNumbers made) where
     tested : compared own what kind life amount price ≡ areSame (eventNumbers made) (time ∷ what ∷ kind ∷ life ∷ amount ∷ price ∷ [])
     tested = rw k compared-right
 
-    pub found-so : compared own what kind life amount price ≡ true → FoundEvent.Told (record { time = time; act = act }) ≡ foundFrom time what kind life amount price
-    unfolding foundFrom
-    found-so t = rw (← h) (sym (cond-true (areSame (eventNumbers made) (time ∷ what ∷ kind ∷ life ∷ amount ∷ price ∷ [])) _ _ (sym tested ∙ t)))
+    pub told-so : compared own what kind life amount price ≡ true → FoundEvent.Told (record { time = time; act = act }) ≡ eventIf (record { time = time; act = act }) (time ∷ what ∷ kind ∷ life ∷ amount ∷ price ∷ [])
+    told-so t = sym (cond-true (areSame (eventNumbers made) (time ∷ what ∷ kind ∷ life ∷ amount ∷ price ∷ [])) _ _ (sym tested ∙ t))
 
-    pub found-none : compared own what kind life amount price ≡ false → FoundEvent.Nothing ≡ foundFrom time what kind life amount price
-    unfolding foundFrom
-    found-none t = rw (← h) (sym (cond-false (areSame (eventNumbers made) (time ∷ what ∷ kind ∷ life ∷ amount ∷ price ∷ [])) _ _ (sym tested ∙ t)))
+    pub told-none : compared own what kind life amount price ≡ false → FoundEvent.Nothing ≡ eventIf (record { time = time; act = act }) (time ∷ what ∷ kind ∷ life ∷ amount ∷ price ∷ [])
+    told-none t = sym (cond-false (areSame (eventNumbers made) (time ∷ what ∷ kind ∷ life ∷ amount ∷ price ∷ [])) _ _ (sym tested ∙ t))
+
+  -- code makes an act of the numbers by what it does, and tells the event
+  pub by-what : (o : FoundEvent) → o ≡ eventIf (record { time = time; act = act }) (time ∷ what ∷ kind ∷ life ∷ amount ∷ price ∷ []) →
+      act ≡ actBy what kind life amount price → o ≡ foundFrom time what kind life amount price
+  unfolding foundFrom
+  by-what o h e = rw (← e) h
+
+pub enter-by : (n m : Entry) → n ≡ m → Enter n ≡ Enter m
+enter-by n m e = rw e
 
 module _ (ns : List ℕ) (found : FoundEvent) (h : found ≡ foundIn ns) where
   pub an-event : (e : Event) → found ≡ FoundEvent.Told e → e ≡ eventFrom ns

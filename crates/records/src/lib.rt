@@ -13,9 +13,10 @@ use terms::Said;
 use terms::Why;
 use terms::numbers;
 ghost use mathlib.Core.Path.{_≡_};
+ghost use mathlib.Core.List.{[], _∷_};
 ghost use lib.ListN.{take, drop};
 ghost use Rattle.tables.specs.Lengths.{recordLength};
-ghost use Rattle.records_law.specs.Back.{RecordRead, whyBy, saidBy, reportFrom};
+ghost use Rattle.records_law.specs.Back.{RecordRead, whyBy, reportIf, reportFrom};
 
 // The reason with this number; a number that is none's is taken for the last.
 fn why_by(n: u64) -> Why
@@ -36,60 +37,68 @@ fn why_by(n: u64) -> Why
     Why::DayEnd
 }
 
-// What a report of this kind says by its four fields; a number that is no kind's is taken for the last.
-fn said_by(kind: u64, a: u64, b: u64, c: u64, d: u64) -> Said
-    ensures { λ r. ⌜ r ≡ saidBy kind a b c d ⌝ }
+// The report, where the six numbers are its record.
+fn told_if(said: Said, kind: u64, time: u64, a: u64, b: u64, c: u64, d: u64) -> ReadRecord
+    ensures { λ r. ⌜ r ≡ reportIf (record { time = time; said = said }) (kind ∷ time ∷ a ∷ b ∷ c ∷ d ∷ []) ⌝ }
 {
-    if kind == 1 {
-        return Said::Accept(a);
-    }
-    if kind == 2 {
-        return Said::Trade(Deal {
-            buy: a,
-            sell: b,
-            lots: c,
-            price: d,
-        });
-    }
-    if kind == 3 {
-        return Said::Convert(Order {
-            number: a,
-            price: c,
-            lots: b,
-        });
-    }
-    if kind == 4 {
-        let why = why_by(c);
-        return Said::Cancel(Ended {
-            number: a,
-            lots: b,
-            why: why,
-        });
-    }
-    if kind == 5 {
-        return Said::Slab(Band { low: a, high: b });
-    }
-    if kind == 6 {
-        return Said::Ref(a);
-    }
-    Said::Close(Closing { price: a, base: b })
-}
-
-// The report that six numbers stand for: they must be its record.
-fn report_from(kind: u64, time: u64, a: u64, b: u64, c: u64, d: u64) -> ReadRecord
-    ensures { λ r. ⌜ r ≡ reportFrom kind time a b c d ⌝ }
-{
-    let said = said_by(kind, a, b, c, d);
     let own = tables::room::fields(said);
-    let of_kind = numbers::of_said(said) == kind;
-    let of_fields = (own.first == a) & (own.second == b) & (own.third == c) & (own.fourth == d);
-    if of_kind & of_fields {
+    let own_kind = numbers::of_said(said);
+    if (own_kind == kind)
+        & (own.first == a)
+        & (own.second == b)
+        & (own.third == c)
+        & (own.fourth == d)
+    {
         return ReadRecord::Told(Report {
             time: time,
             said: said,
         });
     }
     ReadRecord::Nothing
+}
+
+// The report that six numbers stand for, a row for each kind; a number that is no kind's is taken for the last.
+fn report_from(kind: u64, time: u64, a: u64, b: u64, c: u64, d: u64) -> ReadRecord
+    ensures { λ r. ⌜ r ≡ reportFrom kind time a b c d ⌝ }
+{
+    if kind == 1 {
+        return told_if(Said::Accept(a), kind, time, a, b, c, d);
+    }
+    if kind == 2 {
+        let deal = Deal {
+            buy: a,
+            sell: b,
+            lots: c,
+            price: d,
+        };
+        return told_if(Said::Trade(deal), kind, time, a, b, c, d);
+    }
+    if kind == 3 {
+        let order = Order {
+            number: a,
+            price: c,
+            lots: b,
+        };
+        return told_if(Said::Convert(order), kind, time, a, b, c, d);
+    }
+    if kind == 4 {
+        let why = why_by(c);
+        let ended = Ended {
+            number: a,
+            lots: b,
+            why: why,
+        };
+        return told_if(Said::Cancel(ended), kind, time, a, b, c, d);
+    }
+    if kind == 5 {
+        let band = Band { low: a, high: b };
+        return told_if(Said::Slab(band), kind, time, a, b, c, d);
+    }
+    if kind == 6 {
+        return told_if(Said::Ref(a), kind, time, a, b, c, d);
+    }
+    let closing = Closing { price: a, base: b };
+    told_if(Said::Close(closing), kind, time, a, b, c, d)
 }
 
 // The report whose record stands in a report room from `at` on.

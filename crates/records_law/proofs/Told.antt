@@ -8,7 +8,6 @@ use mathlib.Core.List.{List, [], _∷_, _++_}
 use lib.ListN.{length, getD, take, drop, length-append, length-take, length-drop}
 use lib.Seq.{drop-cons, take-at}
 use lib.Dec.{eqb}
-use borrow.Author.Tests.{eq-eqb}
 use Rattle.terms.specs.declared.Report.{Report}
 use Rattle.terms.specs.declared.Said.{Said}
 use Rattle.terms.specs.declared.Said.the-variants.{Accept, Trade, Convert, Cancel, Slab, Ref, Close}
@@ -21,7 +20,7 @@ use Rattle.tables.specs.Records.{fieldsOf, recordOf}
 use Rattle.tables.specs.Fields.{listed}
 use Rattle.tables.specs.Same.{areSame}
 use Rattle.terms.proofs.Logic.{by, cond-true, cond-false}
-use Rattle.tables.proofs.Same.{same-itself, same-runs}
+use Rattle.tables.proofs.Same.{same-itself, same-runs, five-same, same-second}
 use Rattle.tables.proofs.Records.{length-record}
 use Rattle.records_law.specs.declared.ReadRecord.{ReadRecord}
 use Rattle.records_law.specs.Back.{RecordRead, whyBy, saidBy, reportIf, reportFrom, reportIn}
@@ -137,31 +136,27 @@ told-front r l =
     let long : recordLength ≤ length (recordOf r ++ l) = rw length-append (omega arith) in
     sym (told-first (recordOf r ++ l) (ReadRecord.Told r) long (take-at (recordOf r) l recordLength n))
 
--- ---- what code compares: the kind and the four fields, the time being the same
+-- ---- what code compares: `n` is the kind and `own` the fields of what it made of the numbers, and the time is the same
 
--- so many tests, in the order in which code and definition join them
-joined : (k p q r s : Bool) → (k && (p && q && r && s)) ≡ (k && (true && (p && (q && (r && (s && true))))))
-joined false p q r s = refl
-joined true false q r s = refl
-joined true true false r s = refl
-joined true true true false s = refl
-joined true true true true false = refl
-joined true true true true true = refl
-
--- `n` is the kind and `own` the fields of what code made of the numbers
-module _ (kind time a b c d n : ℕ) (said : Said) (own : Four)
-    (e : said ≡ saidBy kind a b c d) (k : n ≡ kindOf said) (f : listed own ≡ fieldsOf said) where
+module _ (kind time a b c d n : ℕ) (said : Said) (own : Four) (k : n ≡ kindOf said) (f : listed own ≡ fieldsOf said) where
   abbrev compared : Bool
-  compared = eqb n kind && (eqb (own .first) a && eqb (own .second) b && eqb (own .third) c && eqb (own .fourth) d)
+  compared = eqb n kind && eqb (own .first) a && eqb (own .second) b && eqb (own .third) c && eqb (own .fourth) d
 
   compared-right : compared ≡ areSame (recordOf (reported time said)) (six kind time a b c d)
-  unfolding recordOf areSame
-  compared-right = rw (← k, ← f, eq-eqb time time refl) (joined (eqb n kind) (eqb (own .first) a) (eqb (own .second) b) (eqb (own .third) c) (eqb (own .fourth) d))
+  unfolding recordOf
+  compared-right = rw (← k, ← f) (five-same n (own .first) (own .second) (own .third) (own .fourth) kind a b c d ∙ same-second n kind time (listed own) (a ∷ b ∷ c ∷ d ∷ []))
 
-  pub told-so : compared ≡ true → ReadRecord.Told (record { time = time; said = said }) ≡ reportFrom kind time a b c d
-  unfolding reportFrom
-  told-so t = rw (← e) (sym (cond-true (areSame (recordOf (reported time said)) (six kind time a b c d)) _ _ (sym compared-right ∙ t)))
+  pub told-so : compared ≡ true → ReadRecord.Told (record { time = time; said = said }) ≡ reportIf (record { time = time; said = said }) (kind ∷ time ∷ a ∷ b ∷ c ∷ d ∷ [])
+  told-so t = sym (cond-true (areSame (recordOf (reported time said)) (six kind time a b c d)) _ _ (sym compared-right ∙ t))
 
-  pub told-none : compared ≡ false → ReadRecord.Nothing ≡ reportFrom kind time a b c d
-  unfolding reportFrom
-  told-none t = rw (← e) (sym (cond-false (areSame (recordOf (reported time said)) (six kind time a b c d)) _ _ (sym compared-right ∙ t)))
+  pub told-none : compared ≡ false → ReadRecord.Nothing ≡ reportIf (record { time = time; said = said }) (kind ∷ time ∷ a ∷ b ∷ c ∷ d ∷ [])
+  told-none t = sym (cond-false (areSame (recordOf (reported time said)) (six kind time a b c d)) _ _ (sym compared-right ∙ t))
+
+-- code makes what the report says by its kind, and tells it
+pub by-kind : (kind time a b c d : ℕ) (said : Said) (o : ReadRecord) → o ≡ reportIf (record { time = time; said = said }) (kind ∷ time ∷ a ∷ b ∷ c ∷ d ∷ []) →
+    said ≡ saidBy kind a b c d → o ≡ reportFrom kind time a b c d
+unfolding reportFrom
+by-kind kind time a b c d said o h e = rw (← e) h
+
+pub cancel-by : (a b : ℕ) (w v : Why) → w ≡ v → Cancel (record { number = a; lots = b; why = w }) ≡ Cancel (record { number = a; lots = b; why = v })
+cancel-by a b w v e = rw e

@@ -1,46 +1,74 @@
--- The event that the numbers make is told just where they are its own.
-use Rattle.desk_packing_law.proofs.Packs.{found-so, found-none}
+-- Act by act: each return tells the event of the act that the numbers make.
 use borrow.Author.Needs.{needs}
+use Rattle.terms.proofs.Numbered.{numbered}
+use Rattle.desk_packing_law.specs.Events.{actBy}
+use Rattle.desk_packing_law.proofs.Packs.{by-what, enter-by}
 use Rattle.desk_packing.proofs.events.found_from.Statement.{statement}
 use Rattle.desk_packing.proofs.events.found_from.Tie as tie
 
-act-by-requires : tie.Need-act-by-requires
-act-by-requires c κs = search needs
+entry-by-requires : tie.Need-entry-by-requires
+entry-by-requires c κs = search needs
 
-pack-requires : tie.Need-pack-requires
-pack-requires c κs = search needs
-
-array-read-order : tie.Need-array-read-order
-array-read-order c = search needs
-
-array-read-order-2 : tie.Need-array-read-order-2
-array-read-order-2 c = search needs
-
-array-read-order-3 : tie.Need-array-read-order-3
-array-read-order-3 c = search needs
-
-array-read-if1 : tie.Need-array-read-if1
-array-read-if1 c = search needs
-
-array-read-if1-2 : tie.Need-array-read-if1-2
-array-read-if1-2 c = search needs
+told-if-requires : tie.Need-told-if-requires
+told-if-requires c κs = search needs
 
 returns : tie.Need-returns
-returns c = search found-so
+unfolding actBy
+returns c = search (by-what, numbered, enter-by) depth 20
+
+entry-by-requires-2 : tie.Need-entry-by-requires-2
+entry-by-requires-2 c κs = search needs
+
+told-if-requires-2 : tie.Need-told-if-requires-2
+told-if-requires-2 c κs = search needs
 
 returns-2 : tie.Need-returns-2
-returns-2 c = search found-none
+unfolding actBy
+returns-2 c = search (by-what, numbered, enter-by) depth 20
+
+told-if-requires-3 : tie.Need-told-if-requires-3
+told-if-requires-3 c κs = search needs
+
+returns-3 : tie.Need-returns-3
+unfolding actBy
+returns-3 c = search (by-what, numbered) depth 20
+
+told-if-requires-4 : tie.Need-told-if-requires-4
+told-if-requires-4 c κs = search needs
+
+returns-4 : tie.Need-returns-4
+unfolding actBy
+returns-4 c = search (by-what, numbered) depth 20
+
+told-if-requires-5 : tie.Need-told-if-requires-5
+told-if-requires-5 c κs = search needs
+
+returns-5 : tie.Need-returns-5
+unfolding actBy
+returns-5 c = search (by-what, numbered) depth 20
+
+told-if-requires-6 : tie.Need-told-if-requires-6
+told-if-requires-6 c κs = search needs
+
+returns-6 : tie.Need-returns-6
+unfolding actBy
+returns-6 c = search (by-what, numbered) depth 20
 
 pub found-from-spec : {M : Type 1} → statement M
 found-from-spec =
     tie.close
     (tie.spec
-    act-by-requires
-    pack-requires
-    array-read-order
-    array-read-order-2
-    array-read-order-3
-    array-read-if1
-    array-read-if1-2
+    entry-by-requires
+    told-if-requires
     returns
-    returns-2)
+    entry-by-requires-2
+    told-if-requires-2
+    returns-2
+    told-if-requires-3
+    returns-3
+    told-if-requires-4
+    returns-4
+    told-if-requires-5
+    returns-5
+    told-if-requires-6
+    returns-6)
