@@ -5,7 +5,7 @@ use state_law::Session;
 use terms::Said;
 ghost use Rattle.tables.specs.Tables.{decode};
 ghost use Rattle.acts_law.specs.Acts.{finished};
-ghost use Rattle.acts_law.specs.code.Written.{Written, Finishing, Finished};
+ghost use Rattle.acts_law.specs.code.Written.{Written, Finishing, ClosedAs};
 
 // Writes the cancels of the buys, those of the sells and the close report, and answers the place behind them.
 fn tell_close(
@@ -38,7 +38,7 @@ pub fn finish(
     room: &mut [u64],
 ) -> usize
     requires { ⌜ Finishing s (now buys) (now sells) (now room) ⌝ }
-    ensures { λ r. ⌜ Finished s time settle (decode (s .live .buys) (now (buys .entry))) (decode (s .live .sells) (now (sells .entry))) (now (buys .entry)) (now (sells .entry)) (now (room .entry)) (now (buys .exit)) (now (sells .exit)) (now (room .exit)) r ⌝ }
+    ensures { λ r. ⌜ ClosedAs s time settle (decode (s .live .buys) (now (buys .entry))) (decode (s .live .sells) (now (sells .entry))) (now (buys .entry)) (now (sells .entry)) (now (room .entry)) (now (buys .exit)) (now (sells .exit)) (now (room .exit)) r ⌝ }
 {
     let next = tell_close(s, time, settle, buys, sells, room);
     tables::orders::clear_tail(buys, 0);

@@ -18,7 +18,7 @@ use Rattle.book_law.specs.Matching.{reportAt}
 use Rattle.book_law.proofs.Over.{length-removed}
 use Rattle.state_law.specs.declared.Session.{Session}
 use Rattle.acts_law.specs.Acts.{ended, cancelReports, closeReport, finished}
-use Rattle.acts_law.specs.code.Written.{Written, RestsIn, WithdrawnAs, Finishing, Finished}
+use Rattle.acts_law.specs.code.Written.{Written, RestsIn, WithdrawnAs, Finishing, ClosedAs}
 use Rattle.acts_law.proofs.Reports.{written-length, written-then, length-cancels}
 
 -- ---- a cancel
@@ -120,6 +120,6 @@ module _ {s : Session} (time : ℕ) {tb ts room : List ℕ} (g : Finishing s tb 
 -- where both tables are left without orders, the close is done
 pub all-finished : {s : Session} {time settle : ℕ} {buys sells : List Order} {tb ts room tb₁ ts₁ room₁ : List ℕ} {next : ℕ} →
     Written room 0 (finished s time settle buys sells .reports) room₁ next → tb₁ ≡ tableOf (decode 0 tb) tb → ts₁ ≡ tableOf (decode 0 ts) ts →
-    Finished s time settle buys sells tb ts room tb₁ ts₁ room₁ next
+    ClosedAs s time settle buys sells tb ts room tb₁ ts₁ room₁ next
 unfolding decode
 all-finished w e f = record { bought = e; sold = f; told = w }

@@ -51,7 +51,7 @@ use Rattle.refusal_law.proofs.Accepted.{Accepted, time-right, price-right, numb
 use Rattle.acts_law.specs.Acts.{Acted, only, slabMoved, slabReport, refMoved, refReport, clockReports, sweepIn, fateIn, entered, ended, dropped, sideOf, withdrawn, silent, cancelReports, closeReport, finished, andThen, stepped, timed, act}
 use Rattle.acts_law.specs.Small.{SmallReport, SmallReports}
 use Rattle.acts_law.proofs.Does.{sets-alike, enters, ends, event-by}
-use Rattle.acts_law.proofs.Stays.{Ready, fills-fit, Let, begins, lets}
+use Rattle.acts_law.proofs.Stays.{Ready, fills-fit, Let, begins-ready, lets}
 
 -- ---- one report
 
@@ -272,7 +272,7 @@ act-small d e k l =
     λ r a h. append-small (clockReports (d .session) (d′ .session)) (a .reports) (clock-small (d .session) (d′ .session) (r .parts)) h in
     event-by (λ (x : Acted). SmallReports (x .reports)) d e
     (λ n z. let r = lets d e k n z in clock (r .day) (enters d′ n) (entered-small d′ n r))
-    (λ number z. let r = begins d e k (ap (λ (a : Act). carries a .closes) z) in
+    (λ number z. let r = begins-ready d e k (ap (λ (a : Act). carries a .closes) z) in
     clock r (withdrawn d′ number) (dropped-small d′ number Asked (sideOf number (d .buys)) r (number-right d e k number (ap (λ (a : Act). carries a .number) z) .1)))
-    (λ s q. clock (begins d e k (sets-alike q .stays)) (silent s d) tt)
+    (λ s q. clock (begins-ready d e k (sets-alike q .stays)) (silent s d) tt)
     (λ settle z. finished-small d (e .time) settle (k .whole) (time-right d e k) (price-right d e k settle (ap (λ (a : Act). carries a .price) z) .1) l)

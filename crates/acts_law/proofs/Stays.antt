@@ -164,8 +164,8 @@ finished-stays d t settle h k m =
 
 module _ (d : Day) (e : Event) (k : Accepted d e) where
   -- what every event but the close starts from
-  pub begins : carries (e .act) .closes ≡ false → Ready (stepped d (e .time) .day)
-  begins c =
+  pub begins-ready : carries (e .act) .closes ≡ false → Ready (stepped d (e .time) .day)
+  begins-ready c =
       ready d (e .time) (k .whole) (leb-true (d .session .clock .time) (e .time) (k .forward)) (time-right d e k)
       (or-last (d .session .clock .closed) (ltb (e .time) (d .session .settings .length)) (λ z. in-day d e k c))
 
@@ -174,7 +174,7 @@ module _ (d : Day) (e : Event) (k : Accepted d e) where
   unfolding clockStep
   lets n z =
       let c : carries (e .act) ≡ carries (Enter n) = ap carries z in
-      let r : Ready (stepped d (e .time) .day) = begins (ap (λ (x : Carried). x .closes) c) in
+      let r : Ready (stepped d (e .time) .day) = begins-ready (ap (λ (x : Carried). x .closes) c) in
       let few = numbers-left d e k n (ap (λ (x : Carried). x .entry) c) in
       record {
         day = r;
@@ -195,6 +195,6 @@ module _ (d : Day) (e : Event) (k : Accepted d e) where
   act-stays =
       event-by (λ (x : Acted). sound (x .day) ≡ true) d e
       (λ n z. entered-stays (stepped d (e .time) .day) n (lets n z))
-      (λ number z. dropped-stays (stepped d (e .time) .day) number Asked (sideOf number (d .buys)) (begins (ap (λ (a : Act). carries a .closes) z)))
-      (λ s q. silent-stays (stepped d (e .time) .day) (e .act) s q (λ p c. price-right d e k p c .1) (begins (sets-alike q .stays)))
+      (λ number z. dropped-stays (stepped d (e .time) .day) number Asked (sideOf number (d .buys)) (begins-ready (ap (λ (a : Act). carries a .closes) z)))
+      (λ s q. silent-stays (stepped d (e .time) .day) (e .act) s q (λ p c. price-right d e k p c .1) (begins-ready (sets-alike q .stays)))
       (λ settle z. finished-stays d (e .time) settle (k .whole) (leb-true (d .session .clock .time) (e .time) (k .forward)) (time-right d e k))

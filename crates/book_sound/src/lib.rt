@@ -14,7 +14,7 @@ ghost use Rattle.terms.specs.Sizes.{numbersMost};
 ghost use Rattle.tables.specs.Tables.{decode};
 ghost use Rattle.book_sound_law.specs.Sound.{uncrossed, bookSound};
 ghost use Rattle.terms.specs.code.Ticks.{scale, factorOf, Dividing};
-ghost use Rattle.book_sound_law.specs.code.Pass.{Room, limitsOf};
+ghost use Rattle.book_sound_law.specs.code.Pass.{TableFor, limitsOf};
 
 fn held_to(given: u64, tick: u64, factor: u64, band: Band) -> Limits
     requires { ⌜ factor ≡ factorOf tick ⌝ }
@@ -31,7 +31,7 @@ fn held_to(given: u64, tick: u64, factor: u64, band: Band) -> Limits
 
 // Whether the best buy is below the best sell, where there are both.
 fn best_apart(buys: &[u64], nbuys: usize, sells: &[u64], nsells: usize) -> bool
-    requires { ⌜ Room nbuys (now buys) × Room nsells (now sells) ⌝ }
+    requires { ⌜ TableFor nbuys (now buys) × TableFor nsells (now sells) ⌝ }
     ensures { λ r. ⌜ r ≡ uncrossed (decode nbuys (now (buys .entry))) (decode nsells (now (sells .entry))) ⌝ }
 {
     if nbuys == 0 {
@@ -56,7 +56,7 @@ pub fn book_sound(
     factor: u64,
     band: Band,
 ) -> bool
-    requires { ⌜ Room nbuys (now buys) × Room nsells (now sells) × (given ≤ numbersMost) × Dividing tick factor × (band .high < scale) ⌝ }
+    requires { ⌜ TableFor nbuys (now buys) × TableFor nsells (now sells) × (given ≤ numbersMost) × Dividing tick factor × (band .high < scale) ⌝ }
     ensures { λ r. ⌜ r ≡ bookSound given tick band (decode nbuys (now (buys .entry))) (decode nsells (now (sells .entry))) ⌝ }
 {
     if !best_apart(buys, nbuys, sells, nsells) {

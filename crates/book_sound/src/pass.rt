@@ -12,7 +12,7 @@ ghost use Prim.Native.Nat.{_+_, _≤_};
 ghost use lib.ListN.{length, replicate};
 ghost use Rattle.tables.specs.Tables.{decode};
 ghost use Rattle.book_sound_law.specs.code.Marks.{wordsTo, marked};
-ghost use Rattle.book_sound_law.specs.code.Pass.{Room, LimitsFit, Keyed, fine, keyOf, lowBits, passOf, sidesBy, leastMask, sidesSound};
+ghost use Rattle.book_sound_law.specs.code.Pass.{TableFor, LimitsFit, Keyed, fine, keyOf, lowBits, passOf, sidesBy, leastMask, sidesSound};
 
 // Every order number is below it.
 const KEY_STEP: u64 = 65_536;
@@ -44,7 +44,7 @@ fn key(side: Side, l: Limits, o: Order) -> u64
 
 // The pass over a side: each order is fine, its key is above the last one, and its number's mark, which is then set, was free.
 fn side_by(t: &[u64], n: usize, side: Side, l: Limits, mask: u64, map: &mut [u64]) -> bool
-    requires { ⌜ Room n (now t) × LimitsFit l × (wordsTo mask ≤ length (now map)) ⌝ }
+    requires { ⌜ TableFor n (now t) × LimitsFit l × (wordsTo mask ≤ length (now map)) ⌝ }
     ensures { λ r. ⌜ (r ≡ passOf side l mask 0 (now (map .entry)) (decode n (now (t .entry))))
         × (now (map .exit) ≡ cond r (marked (now (map .entry)) (lowBits mask (decode n (now (t .entry))))) (now (map .exit))) ⌝ }
 {
@@ -79,7 +79,7 @@ fn sides_by(
     mask: u64,
     map: &mut [u64],
 ) -> bool
-    requires { ⌜ Room nbuys (now buys) × Room nsells (now sells) × LimitsFit l × (wordsTo mask ≤ length (now map)) × (now map ≡ replicate (length (now map)) 0) ⌝ }
+    requires { ⌜ TableFor nbuys (now buys) × TableFor nsells (now sells) × LimitsFit l × (wordsTo mask ≤ length (now map)) × (now map ≡ replicate (length (now map)) 0) ⌝ }
     ensures { λ r. ⌜ r ≡ sidesBy mask l (decode nbuys (now (buys .entry))) (decode nsells (now (sells .entry))) ⌝ }
 {
     if !side_by(buys, nbuys, Side::Buy, l, mask, map) {
@@ -90,7 +90,7 @@ fn sides_by(
 
 // The passes with marks of 10 bits of a number.
 fn sides_tiny(buys: &[u64], nbuys: usize, sells: &[u64], nsells: usize, l: Limits) -> bool
-    requires { ⌜ Room nbuys (now buys) × Room nsells (now sells) × LimitsFit l ⌝ }
+    requires { ⌜ TableFor nbuys (now buys) × TableFor nsells (now sells) × LimitsFit l ⌝ }
     ensures { λ r. ⌜ r ≡ sidesBy 1023 l (decode nbuys (now (buys .entry))) (decode nsells (now (sells .entry))) ⌝ }
 {
     let mut map = [0u64; 16];
@@ -99,7 +99,7 @@ fn sides_tiny(buys: &[u64], nbuys: usize, sells: &[u64], nsells: usize, l: Limit
 
 // With 12 bits.
 fn sides_small(buys: &[u64], nbuys: usize, sells: &[u64], nsells: usize, l: Limits) -> bool
-    requires { ⌜ Room nbuys (now buys) × Room nsells (now sells) × LimitsFit l ⌝ }
+    requires { ⌜ TableFor nbuys (now buys) × TableFor nsells (now sells) × LimitsFit l ⌝ }
     ensures { λ r. ⌜ r ≡ sidesBy 4095 l (decode nbuys (now (buys .entry))) (decode nsells (now (sells .entry))) ⌝ }
 {
     let mut map = [0u64; 64];
@@ -108,7 +108,7 @@ fn sides_small(buys: &[u64], nbuys: usize, sells: &[u64], nsells: usize, l: Limi
 
 // With 14 bits.
 fn sides_medium(buys: &[u64], nbuys: usize, sells: &[u64], nsells: usize, l: Limits) -> bool
-    requires { ⌜ Room nbuys (now buys) × Room nsells (now sells) × LimitsFit l ⌝ }
+    requires { ⌜ TableFor nbuys (now buys) × TableFor nsells (now sells) × LimitsFit l ⌝ }
     ensures { λ r. ⌜ r ≡ sidesBy 16383 l (decode nbuys (now (buys .entry))) (decode nsells (now (sells .entry))) ⌝ }
 {
     let mut map = [0u64; 256];
@@ -117,7 +117,7 @@ fn sides_medium(buys: &[u64], nbuys: usize, sells: &[u64], nsells: usize, l: Lim
 
 // With 16 bits, which tell any two order numbers apart.
 fn sides_large(buys: &[u64], nbuys: usize, sells: &[u64], nsells: usize, l: Limits) -> bool
-    requires { ⌜ Room nbuys (now buys) × Room nsells (now sells) × LimitsFit l ⌝ }
+    requires { ⌜ TableFor nbuys (now buys) × TableFor nsells (now sells) × LimitsFit l ⌝ }
     ensures { λ r. ⌜ r ≡ sidesBy 65535 l (decode nbuys (now (buys .entry))) (decode nsells (now (sells .entry))) ⌝ }
 {
     let mut map = [0u64; 1024];
@@ -126,7 +126,7 @@ fn sides_large(buys: &[u64], nbuys: usize, sells: &[u64], nsells: usize, l: Limi
 
 // The passes with the smallest map that serves, since it is cleared soonest: the numbers are low, or so few that equal marks are rare.
 fn sides_least(buys: &[u64], nbuys: usize, sells: &[u64], nsells: usize, l: Limits) -> bool
-    requires { ⌜ Room nbuys (now buys) × Room nsells (now sells) × LimitsFit l ⌝ }
+    requires { ⌜ TableFor nbuys (now buys) × TableFor nsells (now sells) × LimitsFit l ⌝ }
     ensures { λ r. ⌜ r ≡ sidesBy (leastMask (l .given) (nbuys + nsells)) l (decode nbuys (now (buys .entry))) (decode nsells (now (sells .entry))) ⌝ }
 {
     let live = nbuys + nsells;
@@ -144,7 +144,7 @@ fn sides_least(buys: &[u64], nbuys: usize, sells: &[u64], nsells: usize, l: Limi
 
 // Different marks belong to different numbers, but so may equal ones: where a small map finds two equal marks, the largest map decides.
 pub fn sides(buys: &[u64], nbuys: usize, sells: &[u64], nsells: usize, l: Limits) -> bool
-    requires { ⌜ Room nbuys (now buys) × Room nsells (now sells) × LimitsFit l ⌝ }
+    requires { ⌜ TableFor nbuys (now buys) × TableFor nsells (now sells) × LimitsFit l ⌝ }
     ensures { λ r. ⌜ r ≡ sidesSound l (decode nbuys (now (buys .entry))) (decode nsells (now (sells .entry))) ⌝ }
 {
     if sides_least(buys, nbuys, sells, nsells, l) {

@@ -19,7 +19,7 @@ use Rattle.book_sound_law.specs.declared.Limits.{Limits}
 use Rattle.book_sound_law.specs.Sound.{eachSound, distinct, uncrossed, bookSound}
 use Rattle.book_sound_law.specs.code.Marks.{apart}
 use Rattle.terms.specs.code.Ticks.{scale, Dividing}
-use Rattle.book_sound_law.specs.code.Pass.{Room, limitsOf, LimitsFit, sidesSound}
+use Rattle.book_sound_law.specs.code.Pass.{TableFor, limitsOf, LimitsFit, sidesSound}
 use Rattle.book_sound_law.proofs.Facts.{book-fits, book-made}
 use Rattle.book_sound_law.proofs.Turns.{refuted}
 
@@ -80,7 +80,7 @@ limits-fit given tick factor band g d h l e =
     rw e
     (record { given-small = g; dividing = record { tick-some = d .tick-some; tick-small = d .tick-small; factor-is = refl }; high-small = h })
 
-pub tables-are : (given tick : ℕ) (band : Band) (nbuys nsells : ℕ) (t u : List ℕ) → Room nbuys t → Room nsells u → (v : Bool) →
+pub tables-are : (given tick : ℕ) (band : Band) (nbuys nsells : ℕ) (t u : List ℕ) → TableFor nbuys t → TableFor nsells u → (v : Bool) →
     v ≡ uncrossed (decode nbuys t) (decode nsells u) → not v ≡ false → (l : Limits) → l ≡ limitsOf given tick band → (r : Bool) →
     r ≡ sidesSound l (decode nbuys t) (decode nsells u) → r ≡ bookSound given tick band (decode nbuys t) (decode nsells u)
 tables-are given tick band nbuys nsells t u a b v e f l d r g =

@@ -11,6 +11,6 @@ pub record Counted (c : Counts) : Type 0 where
   pub other : c .other ≤ slots
 
 -- both tables are long enough
-pub record Lent (own other : List ℕ) : Type 0 where
+pub record SidesLent (own other : List ℕ) : Type 0 where
   pub own-long : tableLength ≤ length own
   pub other-long : tableLength ≤ length other

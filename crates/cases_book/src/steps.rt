@@ -18,7 +18,7 @@ ghost use lib.ListN.{length};
 ghost use Rattle.terms.specs.Sizes.{slots};
 ghost use Rattle.tables.specs.Lengths.{tableLength};
 ghost use Rattle.rules_law.specs.Reference.{RangeFits};
-ghost use Rattle.cases_book.specs.Lent.{Counted, Lent};
+ghost use Rattle.cases_book.specs.Lent.{Counted, SidesLent};
 
 // A table that is longer than it must be, and a room for a report of every counter order.
 pub const LONG: usize = lengths::TABLE + 132;
@@ -180,7 +180,7 @@ fn show_named<'a>(side: Side, own: &'a [u64], other: &'a [u64], c: Counts) {
 
 // Does what a line asks that names a side, given that side's table and the other one.
 fn act(own: &mut [u64], other: &mut [u64], c: Counts, side: Side, w: [u64; 9]) -> Counts
-    requires { ⌜ Counted c × Lent (now own) (now other) ⌝ }
+    requires { ⌜ Counted c × SidesLent (now own) (now other) ⌝ }
     ensures { λ r. ⌜ Counted r ⌝ }
 {
     let n = c.own;
@@ -204,7 +204,7 @@ fn act(own: &mut [u64], other: &mut [u64], c: Counts, side: Side, w: [u64; 9]) -
 
 // The same, given the buys and the sells.
 fn turn(buys: &mut [u64], sells: &mut [u64], c: Counts, w: [u64; 9]) -> Counts
-    requires { ⌜ Counted c × Lent (now buys) (now sells) ⌝ }
+    requires { ⌜ Counted c × SidesLent (now buys) (now sells) ⌝ }
     ensures { λ r. ⌜ Counted r ⌝ }
 {
     let side = side_of(w[1]);
@@ -226,7 +226,7 @@ fn turned(c: Counts) -> Counts
 
 // Takes line after line, to the end of the input.
 pub fn run(text: &[u8], buys: &mut [u64], sells: &mut [u64])
-    requires { ⌜ Lent (now buys) (now sells) ⌝ }
+    requires { ⌜ SidesLent (now buys) (now sells) ⌝ }
 {
     let mut c = Counts { own: 0, other: 0 };
     let mut at: usize = 0;

@@ -24,7 +24,7 @@ use Rattle.soundness_law.proofs.Clocked.{steady}
 use Rattle.soundness_law.proofs.Border.{sound-session}
 use Rattle.refusal_law.specs.Refusals.{finds}
 use Rattle.acts_law.specs.Acts.{Acted, clockReports, act, dropped, finished}
-use Rattle.acts_law.specs.code.Written.{Written, Finishing, Finished}
+use Rattle.acts_law.specs.code.Written.{Written, Finishing, ClosedAs}
 use Rattle.acts_law.specs.declared.Withdrawn.{Withdrawn}
 use Rattle.acts_law.proofs.Reports.{written-then}
 use Rattle.engine_law.specs.declared.Answer.{Answer}
@@ -127,7 +127,7 @@ module _ {s : Session} {t settle : ℕ} {buys sells room : List ℕ} where
       }
 
   pub closed-done : {buys′ sells′ room′ : List ℕ} {at : ℕ} {s′ : Session} {a : Applied} →
-      Finished s t settle (decode (s .live .buys) buys) (decode (s .live .sells) sells) buys sells room buys′ sells′ room′ at →
+      ClosedAs s t settle (decode (s .live .buys) buys) (decode (s .live .sells) sells) buys sells room buys′ sells′ room′ at →
       s′ ≡ setClosed (setTime s t) true → a ≡ doneAt s′ 0 0 at →
       ActedAs (act (dayIn s buys sells) (eventAt t (Finish settle))) buys sells room buys′ sells′ room′ a
   unfolding act finished

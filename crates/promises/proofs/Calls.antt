@@ -28,7 +28,7 @@ use Rattle.lines_writing_law.specs.Lines.{reportFigures}
 use Rattle.lines_writing_law.specs.Writes.{lineVerdict}
 use Rattle.lines_writing_law.proofs.Back.{written-code}
 use Rattle.promises.specs.Lots.{asked}
-use Rattle.promises.specs.Runs.{dayHeld, hasRoom, begins, CallsKeepLots, CallsKeepOrders, CallsTradeWithin, CallsStaySound, CallsNeverTwo, CallsGiveInOrder, CallsGoForward, CallsWritable, CallsWritten, CallsWiden, CallsWidenOnce, SameRuns, CallsClockLine}
+use Rattle.promises.specs.Runs.{dayHeld, hasRoom, firstDay, CallsKeepLots, CallsKeepOrders, CallsTradeWithin, CallsStaySound, CallsNeverTwo, CallsGiveInOrder, CallsGoForward, CallsWritable, CallsWritten, CallsWiden, CallsWidenOnce, SameRuns, CallsClockLine}
 use Rattle.promises.specs.ClockLine.{clockAt, plain}
 use Rattle.promises.specs.Standings.{AsSaid, CallsStand}
 use Rattle.promises.proofs.Runs.{run-asked}
@@ -51,7 +51,7 @@ calls-keep-lots g es rs h r id =
 pub calls-keep-orders : CallsKeepOrders
 calls-keep-orders g before later rs own rest h t n k =
     let e : Event = eventAt t (Enter n) in
-    let d : Day = begins g in
+    let d : Day = firstDay g in
     let x : Cut d before later e rs own rest h = cut-from g before later e rs own rest h k in
     let id : ℕ = after d before .session .live .given + 1 in
     record {
@@ -65,7 +65,7 @@ calls-keep-orders g before later rs own rest h t n k =
 pub calls-give-in-order : CallsGiveInOrder
 calls-give-in-order g es rs h r =
     let f = run-from g es rs h r in
-    ap accepts (f .reports) ∙ counts-from (begins g) es (none-given g) ∙ ap (λ (d : Day). numbersTo (d .session .live .given)) (sym (f .day))
+    ap accepts (f .reports) ∙ counts-from (firstDay g) es (none-given g) ∙ ap (λ (d : Day). numbersTo (d .session .live .given)) (sym (f .day))
 
 -- ---- soundness
 
@@ -132,7 +132,7 @@ same-runs g es rs rs′ h h′ r r′ =
 
 pub calls-clock-line : CallsClockLine
 calls-clock-line g before later t rs own rest rs′ h h′ k r f =
-    let x : Cut (begins g) before later (clockAt t) rs own rest h = cut-from g before later (clockAt t) rs own rest h k in
+    let x : Cut (firstDay g) before later (clockAt t) rs own rest h = cut-from g before later (clockAt t) rs own rest h k in
     ap plain (x .whole .reports)
-    ∙ clock-unheard (begins g) before later t (x .accepted) f
+    ∙ clock-unheard (firstDay g) before later t (x .accepted) f
     ∙ sym (ap plain (run-from g (before ++ later) rs′ h′ r .reports))

@@ -27,7 +27,7 @@ use Rattle.soundness_law.proofs.Days.{refused-unsound, fixed-unsound}
 use Rattle.refusal_law.proofs.Accepted.{unsound-refused}
 use Rattle.engine_law.specs.Outcome.{told}
 use Rattle.engine_law.proofs.Kept.{unsound-nothing}
-use Rattle.promises.specs.Runs.{Held, dayHeld, openedOn, Call, hasRoom, Calling, RunFrom, numberOpened, CutAt, begins, RunsAsDefined, CallsAfterRefusal}
+use Rattle.promises.specs.Runs.{Held, dayHeld, openedOn, Call, hasRoom, Calling, RunFrom, numberOpened, CutAt, firstDay, RunsAsDefined, CallsAfterRefusal}
 use Rattle.promises.specs.Runs.Calling.{ends, calls}
 use Rattle.promises.proofs.Kept.{emptyDay}
 use Rattle.promises.proofs.Tables.{verdictOn, short-verdict, judged-verdict, refused-call, number-by, Follows, run-follows, Cut, cut}
@@ -44,21 +44,21 @@ by-opening P g f h = go (settingsVerdict g) refl
     go (Refused r) e = h r e
 
 -- no order is live after an opening, whatever lies in the tables
-opening-held : (g : Settings) (buys sells : List ℕ) → dayHeld (openedOn (openingOf g) buys sells) ≡ begins g
+opening-held : (g : Settings) (buys sells : List ℕ) → dayHeld (openedOn (openingOf g) buys sells) ≡ firstDay g
 unfolding openedSession fixedSession decode
 opening-held g buys sells = by-opening (λ (o : Opened). dayHeld (openedOn o buys sells) ≡ emptyDay (o .session)) g (λ e. refl) (λ r e. refl)
 
-pub none-live : (g : Settings) → (begins g .session .live .buys ≡ 0) × (begins g .session .live .sells ≡ 0)
+pub none-live : (g : Settings) → (firstDay g .session .live .buys ≡ 0) × (firstDay g .session .live .sells ≡ 0)
 unfolding openedSession fixedSession
 none-live g = by-opening (λ (o : Opened). (o .session .live .buys ≡ 0) × (o .session .live .sells ≡ 0)) g (λ e. (refl, refl)) (λ r e. (refl, refl))
 
 -- no number has been given
-pub none-given : (g : Settings) → begins g .session .live .given ≡ 0
+pub none-given : (g : Settings) → firstDay g .session .live .given ≡ 0
 unfolding fixedSession
 none-given g = by-opening (λ (o : Opened). o .session .live .given ≡ 0) g (λ e. opened-begun g .none-given) (λ r e. refl)
 
 -- an opening that answers 0 begins the day of its settings, which no refusal applies to
-pub opened-fine : (g : Settings) → codeOf (openingOf g .verdict) ≡ 0 → (settingsVerdict g ≡ Fine) × (begins g ≡ opened g)
+pub opened-fine : (g : Settings) → codeOf (openingOf g .verdict) ≡ 0 → (settingsVerdict g ≡ Fine) × (firstDay g ≡ opened g)
 opened-fine g =
     by-opening (λ (o : Opened). codeOf (o .verdict) ≡ 0 → (settingsVerdict g ≡ Fine) × (emptyDay (o .session) ≡ opened g)) g
     (λ e z. (e, refl))
@@ -74,22 +74,22 @@ module _ {g : Settings} {es : List Event} {rs : List Report} {h : Held} (r : Run
   abbrev pub start : Held
   start = openedOn (r .opening) (r .buys) (r .sells)
 
-  pub start-held : dayHeld start ≡ begins g
+  pub start-held : dayHeld start ≡ firstDay g
   start-held = ap (λ (o : Opened). dayHeld (openedOn o (r .buys) (r .sells))) (r .contract) ∙ opening-held g (r .buys) (r .sells)
 
   pub number-opened : numberOpened r ≡ codeOf (openingOf g .verdict)
   number-opened = ap (λ (o : Opened). codeOf (o .verdict)) (r .contract)
 
-pub run-from : (g : Settings) (es : List Event) (rs : List Report) (h : Held) → RunFrom g es rs h → Follows (begins g) es rs h
+pub run-from : (g : Settings) (es : List Event) (rs : List Report) (h : Held) → RunFrom g es rs h → Follows (firstDay g) es rs h
 run-from g es rs h r = subst (λ d. Follows d es rs h) (start-held r) (run-follows (start r) es rs h (r .run))
 
 pub runs-as-defined : RunsAsDefined
 runs-as-defined g es rs h r = let f = run-from g es rs h r in (f .reports, f .day)
 
 pub cut-from : (g : Settings) (before later : List Event) (e : Event) (rs own rest : List Report) (h : Held) →
-    CutAt g before e later rs own rest h → Cut (begins g) before later e rs own rest h
+    CutAt g before e later rs own rest h → Cut (firstDay g) before later e rs own rest h
 cut-from g before later e rs own rest h x =
-    cut (begins g) before later e rs own rest (x .held) (x .left) h (x .call) (run-from g before rs (x .held) (x .until)) (x .called)
+    cut (firstDay g) before later e rs own rest (x .held) (x .left) h (x .call) (run-from g before rs (x .held) (x .until)) (x .called)
     (x .following) (x .handed) (x .accepted)
 
 -- ---- a day that is not sound reports nothing

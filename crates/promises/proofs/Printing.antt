@@ -46,7 +46,7 @@ use Rattle.feed_law.proofs.Going.{fed-by}
 use Rattle.feed_law.proofs.Pieces.{pieces, end-prints-rest}
 use Rattle.feed_law.proofs.Starts.{end-world}
 use Rattle.promises.specs.Runs.{Held}
-use Rattle.promises.specs.Printed.{Holding, atStart, dayOn, Piece, Handed, Feeding, toPrint, FeedingPrints, EndPrints, ProgramPrints}
+use Rattle.promises.specs.Printed.{Holding, atStart, dayOn, Piece, PieceFed, Feeding, toPrint, FeedingPrints, EndPrints, ProgramPrints}
 use Rattle.promises.specs.Printed.Feeding.{ends, feeds}
 use Rattle.promises.proofs.Tables.{Left, outcome-day}
 
@@ -213,7 +213,7 @@ module _ (run : Run) (buys sells room bytes out : List ℕ) (v : feedVerdict buy
   fine-ended = ap (endBehind calls (length out) (length bytes)) fine-fed
 
 -- what a call printed and left, given what the bytes came to
-module _ (of : Feed) (h h′ : Holding) (p : Piece) (text : List ℕ) (k : Handed of h p text h′) (f : Fed Lent)
+module _ (of : Feed) (h h′ : Holding) (p : Piece) (text : List ℕ) (k : PieceFed of h p text h′) (f : Fed Lent)
     (is : of (h .run) (h .buys) (h .sells) (p .room) (h .kept ++ p .bytes) (p .out) ≡ f) (long : Long (f .world)) where
   as-fed : TakenAs f (p .out) (h′ .buys) (h′ .sells) (k .room) (k .out) (k .answered)
   as-fed = subst (λ (x : Fed Lent). TakenAs x (p .out) (h′ .buys) (h′ .sells) (k .room) (k .out) (k .answered)) is (k .contract .taken)
@@ -241,7 +241,7 @@ beforehand h p v more =
     same-printed (length ((h .kept ++ p .bytes) ++ more)) (h .run .stage) l ((h .kept ++ p .bytes) ++ more) long
     ∙ ap (printedFrom days (h .run .stage) (dayOn h)) (append-assoc (h .kept) (p .bytes) more)
 
-handed-prints : (h h′ : Holding) (p : Piece) (text : List ℕ) → Handed fedOf h p text h′ → (more : List ℕ) → toPrint h (p .bytes ++ more) ≡ text ++ toPrint h′ more
+handed-prints : (h h′ : Holding) (p : Piece) (text : List ℕ) → PieceFed fedOf h p text h′ → (more : List ℕ) → toPrint h (p .bytes ++ more) ≡ text ++ toPrint h′ more
 handed-prints h h′ p text k more =
     let bytes : List ℕ = h .kept ++ p .bytes in
     let l : Lent = lentOf (h .run .session) (h .buys) (h .sells) (p .room) in

@@ -39,7 +39,7 @@ pub record Piece : Type 0 where
 
 -- the call is handed h and a piece, prints `text` and leaves h′; nothing is known of it but its contract. It is `feed::lines::take_lines`
 -- with `fedOf`, and `feed::lines::take_end` with `endedOf`
-pub record Handed (of : Feed) (h : Holding) (p : Piece) (text : List ℕ) (h′ : Holding) : Type 0 where
+pub record PieceFed (of : Feed) (h : Holding) (p : Piece) (text : List ℕ) (h′ : Holding) : Type 0 where
   pub answered : Taken
   pub room : List ℕ
   pub out : List ℕ
@@ -53,7 +53,7 @@ pub record Handed (of : Feed) (h : Holding) (p : Piece) (text : List ℕ) (h′ 
 
 pub data Feeding : Holding → List ℕ → List ℕ → Holding → Type 0 where
   ends : (h : Holding) → Feeding h [] [] h
-  feeds : (h h′ h″ : Holding) (p : Piece) (input text more : List ℕ) → Handed fedOf h p text h′ → Feeding h′ input more h″ →
+  feeds : (h h′ h″ : Holding) (p : Piece) (input text more : List ℕ) → PieceFed fedOf h p text h′ → Feeding h′ input more h″ →
       Feeding h (p .bytes ++ input) (text ++ more) h″
 
 -- what is still to be printed for the bytes that are held and others behind them
@@ -69,7 +69,7 @@ FeedingPrints =
 -- before it; and unless the output room has to be emptied first, nothing is left to print
 abbrev pub EndPrints : Type 0
 EndPrints =
-    (h h′ : Holding) (p : Piece) (text : List ℕ) (k : Handed endedOf h p text h′) →
+    (h h′ : Holding) (p : Piece) (text : List ℕ) (k : PieceFed endedOf h p text h′) →
     (toPrint h (p .bytes) ≡ text ++ toPrint h′ [])
     × ((k .answered .stop ≡ Stop.Full → ⊥) → (k .answered .stop ≡ Stop.Over) × (toPrint h′ [] ≡ []))
 
@@ -77,4 +77,4 @@ EndPrints =
 abbrev pub ProgramPrints : Type 0
 ProgramPrints =
     (buys sells input text last : List ℕ) (h h′ : Holding) (p : Piece) → Feeding (atStart buys sells) input text h →
-    (k : Handed endedOf h p last h′) → (k .answered .stop ≡ Stop.Full → ⊥) → printed (input ++ p .bytes) ≡ text ++ last
+    (k : PieceFed endedOf h p last h′) → (k .answered .stop ≡ Stop.Full → ⊥) → printed (input ++ p .bytes) ≡ text ++ last

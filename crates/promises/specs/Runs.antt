@@ -136,12 +136,12 @@ abbrev pub ForOpenRuns : (Settings → List Event → List Report → Held → T
 ForOpenRuns P = (g : Settings) (es : List Event) (rs : List Report) (h : Held) (r : RunFrom g es rs h) → numberOpened r ≡ 0 → P g es rs h
 
 -- the day that an opening begins, refused or not: its session, without orders
-abbrev pub begins : Settings → Day
-begins g = record { session = openingOf g .session; buys = []; sells = [] }
+abbrev pub firstDay : Settings → Day
+firstDay g = record { session = openingOf g .session; buys = []; sells = [] }
 
 -- a run hands out and leaves what the definitions say of its events
 abbrev pub RunsAsDefined : Type 0
-RunsAsDefined = ForRuns (λ g es rs h. (rs ≡ told (begins g) es) × (dayHeld h ≡ after (begins g) es))
+RunsAsDefined = ForRuns (λ g es rs h. (rs ≡ told (firstDay g) es) × (dayHeld h ≡ after (firstDay g) es))
 
 -- AFTER A REFUSED OPENING nothing is reported, what is held stays as it was, and the next call is refused: with 1 where something lent to it
 -- is short, else with 2

@@ -120,7 +120,7 @@ abbrev pub heldOn : List ℕ → List ℕ → List ℕ → Buffered → Holding
 heldOn buf buys sells h = holding (h .run) buys sells (take (h .have) buf)
 
 -- what stands at the front is within the buffer; and where more is to be read it is short, so there is room for a read behind it
-pub record Room (buf : List ℕ) (h : Buffered) : Type 0 where
+pub record BufferRoom (buf : List ℕ) (h : Buffered) : Type 0 where
   pub within : h .have ≤ length buf
   pub short : h .reading ≡ Reading.On → h .have ≤ lineRoom
 
@@ -130,7 +130,7 @@ pub record ToFront (buf : List ℕ) (start end : ℕ) (buf′ : List ℕ) : Type
 
 -- THE CONTRACT of `take_in`: the bytes in the buffer are handed over, and those that are left are moved to its front
 pub record TakesIn (expected : List ℕ) (run : Run) (buf : List ℕ) (end : ℕ) (buys sells : List ℕ) (to : Sink) (buf′ buys′ sells′ : List ℕ) (r : Buffered) : Type 0 where
-  pub room : Room buf′ r
+  pub room : BufferRoom buf′ r
   pub goes : Goes expected (holding run buys sells (take end buf)) to [] (heldOn buf′ buys′ sells′ r) (r .to)
   pub reading : r .reading ≡ readingAfter (r .run .stage) (r .to)
 
@@ -141,7 +141,7 @@ pub record FrontKept (have : ℕ) (buf buf′ : List ℕ) : Type 0 where
 
 -- THE CONTRACT of a read, and of many: there are bytes that came, and what they come to was sent or is still to be printed
 pub record Hears (expected : List ℕ) (a : Holding) (to : Sink) (buf′ buys′ sells′ : List ℕ) (r : Buffered) : Type 0 where
-  pub room : Room buf′ r
+  pub room : BufferRoom buf′ r
   pub got : List ℕ
   pub goes : Goes expected a to got (heldOn buf′ buys′ sells′ r) (r .to)
 

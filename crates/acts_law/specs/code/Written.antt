@@ -124,7 +124,7 @@ pub record Finishing (s : Session) (buys sells room : List ℕ) : Type 0 where
   pub room-long : recordLength * (slots + slots + 1) ≤ length room
 
 -- the day was closed: both tables are empty, and the reports stand in the room
-pub record Finished (s : Session) (time settle : ℕ) (buys sells : List Order) (tb ts room tb′ ts′ room′ : List ℕ) (next : ℕ) : Type 0 where
+pub record ClosedAs (s : Session) (time settle : ℕ) (buys sells : List Order) (tb ts room tb′ ts′ room′ : List ℕ) (next : ℕ) : Type 0 where
   pub bought : tb′ ≡ tableOf [] tb
   pub sold : ts′ ≡ tableOf [] ts
   pub told : Written room 0 (finished s time settle buys sells .reports) room′ next

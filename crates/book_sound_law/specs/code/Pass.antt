@@ -20,7 +20,7 @@ use Rattle.book_sound_law.specs.code.Marks.{hasMark, withMark, apart}
 -- ---- what a pass is given
 
 -- a table has room for its n orders; what lies behind them may be anything
-pub record Room (n : ℕ) (t : List ℕ) : Type 0 where
+pub record TableFor (n : ℕ) (t : List ℕ) : Type 0 where
   pub few : n ≤ slots
   pub long : tableLength ≤ length t
 

@@ -3,7 +3,7 @@ use mathlib.Core.Path.{_≡_}
 use borrow.Author.Needs.{needs}
 use Prim.Native.Nat.{_-_, _≤_}
 use lib.ListN.{length}
-use Rattle.cases_book.specs.Lent.{Counted, Lent}
+use Rattle.cases_book.specs.Lent.{Counted, SidesLent}
 use Rattle.cases_book.proofs.steps.run.Statement.{statement}
 use Rattle.cases_book.proofs.steps.run.Tie as tie
 
@@ -11,7 +11,7 @@ abbrev Inv-loop : tie.InvT-loop
 Inv-loop text buys₀ sells₀ c₀ at₀ buys sells c at =
     (at ≤ length text)
     × Counted c
-    × Lent buys sells
+    × SidesLent buys sells
     × (length buys ≡ length buys₀)
     × (length sells ≡ length sells₀)
 
