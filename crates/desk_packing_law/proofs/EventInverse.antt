@@ -17,7 +17,7 @@ use Rattle.terms.specs.declared.Side.the-variants.{Buy, Sell}
 use Rattle.terms.specs.Carried.{limitOf}
 use Rattle.tables.specs.Same.{areSame}
 use Rattle.terms.proofs.Logic.{by, cond-true}
-use Rattle.tables.proofs.Same.{same-itself, same-runs}
+use Rattle.tables.proofs.Same.{same-itself, same-equal}
 use Rattle.desk_packing_law.specs.declared.FoundEvent.{FoundEvent}
 use Rattle.desk_packing_law.specs.Runs.{eventLength}
 use Rattle.desk_packing_law.specs.Events.{sideNumber, kindNumber, lifeNumber, orZero, actNumbers, eventNumbers, entryBy, actBy, eventIf, foundFrom, foundIn, eventFrom}
@@ -67,7 +67,7 @@ Only ns (FoundEvent.Told e) = ns ≡ eventNumbers e
 Only ns FoundEvent.Nothing = Unit
 
 only-told : (e : Event) (ns : List ℕ) → Only ns (eventIf e ns)
-only-told e ns = by (Only ns) (areSame (eventNumbers e) ns) (FoundEvent.Told e) FoundEvent.Nothing (λ h. sym (same-runs (eventNumbers e) ns h)) (λ _. tt)
+only-told e ns = by (Only ns) (areSame (eventNumbers e) ns) (FoundEvent.Told e) FoundEvent.Nothing (λ h. sym (same-equal (eventNumbers e) ns h)) (λ _. tt)
 
 only : (t w k l a p : ℕ) → Only (six t w k l a p) (foundFrom t w k l a p)
 unfolding foundFrom

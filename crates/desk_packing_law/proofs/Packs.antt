@@ -127,11 +127,11 @@ module _ (time what kind life amount price : ℕ) (act : Act) where
     tested : compared own what kind life amount price ≡ areSame (eventNumbers made) (time ∷ what ∷ kind ∷ life ∷ amount ∷ price ∷ [])
     tested = rw k compared-right
 
-    pub told-so : compared own what kind life amount price ≡ true → FoundEvent.Told (record { time = time; act = act }) ≡ eventIf (record { time = time; act = act }) (time ∷ what ∷ kind ∷ life ∷ amount ∷ price ∷ [])
-    told-so t = sym (cond-true (areSame (eventNumbers made) (time ∷ what ∷ kind ∷ life ∷ amount ∷ price ∷ [])) _ _ (sym tested ∙ t))
+    pub found-so : compared own what kind life amount price ≡ true → FoundEvent.Told (record { time = time; act = act }) ≡ eventIf (record { time = time; act = act }) (time ∷ what ∷ kind ∷ life ∷ amount ∷ price ∷ [])
+    found-so t = sym (cond-true (areSame (eventNumbers made) (time ∷ what ∷ kind ∷ life ∷ amount ∷ price ∷ [])) _ _ (sym tested ∙ t))
 
-    pub told-none : compared own what kind life amount price ≡ false → FoundEvent.Nothing ≡ eventIf (record { time = time; act = act }) (time ∷ what ∷ kind ∷ life ∷ amount ∷ price ∷ [])
-    told-none t = sym (cond-false (areSame (eventNumbers made) (time ∷ what ∷ kind ∷ life ∷ amount ∷ price ∷ [])) _ _ (sym tested ∙ t))
+    pub found-none : compared own what kind life amount price ≡ false → FoundEvent.Nothing ≡ eventIf (record { time = time; act = act }) (time ∷ what ∷ kind ∷ life ∷ amount ∷ price ∷ [])
+    found-none t = sym (cond-false (areSame (eventNumbers made) (time ∷ what ∷ kind ∷ life ∷ amount ∷ price ∷ [])) _ _ (sym tested ∙ t))
 
   -- code makes an act of the numbers by what it does, and tells the event
   pub by-what : (o : FoundEvent) → o ≡ eventIf (record { time = time; act = act }) (time ∷ what ∷ kind ∷ life ∷ amount ∷ price ∷ []) →

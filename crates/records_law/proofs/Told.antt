@@ -20,7 +20,7 @@ use Rattle.tables.specs.Records.{fieldsOf, recordOf}
 use Rattle.tables.specs.Fields.{listed}
 use Rattle.tables.specs.Same.{areSame}
 use Rattle.terms.proofs.Logic.{by, cond-true, cond-false}
-use Rattle.tables.proofs.Same.{same-itself, same-runs, five-same, same-second}
+use Rattle.tables.proofs.Same.{same-itself, same-equal, five-same, same-second}
 use Rattle.tables.proofs.Records.{length-record}
 use Rattle.records_law.specs.declared.ReadRecord.{ReadRecord}
 use Rattle.records_law.specs.Back.{RecordRead, whyBy, saidBy, reportIf, reportFrom, reportIn}
@@ -63,7 +63,7 @@ Only ns (ReadRecord.Told r) = ns ≡ recordOf r
 Only ns ReadRecord.Nothing = Unit
 
 only-told : (r : Report) (ns : List ℕ) → Only ns (reportIf r ns)
-only-told r ns = by (Only ns) (areSame (recordOf r) ns) (ReadRecord.Told r) ReadRecord.Nothing (λ e. sym (same-runs (recordOf r) ns e)) (λ _. tt)
+only-told r ns = by (Only ns) (areSame (recordOf r) ns) (ReadRecord.Told r) ReadRecord.Nothing (λ e. sym (same-equal (recordOf r) ns e)) (λ _. tt)
 
 only : (k t a b c d : ℕ) → Only (six k t a b c d) (reportFrom k t a b c d)
 unfolding reportFrom

@@ -13,14 +13,14 @@ unfolding areSame
 same-itself [] = refl
 same-itself (n ∷ ns) = join (eqb n n) (areSame ns ns) (eq-eqb n n refl) (same-itself ns)
 
-pub same-runs : (ns ms : List ℕ) → areSame ns ms ≡ true → ns ≡ ms
+pub same-equal : (ns ms : List ℕ) → areSame ns ms ≡ true → ns ≡ ms
 unfolding areSame
-same-runs [] [] e = refl
-same-runs [] (m ∷ ms) e = absurd (false≢true e)
-same-runs (n ∷ ns) [] e = absurd (false≢true e)
-same-runs (n ∷ ns) (m ∷ ms) e =
+same-equal [] [] e = refl
+same-equal [] (m ∷ ms) e = absurd (false≢true e)
+same-equal (n ∷ ns) [] e = absurd (false≢true e)
+same-equal (n ∷ ns) (m ∷ ms) e =
     let p = split (eqb n m) (areSame ns ms) e in
-    rw (eqb-true n m (p .0), same-runs ns ms (p .1))
+    rw (eqb-true n m (p .0), same-equal ns ms (p .1))
 
 -- ---- as code compares five numbers, beside a time that is the same
 

@@ -30,7 +30,7 @@ module _ (x : MaybeEntry) (found : Bool) (test : Entry → Bool) where
   pub entry-missing : x ≡ MaybeEntry.Missing → found ≡ true → found ≡ ofAny test (entryIn x)
   entry-missing e f = rw e f
 
-pub passed : true ≡ true
-passed = refl
+pub is-true : true ≡ true
+is-true = refl
 
-pub ruleset of-part = (number-given, number-missing, entry-given, entry-missing, passed)
+pub ruleset of-part = (number-given, number-missing, entry-given, entry-missing, is-true)

@@ -1,6 +1,6 @@
 -- The event is told just where the numbers are its own.
 use borrow.Author.Needs.{needs}
-use Rattle.desk_packing_law.proofs.Packs.{told-so, told-none}
+use Rattle.desk_packing_law.proofs.Packs.{found-so, found-none}
 use Rattle.desk_packing.proofs.events.told_if.Statement.{statement}
 use Rattle.desk_packing.proofs.events.told_if.Tie as tie
 
@@ -23,10 +23,10 @@ array-read-if1-2 : tie.Need-array-read-if1-2
 array-read-if1-2 c = search needs
 
 returns : tie.Need-returns
-returns c = search told-so
+returns c = search found-so
 
 returns-2 : tie.Need-returns-2
-returns-2 c = search told-none
+returns-2 c = search found-none
 
 pub told-if-spec : {M : Type 1} → statement M
 told-if-spec =
