@@ -10,15 +10,7 @@ use lib.Dec.{ltb, eqb}
 use borrow.Author.Tests.{lt-ltb, le-ltb, eq-eqb, ne-eqb, ltb-true, ltb-false, eqb-true, eqb-false}
 use borrow.Rule.Slice.PartMut.{putMid, same-len-mid}
 use native.Mathlib.Nat.{le-of-eq}
-use Rattle.terms.specs.declared.Event.{Event}
-use Rattle.terms.specs.declared.Settings.{Settings}
 use Rattle.terms.proofs.Logic.{by, cases}
-use Rattle.lines_text_law.specs.Grammar.{Answer, whole, unfinished, wrong}
-use Rattle.lines_text_law.specs.Reading.{Right}
-use Rattle.lines_reading_law.specs.Lines.{EventLine, SettingsLine}
-use Rattle.lines_reading_law.specs.Answers.{readEvent, readSettings}
-use Rattle.lines_reading_law.proofs.EventLines.{event-right}
-use Rattle.lines_reading_law.proofs.SettingsLines.{settings-right}
 use Rattle.feed_law.specs.declared.Run.{Run}
 use Rattle.feed_law.specs.declared.Stage.{Stage}
 use Rattle.feed_law.specs.declared.Stop.{Stop}
@@ -26,29 +18,11 @@ use Rattle.feed_law.specs.declared.Turned.{Turned}
 use Rattle.feed_law.specs.declared.Taken.{Taken}
 use Rattle.feed_law.specs.Texts.{mostAt}
 use Rattle.feed_law.specs.Worlds.{World, Lent, lentOf, calls}
-use Rattle.feed_law.specs.Turns.{Turn, turnOf, stopAt, Fed, halted, lastly, ahead, fedIn, settingsTurn, eventTurn}
+use Rattle.feed_law.specs.Turns.{Turn, turnOf, stopAt, Fed, halted, lastly, ahead, fedIn}
 use Rattle.feed_law.specs.Feeds.{Prints, PrintsFrom, turnBy, TurnedAs, TurnTaken, LineTaken, TakenAs, takenTo}
 use Rattle.feed_law.proofs.Prints.{part-prints, prints-then, from-within}
 
--- ---- one line
-
 module _ {W : Type 0} (on : World W) where
-  -- no more bytes are taken than are there
-  settings-within : (w : W) (bytes : List ℕ) (o : Answer Settings) → Right SettingsLine bytes o → settingsTurn on w o .used ≤ length bytes
-  settings-within w bytes (whole g n) r = r .0
-  settings-within w bytes unfinished r = omega arith
-  settings-within w bytes (wrong n) r = omega arith
-
-  event-within : (w : W) (bytes : List ℕ) (o : Answer Event) → Right EventLine bytes o → eventTurn on w o .used ≤ length bytes
-  event-within w bytes (whole e n) r = r .0
-  event-within w bytes unfinished r = omega arith
-  event-within w bytes (wrong n) r = omega arith
-
-  pub turn-within : (stage : Stage) (w : W) (bytes : List ℕ) → turnOf on stage w bytes .used ≤ length bytes
-  turn-within Stage.Awaiting w bytes = settings-within w bytes (readSettings bytes) (settings-right bytes)
-  turn-within Stage.Trading w bytes = event-within w bytes (readEvent bytes) (event-right bytes)
-  turn-within Stage.Over w bytes = omega arith
-
   -- ---- what many lines come to, turn by turn
 
   -- where there are no bytes, none are taken

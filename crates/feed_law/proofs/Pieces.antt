@@ -8,91 +8,22 @@ use lib.ListN.{length, drop, length-drop}
 use lib.Seq.{drop-drop, drop-append-le}
 use lib.Dec.{ltb, eqb}
 use borrow.Author.Tests.{eqb-false, ne-eqb}
-use Rattle.terms.specs.declared.Event.{Event}
-use Rattle.terms.specs.declared.Settings.{Settings}
 use Rattle.terms.specs.Sizes.{lineRoom}
 use Rattle.terms.proofs.Logic.{by, cases}
-use Rattle.lines_text_law.specs.Grammar.{Answer, whole, unfinished, wrong, word}
 use Rattle.lines_text_law.specs.code.Pieces.{at}
-use Rattle.lines_text_law.specs.Reading.{Right}
-use Rattle.lines_reading_law.specs.Lines.{EventLine, SettingsLine}
-use Rattle.lines_reading_law.specs.Grammars.{eventGrammar, settingsGrammar}
-use Rattle.lines_reading_law.specs.Answers.{readEvent, readSettings}
-use Rattle.lines_reading_law.proofs.EventLines.{event-right, event-only}
-use Rattle.lines_reading_law.proofs.SettingsLines.{settings-right, settings-only}
 use Rattle.feed_law.specs.declared.Stage.{Stage}
 use Rattle.feed_law.specs.declared.Stop.{Stop}
 use Rattle.feed_law.specs.Texts.{endText}
 use Rattle.feed_law.specs.Worlds.{World}
-use Rattle.feed_law.specs.Turns.{Turn, Fed, waits, ends, settingsTurn, eventTurn, turnOf, printedIn, printedFrom, stopAt, lastly, ahead, fedIn, finished, endBy, endBehind}
+use Rattle.feed_law.specs.Turns.{Turn, Fed, ends, turnOf, printedIn, printedFrom, stopAt, lastly, ahead, fedIn, finished, endBy, endBehind}
 use Rattle.feed_law.specs.Pieces.{PiecesPrintTheWhole, EndPrintsTheRest}
-use Rattle.feed_law.proofs.Longer.{right-longer}
-use Rattle.feed_law.proofs.Going.{turn-within, fed-by}
-
--- ---- reading: where there are no bytes the answer is "unfinished", so every line has at least one byte
-
-no-settings : readSettings [] ≡ unfinished
-unfolding readSettings at settingsGrammar word
-no-settings = refl
-
-no-event : readEvent [] ≡ unfinished
-unfolding readEvent at eventGrammar word
-no-event = refl
-
-not-whole : {E : Type 0} {o : Answer E} {e : E} {n : ℕ} → o ≡ whole e n → o ≡ unfinished → ⊥
-not-whole p q = let z : _≡_ {A = ℕ} 0 1 = cc in omega arith
-
-not-wrong : {E : Type 0} {o : Answer E} {n : ℕ} → o ≡ wrong n → o ≡ unfinished → ⊥
-not-wrong p q = let z : _≡_ {A = ℕ} 0 1 = cc in omega arith
+use Rattle.feed_law.proofs.First.{Sort, waiting, ending, going, sort, turn-none, turn-within}
+use Rattle.feed_law.proofs.Going.{fed-by}
 
 not-both : {s : Stop} → s ≡ Stop.Full → s ≡ Stop.Waits → ⊥
 not-both p q = let z : _≡_ {A = ℕ} 0 1 = cc in omega arith
 
-pub settings-some : (s : List ℕ) (g : Settings) (n : ℕ) → Right SettingsLine s (whole g n) → n ≡ 0 → ⊥
-settings-some s g n r z = not-whole (settings-only [] (readSettings []) (whole g 0) (settings-right []) (omega arith, rw z at (r .1))) no-settings
-
-pub event-some : (s : List ℕ) (e : Event) (n : ℕ) → Right EventLine s (whole e n) → n ≡ 0 → ⊥
-event-some s e n r z = not-whole (event-only [] (readEvent []) (whole e 0) (event-right []) (omega arith, rw z at (r .1))) no-event
-
 module _ {W : Type 0} (on : World W) where
-  -- ---- the first line of some bytes, and of the same bytes with more behind them
-
-  data Sort (stage : Stage) (w : W) (xs ys : List ℕ) : Type 0 where
-    waiting : turnOf on stage w xs ≡ waits on stage w → Sort stage w xs ys
-    ending : (place : ℕ) → turnOf on stage w xs ≡ ends on w place → turnOf on stage w (xs ++ ys) ≡ ends on w place → Sort stage w xs ys
-    going : (turnOf on stage w xs .used ≡ 0 → ⊥) → turnOf on stage w (xs ++ ys) ≡ turnOf on stage w xs → Sort stage w xs ys
-
-  module _ (w : W) (xs ys : List ℕ) where
-    settings-sort : (o : Answer Settings) → readSettings xs ≡ o → Right SettingsLine xs o → Sort Stage.Awaiting w xs ys
-    settings-sort (whole g n) e r =
-        let l : readSettings (xs ++ ys) ≡ whole g n = settings-only (xs ++ ys) _ _ (settings-right (xs ++ ys)) (right-longer SettingsLine xs ys (whole g n) (not-whole refl) r) in
-        going (λ z. settings-some xs g n r (ap (λ (x : Answer Settings). settingsTurn on w x .used) (sym e) ∙ z)) (ap (settingsTurn on w) (l ∙ sym e))
-    settings-sort unfinished e r = waiting (ap (settingsTurn on w) e)
-    settings-sort (wrong n) e r =
-        let l : readSettings (xs ++ ys) ≡ wrong n = settings-only (xs ++ ys) _ _ (settings-right (xs ++ ys)) (right-longer SettingsLine xs ys (wrong n) (not-wrong refl) r) in
-        ending n (ap (settingsTurn on w) e) (ap (settingsTurn on w) l)
-
-    event-sort : (o : Answer Event) → readEvent xs ≡ o → Right EventLine xs o → Sort Stage.Trading w xs ys
-    event-sort (whole f n) e r =
-        let l : readEvent (xs ++ ys) ≡ whole f n = event-only (xs ++ ys) _ _ (event-right (xs ++ ys)) (right-longer EventLine xs ys (whole f n) (not-whole refl) r) in
-        going (λ z. event-some xs f n r (ap (λ (x : Answer Event). eventTurn on w x .used) (sym e) ∙ z)) (ap (eventTurn on w) (l ∙ sym e))
-    event-sort unfinished e r = waiting (ap (eventTurn on w) e)
-    event-sort (wrong n) e r =
-        let l : readEvent (xs ++ ys) ≡ wrong n = event-only (xs ++ ys) _ _ (event-right (xs ++ ys)) (right-longer EventLine xs ys (wrong n) (not-wrong refl) r) in
-        ending n (ap (eventTurn on w) e) (ap (eventTurn on w) l)
-
-    sort : (stage : Stage) → Sort stage w xs ys
-    sort Stage.Awaiting = settings-sort (readSettings xs) refl (settings-right xs)
-    sort Stage.Trading = event-sort (readEvent xs) refl (event-right xs)
-    sort Stage.Over = waiting refl
-
-  -- ---- where there are no bytes, no line is taken
-
-  turn-none : (stage : Stage) (w : W) → turnOf on stage w [] ≡ waits on stage w
-  turn-none Stage.Awaiting w = ap (settingsTurn on w) no-settings
-  turn-none Stage.Trading w = ap (eventTurn on w) no-event
-  turn-none Stage.Over w = refl
-
   -- ---- what is printed, line by line
 
   abbrev after : Turn W → List ℕ → List ℕ → List ℕ
@@ -101,7 +32,7 @@ module _ {W : Type 0} (on : World W) where
   none-printed : (m : ℕ) (stage : Stage) (w : W) (s : List ℕ) → length s ≤ 0 → printedIn on m stage w s ≡ endText stage (length s)
   unfolding printedIn
   none-printed zero stage w s h = refl
-  none-printed (suc m) stage w [] h = rw (turn-none stage w)
+  none-printed (suc m) stage w [] h = rw (turn-none on stage w)
   none-printed (suc m) stage w (x ∷ s) h = absurd (let z : suc (length s) ≤ 0 = h in omega arith)
 
   -- every n that is at least the number of bytes gives the same text
@@ -122,7 +53,7 @@ module _ {W : Type 0} (on : World W) where
   printed-turn : (stage : Stage) (w : W) (s : List ℕ) →
       let t : Turn W = turnOf on stage w s in printedFrom on stage w s ≡ after t s (printedFrom on (t .stage) (t .world) (drop (t .used) s))
   unfolding printedIn
-  printed-turn stage w [] = rw (turn-none stage w)
+  printed-turn stage w [] = rw (turn-none on stage w)
   printed-turn stage w (x ∷ l) =
       let s : List ℕ = x ∷ l in
       let t : Turn W = turnOf on stage w s in
@@ -168,21 +99,21 @@ module _ {W : Type 0} (on : World W) where
         ∙ rw (drop-drop (f .used) (t .used) xs))
 
     -- no whole line is left
-    last-by : Sort stage w xs ys → t .used ≡ 0 → Whole stage w xs ys (lastly on t)
-    last-by (waiting e) z = ap (λ (x : Turn W). x .text ++ printedFrom on (x .stage) (x .world) (xs ++ ys)) (sym e)
+    last-by : Sort on stage w xs ys → t .used ≡ 0 → Whole stage w xs ys (lastly on t)
+    last-by (waiting h e) z = ap (λ (x : Turn W). x .text ++ printedFrom on (x .stage) (x .world) (xs ++ ys)) (sym e)
     last-by (ending place e l) z = bad place e l
-    last-by (going u l) z = absurd (u z)
+    last-by (going h u l) z = absurd (u z)
 
-    more-by : (f : Fed W) → (t .used ≡ 0 → ⊥) → Sort stage w xs ys → Whole (t .stage) (t .world) (drop (t .used) xs) ys f → Whole stage w xs ys (ahead on t f)
-    more-by f u (waiting e) k = absurd (u (ap (λ (x : Turn W). x .used) e))
+    more-by : (f : Fed W) → (t .used ≡ 0 → ⊥) → Sort on stage w xs ys → Whole (t .stage) (t .world) (drop (t .used) xs) ys f → Whole stage w xs ys (ahead on t f)
+    more-by f u (waiting h e) k = absurd (u (ap (λ (x : Turn W). x .used) e))
     more-by f u (ending place e l) k = absurd (u (ap (λ (x : Turn W). x .used) e))
-    more-by f u (going n l) k = on-with f u l k
+    more-by f u (going h n l) k = on-with f u l k
 
   pub pieces : PiecesPrintTheWhole on
   pieces left stage w bytes more =
       fed-by on (λ left stage w xs f. Whole stage w xs more f) (λ left stage w xs h. refl) (λ left stage w xs h. refl)
-      (λ left stage w xs h z. last-by stage w xs more (sort w xs more stage) z)
-      (λ left stage w xs f u k. more-by stage w xs more f u (sort w xs more stage) k) (length bytes) left stage w bytes (omega arith)
+      (λ left stage w xs h z. last-by stage w xs more (sort on stage w xs more) z)
+      (λ left stage w xs f u k. more-by stage w xs more f u (sort on stage w xs more) k) (length bytes) left stage w bytes (omega arith)
 
   -- ---- the end
 
@@ -200,12 +131,12 @@ module _ {W : Type 0} (on : World W) where
     all-left : length xs - 0 ≡ length xs
     all-left = omega arith
 
-    last-rest : Sort stage w xs [] → t₁ .used ≡ 0 → Ends t₁
-    last-rest (waiting e) u =
+    last-rest : Sort on stage w xs [] → t₁ .used ≡ 0 → Ends t₁
+    last-rest (waiting h e) u =
         subst Ends (sym e)
         (rw all-left (printed-turn stage w xs ∙ ap (λ (x : Turn W). after x xs (printedFrom on (x .stage) (x .world) (drop (x .used) xs))) e))
     last-rest (ending place e l) u = subst Ends (sym e) (over-silent w xs)
-    last-rest (going n l) u = absurd (n u)
+    last-rest (going h n l) u = absurd (n u)
 
     ahead-rest : (f : Fed W) → Rest (drop (t₁ .used) xs) f → Rest xs (ahead on t₁ f)
     ahead-rest f k went =
@@ -219,7 +150,7 @@ module _ {W : Type 0} (on : World W) where
   pub lines-rest : (left : ℕ) (stage : Stage) (w : W) (xs : List ℕ) → Rest xs (fedIn on (length xs) left stage w xs)
   lines-rest left stage w xs =
       fed-by on (λ left stage w xs f. Rest xs f) (λ left stage w xs h _. none-rest stage w xs h) (λ left stage w xs h went. absurd (went refl))
-      (λ left stage w xs h z _. last-rest stage w xs (sort w xs [] stage) z) (λ left stage w xs f u k. ahead-rest stage w xs f k)
+      (λ left stage w xs h z _. last-rest stage w xs (sort on stage w xs []) z) (λ left stage w xs f u k. ahead-rest stage w xs f k)
       (length xs) left stage w xs (omega arith)
 
   -- the lines stopped because the room must be emptied, or for the reason that goes with where the run stands

@@ -6,28 +6,17 @@ use mathlib.Core.List.{List}
 use lib.ListN.{length}
 use lib.Dec.{ltb, eqb}
 use borrow.Author.Tests.{ltb-true, eqb-true, eqb-false}
-use Rattle.terms.specs.declared.Settings.{Settings}
-use Rattle.terms.specs.declared.Event.{Event}
 use Rattle.terms.specs.Sizes.{lineRoom}
 use Rattle.terms.proofs.Logic.{by, cases}
-use Rattle.lines_text_law.specs.Grammar.{Answer, whole, unfinished, wrong}
-use Rattle.lines_text_law.specs.Reading.{Right}
-use Rattle.lines_reading_law.specs.Lines.{EventLine, SettingsLine}
-use Rattle.lines_reading_law.specs.Answers.{readEvent, readSettings}
-use Rattle.lines_reading_law.proofs.EventLines.{event-right}
-use Rattle.lines_reading_law.proofs.SettingsLines.{settings-right}
 use Rattle.feed_law.specs.declared.Stage.{Stage}
 use Rattle.feed_law.specs.declared.Stop.{Stop}
 use Rattle.feed_law.specs.Texts.{textMost, mostAt}
 use Rattle.feed_law.specs.Worlds.{World}
-use Rattle.feed_law.specs.Turns.{Turn, Fed, settingsTurn, eventTurn, turnOf, stopAt, fedIn, endBy, endBehind}
+use Rattle.feed_law.specs.Turns.{Fed, turnOf, stopAt, fedIn, endBy, endBehind}
 use Rattle.feed_law.specs.Pieces.{RoomMakesProgress}
 use Rattle.feed_law.proofs.Going.{fed-by}
-use Rattle.feed_law.proofs.Pieces.{settings-some, event-some}
+use Rattle.feed_law.proofs.First.{turn-waits}
 use Rattle.feed_law.proofs.Starts.{end-used}
-
-not-waits : Stop.Over ≡ Stop.Waits → ⊥
-not-waits p = let z : _≡_ {A = ℕ} 0 1 = cc in omega arith
 
 not-full : (stage : Stage) → stopAt stage ≡ Stop.Full → ⊥
 not-full Stage.Awaiting p = let z : _≡_ {A = ℕ} 0 1 = cc in omega arith
@@ -40,26 +29,6 @@ most-small Stage.Trading = omega arith
 most-small Stage.Over = omega arith
 
 module _ {W : Type 0} (on : World W) where
-  -- nothing is printed for the start of a line
-
-  settings-silent : (w : W) (xs : List ℕ) (o : Answer Settings) → Right SettingsLine xs o → settingsTurn on w o .used ≡ 0 →
-      stopAt (settingsTurn on w o .stage) ≡ Stop.Waits → length (settingsTurn on w o .text) ≡ 0
-  settings-silent w xs (whole g n) r u s = absurd (settings-some xs g n r u)
-  settings-silent w xs unfinished r u s = refl
-  settings-silent w xs (wrong n) r u s = absurd (not-waits s)
-
-  event-silent : (w : W) (xs : List ℕ) (o : Answer Event) → Right EventLine xs o → eventTurn on w o .used ≡ 0 →
-      stopAt (eventTurn on w o .stage) ≡ Stop.Waits → length (eventTurn on w o .text) ≡ 0
-  event-silent w xs (whole e n) r u s = absurd (event-some xs e n r u)
-  event-silent w xs unfinished r u s = refl
-  event-silent w xs (wrong n) r u s = absurd (not-waits s)
-
-  turn-silent : (stage : Stage) (w : W) (xs : List ℕ) → turnOf on stage w xs .used ≡ 0 → stopAt (turnOf on stage w xs .stage) ≡ Stop.Waits →
-      length (turnOf on stage w xs .text) ≡ 0
-  turn-silent Stage.Awaiting w xs u s = settings-silent w xs (readSettings xs) (settings-right xs) u s
-  turn-silent Stage.Trading w xs u s = event-silent w xs (readEvent xs) (event-right xs) u s
-  turn-silent Stage.Over w xs u s = absurd (not-waits s)
-
   -- where no line was taken, the room was too short or nothing was printed
   record Moves (left : ℕ) (f : Fed W) : Type 0 where
     full : f .stop ≡ Stop.Full → textMost ≤ left → 0 < f .used
@@ -76,7 +45,7 @@ module _ {W : Type 0} (on : World W) where
       fed-by on (λ left stage w xs f. Moves left f) (λ left stage w xs h. record { full = λ e k. absurd (not-full stage e); silent = λ _ _. refl })
       (λ left stage w xs h. record { full = λ e k. absurd (let m = most-small stage in omega arith); silent = λ _ _. refl })
       (λ left stage w xs h z.
-      record { full = λ e k. absurd (not-full (turnOf on stage w xs .stage) e); silent = λ s _. turn-silent stage w xs z s })
+      record { full = λ e k. absurd (not-full (turnOf on stage w xs .stage) e); silent = λ s _. turn-waits on stage w xs z s .0 })
       (λ left stage w xs f u k.
       record { full = λ e k. some (turnOf on stage w xs .used) (f .used) u; silent = λ s e. absurd (none (turnOf on stage w xs .used) (f .used) u e) })
       (length xs) left stage w xs (omega arith)

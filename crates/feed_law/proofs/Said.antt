@@ -11,7 +11,7 @@ use Rattle.terms.specs.Refusals.{numberOf}
 use Rattle.lines_text_law.specs.Grammar.{whole}
 use Rattle.lines_text_law.proofs.Fills.{writable-tested}
 use Rattle.lines_reading_law.specs.Answers.{readEvent}
-use Rattle.lines_reading_law.proofs.EventLines.{event-right}
+use Rattle.lines_reading_law.proofs.EventLines.{event-lines}
 use Rattle.lines_writing_law.specs.Lines.{refusedFigures, renderRefused, badFigures, renderBad}
 use Rattle.feed_law.specs.Texts.{refusedText, badText}
 
@@ -38,7 +38,7 @@ number-small NumberLong = omega arith
 pub refused-said : (s : List ℕ) (e : Event) (n : ℕ) (r : Refusal) → readEvent s ≡ whole e n → refusedText (e .time) r ≡ renderRefused (e .time) r
 unfolding refusedText
 refused-said s e n r q =
-    let w = (rw q at (event-right s)) .1 .1 in
+    let w = (rw q at (event-lines .right s)) .1 .1 in
     rw (writable-tested (refusedFigures (e .time) r) (w .0, (number-small r, tt)))
 
 -- so can a place of at most nine digits

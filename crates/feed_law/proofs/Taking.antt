@@ -16,11 +16,11 @@ use Rattle.terms.specs.Sizes.{lineRoom}
 use Rattle.tables.specs.Lengths.{recordLength, roomLength}
 use Rattle.terms.proofs.Logic.{both}
 use Rattle.lines_text_law.specs.Grammar.{Answer, whole, unfinished, wrong}
-use Rattle.lines_reading_law.specs.declared.ReadEvent.{ReadEvent}
-use Rattle.lines_reading_law.specs.declared.ReadSettings.{ReadSettings}
-use Rattle.lines_reading_law.specs.Answers.{EventRead, SettingsRead, eventAnswer, settingsAnswer}
-use Rattle.lines_reading_law.proofs.EventLines.{event-told}
-use Rattle.lines_reading_law.proofs.SettingsLines.{settings-told}
+use Rattle.lines_text_law.proofs.Sorts.{told}
+use Rattle.lines_text_law.specs.Reading.{ReadAs}
+use Rattle.lines_reading_law.specs.Lines.{EventLine, SettingsLine}
+use Rattle.lines_reading_law.proofs.EventLines.{event-lines}
+use Rattle.lines_reading_law.proofs.SettingsLines.{settings-lines}
 use Rattle.state_law.specs.declared.Session.{Session}
 use Rattle.state_law.specs.declared.Opened.{Opened}
 use Rattle.state_law.specs.Opening.{openingOf}
@@ -36,7 +36,7 @@ use Rattle.feed_law.specs.Worlds.{Lent, lentOf, calls}
 use Rattle.feed_law.specs.Turns.{Turn, stageBy, settingsTurn, eventTurn, turnOf}
 use Rattle.feed_law.specs.Feeds.{Prints, turnBy, turnedTo, TurnedAs, TablesAside, BadTurned, OpenTurned, WholeTurned, SettingsTurned, EventTurned, TurnTaken}
 use Rattle.feed_law.proofs.Prints.{records-line, prints-within}
-use Rattle.feed_law.proofs.Going.{turn-within}
+use Rattle.feed_law.proofs.First.{turn-within}
 
 -- ---- a turn is put together from its parts
 
@@ -82,55 +82,54 @@ module _ (g : Settings) (o : Opened) (used : ℕ) (opened : o ≡ openingOf g) w
       record { turned = λ buys sells room. turned-as e (sym (ap stageBy (judged v))) (kept buys sells room) refl (rw (judged v) p) }
 
 -- each answer of the reader of settings is one case
-module _ {session : Session} {bytes : List ℕ} {a : ReadSettings} (read : SettingsRead bytes a) where
-  by-settings : {out out′ : List ℕ} {r : Turned} (o : Answer Settings) → settingsAnswer a ≡ o →
+module _ {session : Session} {bytes : List ℕ} {a : Answer Settings} (read : ReadAs SettingsLine bytes a) where
+  by-settings : {out out′ : List ℕ} {r : Turned} (o : Answer Settings) → a ≡ o →
       TablesAside session (λ l. settingsTurn calls l o) out out′ r → SettingsTurned session bytes out out′ r
   by-settings {out} {out′} {r} o e k =
       record {
         turned =
             λ buys sells room.
             subst (λ (x : Answer Settings). TurnedAs (settingsTurn calls (lentOf session buys sells room) x) out buys sells room out′ r)
-            (sym e ∙ settings-told bytes a read) (k buys sells room);
+            (sym e ∙ told settings-lines bytes a read) (k buys sells room);
       }
 
-  pub settings-whole : {out out′ : List ℕ} {r : Turned} {g : Settings} {n : ℕ} → a ≡ ReadSettings.Whole g n →
+  pub settings-whole : {out out′ : List ℕ} {r : Turned} {g : Settings} {n : ℕ} → a ≡ whole g n →
       OpenTurned g n out out′ r → SettingsTurned session bytes out out′ r
   unfolding calls
-  settings-whole {g = g} {n = n} e k = by-settings (whole g n) (ap settingsAnswer e) (k .turned)
+  settings-whole {g = g} {n = n} e k = by-settings (whole g n) e (k .turned)
 
-  pub settings-unfinished : {out : List ℕ} {r : Turned} → a ≡ ReadSettings.Unfinished → r ≡ turnedTo Stage.Awaiting session 0 0 →
+  pub settings-unfinished : {out : List ℕ} {r : Turned} → a ≡ unfinished → r ≡ turnedTo Stage.Awaiting session 0 0 →
       SettingsTurned session bytes out out r
-  settings-unfinished {out} e q = by-settings unfinished (ap settingsAnswer e) (λ buys sells room. turned-as q refl refl refl (nothing out))
+  settings-unfinished {out} e q = by-settings unfinished e (λ buys sells room. turned-as q refl refl refl (nothing out))
 
-  pub settings-wrong : {out out′ : List ℕ} {r : Turned} {n : ℕ} → a ≡ ReadSettings.Wrong n → BadTurned session n out out′ r →
-      SettingsTurned session bytes out out′ r
-  settings-wrong {n = n} e k = by-settings (wrong n) (ap settingsAnswer e) (k .turned)
+  pub settings-wrong : {out out′ : List ℕ} {r : Turned} {n : ℕ} → a ≡ wrong n → BadTurned session n out out′ r → SettingsTurned session bytes out out′ r
+  settings-wrong {n = n} e k = by-settings (wrong n) e (k .turned)
 
 -- ---- events
 
-module _ {session : Session} {bytes buys sells room : List ℕ} {a : ReadEvent} (read : EventRead bytes a) where
-  by-event : {out buys′ sells′ room′ out′ : List ℕ} {r : Turned} (o : Answer Event) → eventAnswer a ≡ o →
+module _ {session : Session} {bytes buys sells room : List ℕ} {a : Answer Event} (read : ReadAs EventLine bytes a) where
+  by-event : {out buys′ sells′ room′ out′ : List ℕ} {r : Turned} (o : Answer Event) → a ≡ o →
       TurnedAs (eventTurn calls (lentOf session buys sells room) o) out buys′ sells′ room′ out′ r →
       EventTurned session bytes buys sells room out buys′ sells′ room′ out′ r
   by-event {out} {buys′} {sells′} {room′} {out′} {r} o e k =
       record {
         turned =
             subst (λ (x : Answer Event). TurnedAs (eventTurn calls (lentOf session buys sells room) x) out buys′ sells′ room′ out′ r)
-            (sym e ∙ event-told bytes a read) k;
+            (sym e ∙ told event-lines bytes a read) k;
       }
 
-  pub event-whole : {out buys′ sells′ room′ out′ : List ℕ} {r : Turned} {e : Event} {n : ℕ} → a ≡ ReadEvent.Whole e n →
+  pub event-whole : {out buys′ sells′ room′ out′ : List ℕ} {r : Turned} {e : Event} {n : ℕ} → a ≡ whole e n →
       WholeTurned session e n buys sells room out buys′ sells′ room′ out′ r →
       EventTurned session bytes buys sells room out buys′ sells′ room′ out′ r
-  event-whole {e = e} {n = n} q k = by-event (whole e n) (ap eventAnswer q) (k .turned)
+  event-whole {e = e} {n = n} q k = by-event (whole e n) q (k .turned)
 
-  pub event-unfinished : {out : List ℕ} {r : Turned} → a ≡ ReadEvent.Unfinished → r ≡ turnedTo Stage.Trading session 0 0 →
+  pub event-unfinished : {out : List ℕ} {r : Turned} → a ≡ unfinished → r ≡ turnedTo Stage.Trading session 0 0 →
       EventTurned session bytes buys sells room out buys sells room out r
-  event-unfinished {out} q e = by-event unfinished (ap eventAnswer q) (turned-as e refl refl refl (nothing out))
+  event-unfinished {out} q e = by-event unfinished q (turned-as e refl refl refl (nothing out))
 
-  pub event-wrong : {out out′ : List ℕ} {r : Turned} {n : ℕ} → a ≡ ReadEvent.Wrong n → BadTurned session n out out′ r →
+  pub event-wrong : {out out′ : List ℕ} {r : Turned} {n : ℕ} → a ≡ wrong n → BadTurned session n out out′ r →
       EventTurned session bytes buys sells room out buys sells room out′ r
-  event-wrong {n = n} q k = by-event (wrong n) (ap eventAnswer q) (k .turned buys sells room)
+  event-wrong {n = n} q k = by-event (wrong n) q (k .turned buys sells room)
 
 -- ---- an event that a call answers
 

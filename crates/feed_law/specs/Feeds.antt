@@ -13,7 +13,6 @@ use Rattle.terms.specs.Refusals.{unless, firstFailed}
 use Rattle.state_law.specs.declared.Session.{Session}
 use Rattle.state_law.specs.Opening.{openingOf, fixedSession}
 use Rattle.engine_law.specs.Calls.{roomy}
-use Rattle.lines_text_law.specs.Grammar.{whole}
 use Rattle.lines_reading_law.specs.Answers.{readEvent, readSettings}
 use Rattle.lines_writing_law.specs.declared.Wrote.{Wrote}
 use Rattle.feed_law.specs.declared.Run.{Run}
@@ -23,7 +22,7 @@ use Rattle.feed_law.specs.declared.Turned.{Turned}
 use Rattle.feed_law.specs.declared.Taken.{Taken}
 use Rattle.feed_law.specs.Texts.{recordText, endText}
 use Rattle.feed_law.specs.Worlds.{Lent, lentOf, calls}
-use Rattle.feed_law.specs.Turns.{Turn, ends, openTurn, settingsTurn, eventTurn, turnOf, Fed, halted, fedIn, endBehind}
+use Rattle.feed_law.specs.Turns.{Turn, ends, openTurn, applyTurn, settingsTurn, eventTurn, turnOf, Fed, halted, fedIn, endBehind}
 
 -- an output room with text at its start and the rest untouched
 abbrev pub laid : List ℕ → List ℕ → List ℕ
@@ -84,7 +83,7 @@ pub record OpenTurned (settings : Settings) (used : ℕ) (out out′ : List ℕ)
   pub turned : TablesAside fixedSession (λ l. openTurn calls l used (openingOf settings)) out out′ r
 
 pub record WholeTurned (session : Session) (event : Event) (used : ℕ) (buys sells room out buys′ sells′ room′ out′ : List ℕ) (r : Turned) : Type 0 where
-  pub turned : TurnedAs (eventTurn calls (lentOf session buys sells room) (whole event used)) out buys′ sells′ room′ out′ r
+  pub turned : TurnedAs (applyTurn calls (lentOf session buys sells room) used event) out buys′ sells′ room′ out′ r
 
 -- THE CONTRACTS of the line of settings that is due, of the line of an event that is due, and of whichever is due
 pub record SettingsTurned (session : Session) (bytes out out′ : List ℕ) (r : Turned) : Type 0 where

@@ -55,19 +55,24 @@ module _ {W : Type 0} (on : World W) where
   abbrev pub ends : W → ℕ → Turn W
   ends w place = record { stage = Stage.Over; world = w; used = 0; text = badText LineWrong place }
 
+  -- settings open the session or end the run; an event is applied
   abbrev pub openTurn : W → ℕ → Opened → Turn W
   openTurn w n o = record { stage = stageBy (o .verdict); world = on .opened w (o .session); used = n; text = settingsText (o .verdict) }
 
+  abbrev pub applyTurn : W → ℕ → Event → Turn W
+  applyTurn w n e = record { stage = Stage.Trading; world = on .next w e; used = n; text = eventText e (on .verdict w e) (on .reports w e) }
+
+  -- what a reader's answer comes to: a whole line comes to k
+  abbrev pub lineTurn : {E : Type 0} → Stage → W → (ℕ → E → Turn W) → Answer E → Turn W
+  lineTurn stage w k (whole e n) = k n e
+  lineTurn stage w k unfinished = waits stage w
+  lineTurn stage w k (wrong n) = ends w n
+
   abbrev pub settingsTurn : W → Answer Settings → Turn W
-  settingsTurn w (whole g n) = openTurn w n (openingOf g)
-  settingsTurn w unfinished = waits Stage.Awaiting w
-  settingsTurn w (wrong n) = ends w n
+  settingsTurn w = lineTurn Stage.Awaiting w (λ n g. openTurn w n (openingOf g))
 
   abbrev pub eventTurn : W → Answer Event → Turn W
-  eventTurn w (whole e n) =
-      record { stage = Stage.Trading; world = on .next w e; used = n; text = eventText e (on .verdict w e) (on .reports w e) }
-  eventTurn w unfinished = waits Stage.Trading w
-  eventTurn w (wrong n) = ends w n
+  eventTurn w = lineTurn Stage.Trading w (applyTurn w)
 
   -- the line of settings comes first, then lines of events; once the run is over, nothing
   abbrev pub turnOf : Stage → W → List ℕ → Turn W

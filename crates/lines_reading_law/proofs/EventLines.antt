@@ -1,9 +1,8 @@
 -- The lines of the grammar of events are the lines of events and no others, so the reader's answer is the right one.
 use Prim.Native.Nat.{ℕ, _≤_}
-use mathlib.Core.Path.{_≡_, refl}
+use mathlib.Core.Path.{_≡_, refl, ap}
 use mathlib.Core.Bool.{Bool, true, false}
 use mathlib.Core.List.{List, [], _++_}
-use lib.ListN.{length, take}
 use Rattle.terms.specs.declared.Side.{Side}
 use Rattle.terms.specs.declared.Side.the-variants.{Buy, Sell}
 use Rattle.terms.specs.declared.Kind.{Kind}
@@ -18,16 +17,15 @@ use Rattle.lines_text_law.specs.Text.{bytes}
 use Rattle.lines_text_law.specs.Numerals.{numeral}
 use Rattle.terms.specs.Numbers.{Writable}
 use Rattle.lines_text_law.specs.Forms.{fill}
-use Rattle.lines_text_law.specs.Grammar.{word, Answer, whole}
-use Rattle.lines_text_law.specs.Reading.{Right}
+use Rattle.lines_text_law.specs.Grammar.{word, whole, unfinished, wrong}
 use Rattle.lines_text_law.specs.code.Pieces.{at, lastly}
-use Rattle.lines_text_law.proofs.Grammars.{Spells, s-stop, s-byte, s-this, s-else, s-number, s-word, s-last, Plain, Agrees, agreed}
-use Rattle.lines_text_law.proofs.Rightness.{right, one, read-back, apart}
-use Rattle.lines_reading_law.specs.declared.Single.{Single}
-use Rattle.lines_reading_law.specs.Lines.{sideWord, eventFigures, renderEvent, EventLine}
-use Rattle.lines_reading_law.specs.Grammars.{event, order, priceRest, lifeRest, lives, kindRest, kinds, sideRest, actOf, singleRest, clockRest, cancelRest, acts, eventGrammar}
+use Rattle.lines_text_law.proofs.Grammars.{Spells, s-stop, s-byte, s-this, s-else, s-number, s-word, s-last, Plain, Agrees}
+use Rattle.lines_text_law.proofs.Sorts.{Lawful, lawful}
 use Rattle.lines_reading_law.specs.declared.ReadEvent.{ReadEvent}
-use Rattle.lines_reading_law.specs.Answers.{eventAnswer, readCode, EventRead, readEvent}
+use Rattle.lines_reading_law.specs.declared.Single.{Single}
+use Rattle.lines_reading_law.specs.Lines.{sideWord, eventFigures, renderEvent}
+use Rattle.lines_reading_law.specs.Grammars.{event, order, priceRest, lifeRest, lives, kindRest, kinds, sideRest, actOf, singleRest, clockRest, cancelRest, acts, eventGrammar}
+use Rattle.lines_reading_law.specs.Answers.{eventAnswer, readCode, readEvent}
 
 -- every number of the event can be written
 abbrev Fine : Event → Type 0
@@ -113,9 +111,6 @@ agrees =
       ),
     )
 
-to : (e : Event) (bs : List ℕ) → Spells eventGrammar e bs → EventLine e bs
-to e bs s = agreed renderEvent Fine (λ x. x) agrees s
-
 -- ---- and the line of each event is spelled by one of these ends
 
 module _ (t : ℕ) {e : Event} {bs : List ℕ} where
@@ -170,38 +165,25 @@ act-spells t (Finish p) f =
 act-spells t Clock f =
     time-spells t (f .0) (s-else (s-else (s-else (s-byte (s-else (s-word (bytes "lo") (s-else (s-word (bytes "ck\n") s-stop))))))))
 
-from : (e : Event) (bs : List ℕ) → EventLine e bs → Spells eventGrammar e bs
-from e bs l = rw (l .0) (act-spells (e .time) (e .act) (l .1))
+-- ---- what follows: an event's line is read back, and no other bytes are
 
--- ---- what follows
+pub event-lines : Lawful renderEvent eventFigures readEvent
+unfolding readEvent at eventGrammar word
+event-lines = lawful renderEvent eventFigures eventGrammar plain agrees (λ e f. act-spells (e .time) (e .act) f) refl
 
--- the reader's answer is the right one
-pub event-right : (s : List ℕ) → Right EventLine s (readEvent s)
-unfolding readEvent at
-event-right s = right EventLine eventGrammar plain to from s
+-- what code returned, as the answer that it stands for
+pub whole-event : {r : ReadEvent} {e : Event} {n : ℕ} → r ≡ ReadEvent.Whole e n → eventAnswer r ≡ whole e n
+whole-event q = ap eventAnswer q
 
--- and no other is
-pub event-only : (s : List ℕ) (o q : Answer Event) → Right EventLine s o → Right EventLine s q → o ≡ q
-event-only = one EventLine eventGrammar plain to from
+pub unfinished-event : {r : ReadEvent} → r ≡ ReadEvent.Unfinished → eventAnswer r ≡ unfinished
+unfinished-event q = ap eventAnswer q
 
--- an event's line is read back as the event, whatever follows
-pub event-back : (e : Event) (rest : List ℕ) → Writable (eventFigures e) → readEvent (renderEvent e ++ rest) ≡ whole e (length (renderEvent e))
-unfolding readEvent at
-event-back e rest w = read-back EventLine eventGrammar plain to from e (renderEvent e) rest (refl, w)
+pub wrong-event : {r : ReadEvent} {n : ℕ} → r ≡ ReadEvent.Wrong n → eventAnswer r ≡ wrong n
+wrong-event q = ap eventAnswer q
 
--- two events never share a line
-pub event-apart : (e f : Event) → Writable (eventFigures e) → Writable (eventFigures f) → renderEvent e ≡ renderEvent f → e ≡ f
-event-apart e f v w q = apart EventLine eventGrammar plain to from e f (renderEvent e) (refl, v) (q, w)
-
--- bytes that are read as an event are its line, so an event has one spelling
-pub event-spelled : (s : List ℕ) (e : Event) (n : ℕ) → readEvent s ≡ whole e n → take n s ≡ renderEvent e
-event-spelled s e n q = (rw q at (event-right s)) .1 .0
-
--- an answer of the reader that is right is the computed one
-pub event-told : (s : List ℕ) (r : ReadEvent) → EventRead s r → eventAnswer r ≡ readEvent s
-event-told s r a = event-only s (eventAnswer r) (readEvent s) (a .right) (event-right s)
+-- rules for `search` where code has read a line
+pub ruleset read-event = (whole-event, unfinished-event, wrong-event)
 
 -- P12: "empty bytes: 14"
 pub event-none : readCode (readEvent []) ≡ 14
-unfolding readEvent at eventGrammar word
-event-none = refl
+event-none = ap readCode (event-lines .none)

@@ -1,8 +1,7 @@
 -- The lines of the grammar of settings are the lines of settings and no others, so the reader's answer is the right one.
 use Prim.Native.Nat.{ℕ}
-use mathlib.Core.Path.{_≡_, refl, sym, _∙_}
+use mathlib.Core.Path.{_≡_, refl, sym, ap}
 use mathlib.Core.List.{List, [], _++_}
-use lib.ListN.{length, take}
 use Rattle.terms.specs.declared.Category.{Category}
 use Rattle.terms.specs.declared.Category.the-variants.{Broad, Narrow, Sensitive, Energy, Metals, Precious, Gems, Other}
 use Rattle.terms.specs.declared.Settings.{Settings}
@@ -10,15 +9,14 @@ use Rattle.lines_text_law.specs.Text.{bytes}
 use Rattle.lines_text_law.specs.Numerals.{numeral}
 use Rattle.terms.specs.Numbers.{Writable}
 use Rattle.lines_text_law.specs.Forms.{fill}
-use Rattle.lines_text_law.specs.Grammar.{word, Answer, whole}
-use Rattle.lines_text_law.specs.Reading.{Right}
+use Rattle.lines_text_law.specs.Grammar.{word, whole, unfinished, wrong}
 use Rattle.lines_text_law.specs.code.Pieces.{at, lastly}
-use Rattle.lines_text_law.proofs.Grammars.{Spells, s-stop, s-byte, s-this, s-else, s-number, s-word, Plain, Agrees, agreed}
-use Rattle.lines_text_law.proofs.Rightness.{right, one, read-back, apart}
-use Rattle.lines_reading_law.specs.Lines.{categoryWord, numbersForm, settingsFigures, renderSettings, SettingsLine}
-use Rattle.lines_reading_law.specs.Grammars.{lastNumbers, laterNumbers, categoryRest, categories, settingsGrammar}
+use Rattle.lines_text_law.proofs.Grammars.{Spells, s-stop, s-byte, s-this, s-else, s-number, s-word, Plain, Agrees}
+use Rattle.lines_text_law.proofs.Sorts.{Lawful, lawful}
 use Rattle.lines_reading_law.specs.declared.ReadSettings.{ReadSettings}
-use Rattle.lines_reading_law.specs.Answers.{settingsAnswer, readCode, SettingsRead, readSettings}
+use Rattle.lines_reading_law.specs.Lines.{categoryWord, numbersForm, settingsFigures, renderSettings}
+use Rattle.lines_reading_law.specs.Grammars.{lastNumbers, laterNumbers, categoryRest, categories, settingsGrammar}
+use Rattle.lines_reading_law.specs.Answers.{settingsAnswer, readCode, readSettings}
 
 -- every number of the settings can be written
 abbrev Fine : Settings → Type 0
@@ -89,9 +87,6 @@ agrees = (
   ),
 )
 
-to : (g : Settings) (bs : List ℕ) → Spells settingsGrammar g bs → SettingsLine g bs
-to g bs s = agreed renderSettings Fine (λ x. x) agrees s
-
 -- ---- and the line of any settings is spelled by one of these ends
 
 -- the numbers behind the category are spelled
@@ -126,43 +121,29 @@ category-spells Precious s = s-else (s-else (s-else (s-else (s-else (s-this (s-w
 category-spells Gems s = s-else (s-else (s-else (s-else (s-else (s-else (s-this (s-word (bytes "ems base=") s)))))))
 category-spells Other s = s-else (s-else (s-else (s-else (s-else (s-else (s-else (s-byte (s-word (bytes "ther base=") s))))))))
 
-spells : (g : Settings) → Fine g → Spells settingsGrammar g (bytes "cat=" ++ (categoryWord (g .category) ++ fill numbersForm (settingsFigures g)))
+spells : (g : Settings) → Fine g → Spells settingsGrammar g (renderSettings g)
 unfolding settingsGrammar numbersForm fill
-spells g f = s-word (bytes "cat=") (category-spells (g .category) (rest-spells g f))
+spells g f = rw (settings-line g) (s-word (bytes "cat=") (category-spells (g .category) (rest-spells g f)))
 
-from : (g : Settings) (bs : List ℕ) → SettingsLine g bs → Spells settingsGrammar g bs
-from g bs l = rw (l .0 ∙ settings-line g) (spells g (l .1))
+-- ---- what follows: the line of settings is read back, and no other bytes are
 
--- ---- what follows
+pub settings-lines : Lawful renderSettings settingsFigures readSettings
+unfolding readSettings at settingsGrammar word
+settings-lines = lawful renderSettings settingsFigures settingsGrammar plain agrees spells refl
 
--- the reader's answer is the right one
-pub settings-right : (s : List ℕ) → Right SettingsLine s (readSettings s)
-unfolding readSettings at
-settings-right s = right SettingsLine settingsGrammar plain to from s
+-- what code returned, as the answer that it stands for
+pub whole-settings : {r : ReadSettings} {g : Settings} {n : ℕ} → r ≡ ReadSettings.Whole g n → settingsAnswer r ≡ whole g n
+whole-settings q = ap settingsAnswer q
 
--- and no other is
-pub settings-only : (s : List ℕ) (o q : Answer Settings) → Right SettingsLine s o → Right SettingsLine s q → o ≡ q
-settings-only = one SettingsLine settingsGrammar plain to from
+pub unfinished-settings : {r : ReadSettings} → r ≡ ReadSettings.Unfinished → settingsAnswer r ≡ unfinished
+unfinished-settings q = ap settingsAnswer q
 
--- the line of settings is read back as the settings, whatever follows
-pub settings-back : (g : Settings) (rest : List ℕ) → Writable (settingsFigures g)
-    → readSettings (renderSettings g ++ rest) ≡ whole g (length (renderSettings g))
-unfolding readSettings at
-settings-back g rest w = read-back SettingsLine settingsGrammar plain to from g (renderSettings g) rest (refl, w)
+pub wrong-settings : {r : ReadSettings} {n : ℕ} → r ≡ ReadSettings.Wrong n → settingsAnswer r ≡ wrong n
+wrong-settings q = ap settingsAnswer q
 
--- two settings never share a line
-pub settings-apart : (g h : Settings) → Writable (settingsFigures g) → Writable (settingsFigures h) → renderSettings g ≡ renderSettings h → g ≡ h
-settings-apart g h v w q = apart SettingsLine settingsGrammar plain to from g h (renderSettings g) (refl, v) (q, w)
-
--- bytes that are read as settings are their line, so settings have one spelling
-pub settings-spelled : (s : List ℕ) (g : Settings) (n : ℕ) → readSettings s ≡ whole g n → take n s ≡ renderSettings g
-settings-spelled s g n q = (rw q at (settings-right s)) .1 .0
-
--- an answer of the reader that is right is the computed one
-pub settings-told : (s : List ℕ) (r : ReadSettings) → SettingsRead s r → settingsAnswer r ≡ readSettings s
-settings-told s r a = settings-only s (settingsAnswer r) (readSettings s) (a .right) (settings-right s)
+-- rules for `search` where code has read a line
+pub ruleset read-settings = (whole-settings, unfinished-settings, wrong-settings)
 
 -- P12: "empty bytes: 14"
 pub settings-none : readCode (readSettings []) ≡ 14
-unfolding readSettings at settingsGrammar word
-settings-none = refl
+settings-none = ap readCode (settings-lines .none)

@@ -6,7 +6,7 @@ use Rattle.terms.specs.declared.Settings.{Settings}
 use Rattle.terms.specs.declared.Refusal.the-variants.{LineUnfinished, LineWrong}
 use Rattle.terms.specs.Refusals.{numberOf}
 use Rattle.lines_text_law.specs.Grammar.{Answer, whole, unfinished, wrong}
-use Rattle.lines_text_law.specs.Reading.{Right}
+use Rattle.lines_text_law.specs.Reading.{ReadAs}
 use Rattle.lines_text_law.specs.code.Pieces.{at}
 use Rattle.lines_reading_law.specs.declared.ReadEvent.{ReadEvent}
 use Rattle.lines_reading_law.specs.declared.ReadSettings.{ReadSettings}
@@ -36,12 +36,12 @@ countOf (whole e n) = n
 countOf unfinished = 0
 countOf (wrong n) = n
 
--- the contract of a reader: its answer is the right one for the bytes
-pub record EventRead (bytes : List ℕ) (r : ReadEvent) : Type 0 where
-  pub right : Right EventLine bytes (eventAnswer r)
+-- THE CONTRACTS of the two readers: the answer is the right one for the bytes
+abbrev pub EventRead : List ℕ → ReadEvent → Type 0
+EventRead bytes r = ReadAs EventLine bytes (eventAnswer r)
 
-pub record SettingsRead (bytes : List ℕ) (r : ReadSettings) : Type 0 where
-  pub right : Right SettingsLine bytes (settingsAnswer r)
+abbrev pub SettingsRead : List ℕ → ReadSettings → Type 0
+SettingsRead bytes r = ReadAs SettingsLine bytes (settingsAnswer r)
 
 -- the right answers, computed by the grammars
 unfoldable pub readEvent : List ℕ → Answer Event

@@ -1,6 +1,5 @@
 -- Document 01, "Session lines": the line of settings, and of each event. A form is a line with # where a number stands.
 use Prim.Native.Nat.{ℕ}
-use mathlib.Core.Path.{_≡_}
 use mathlib.Core.List.{List, [], _∷_, _++_}
 use Rattle.terms.specs.declared.Category.{Category}
 use Rattle.terms.specs.declared.Category.the-variants.{Broad, Narrow, Sensitive, Energy, Metals, Precious, Gems, Other}
@@ -15,10 +14,10 @@ use Rattle.terms.specs.declared.Act.{Act}
 use Rattle.terms.specs.declared.Act.the-variants.{Enter, Withdraw, Under, Clock, Finish}
 use Rattle.terms.specs.declared.Event.{Event}
 use Rattle.terms.specs.Options.{perhaps}
-use Rattle.terms.specs.Numbers.{Writable}
 use Rattle.terms.specs.Carried.{carries}
 use Rattle.lines_text_law.specs.Text.{bytes}
 use Rattle.lines_text_law.specs.Forms.{fill}
+use Rattle.lines_text_law.specs.Reading.{LineOf}
 
 -- ---- settings: "First `cat=gems base=10000 close=10000 settle=10000 tick=5 len=3600000 days=0 under=0`"
 
@@ -83,10 +82,10 @@ eventFigures e = e .time ∷ actFigures (e .act)
 unfoldable pub renderEvent : Event → List ℕ
 renderEvent e = fill (eventForm (e .act)) (eventFigures e)
 
--- ---- which bytes are the line of which value: those that are written, provided that each number can be
+-- ---- which bytes are the line of which value
 
 abbrev pub SettingsLine : Settings → List ℕ → Type 0
-SettingsLine g bs = (bs ≡ renderSettings g) × Writable (settingsFigures g)
+SettingsLine = LineOf renderSettings settingsFigures
 
 abbrev pub EventLine : Event → List ℕ → Type 0
-EventLine e bs = (bs ≡ renderEvent e) × Writable (eventFigures e)
+EventLine = LineOf renderEvent eventFigures

@@ -4,3 +4,4 @@ pub mod Rightness
 pub mod Steps
 pub mod Rooms
 pub mod Fills
+pub mod Sorts

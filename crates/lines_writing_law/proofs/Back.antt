@@ -15,12 +15,13 @@ use Rattle.terms.specs.Refusals.{codeOf}
 use Rattle.terms.proofs.Cascade.{fine-first}
 use Rattle.lines_text_law.specs.Numerals.{allWritable}
 use Rattle.terms.specs.Numbers.{Writable}
-use Rattle.lines_text_law.specs.Grammar.{whole}
+use Rattle.lines_text_law.specs.Grammar.{Answer, whole}
 use Rattle.lines_text_law.proofs.Fills.{tested-writable}
+use Rattle.lines_text_law.proofs.Sorts.{Lawful}
 use Rattle.lines_reading_law.specs.Lines.{renderEvent, eventFigures, renderSettings, settingsFigures}
 use Rattle.lines_reading_law.specs.Answers.{readEvent, readSettings}
-use Rattle.lines_reading_law.proofs.EventLines.{event-back}
-use Rattle.lines_reading_law.proofs.SettingsLines.{settings-back}
+use Rattle.lines_reading_law.proofs.EventLines.{event-lines}
+use Rattle.lines_reading_law.proofs.SettingsLines.{settings-lines}
 use Rattle.lines_writing_law.specs.declared.Wrote.{Wrote}
 use Rattle.lines_writing_law.specs.Writes.{lineVerdict, wroteOf, wroteCode, roomOf, Writes}
 
@@ -62,12 +63,14 @@ written-within {d} {line} {ns} {d′} {n} w s =
     omega arith
 
 -- what was written is read back with the same value and length, whatever else stands in the room
-pub written-event-back : {d d′ : List ℕ} {n : ℕ} (e : Event) → Writes d (renderEvent e) (eventFigures e) (Wrote.Written n) d′ → readEvent d′ ≡ whole e n
-written-event-back {d} e w =
+written-back : {E : Type 0} {render figures : E → List ℕ} {read : List ℕ → Answer E} → Lawful render figures read →
+    {d d′ : List ℕ} {n : ℕ} (e : E) → Writes d (render e) (figures e) (Wrote.Written n) d′ → read d′ ≡ whole e n
+written-back {render = render} {read = read} lines {d} e w =
     let l = written-line w in
-    ap readEvent (l .1) ∙ event-back e (drop (length (renderEvent e)) d) (l .2) ∙ ap (whole e) (sym (l .0))
+    ap read (l .1) ∙ lines .back e (drop (length (render e)) d) (l .2) ∙ ap (whole e) (sym (l .0))
+
+pub written-event-back : {d d′ : List ℕ} {n : ℕ} (e : Event) → Writes d (renderEvent e) (eventFigures e) (Wrote.Written n) d′ → readEvent d′ ≡ whole e n
+written-event-back e w = written-back event-lines e w
 
 pub written-settings-back : {d d′ : List ℕ} {n : ℕ} (g : Settings) → Writes d (renderSettings g) (settingsFigures g) (Wrote.Written n) d′ → readSettings d′ ≡ whole g n
-written-settings-back {d} g w =
-    let l = written-line w in
-    ap readSettings (l .1) ∙ settings-back g (drop (length (renderSettings g)) d) (l .2) ∙ ap (whole g) (sym (l .0))
+written-settings-back g w = written-back settings-lines g w

@@ -14,10 +14,10 @@ use Rattle.lines_text_law.specs.Text.{bytes, letter}
 use Rattle.lines_text_law.specs.Numerals.{numeral}
 use Rattle.terms.specs.Numbers.{Writable}
 use Rattle.lines_text_law.specs.Forms.{fill, holes}
-use Rattle.lines_text_law.specs.Grammar.{Grammar, stop, byte, either, number, word}
+use Rattle.lines_text_law.specs.Grammar.{Grammar, stop, byte, either, number, word, look}
 use Rattle.lines_text_law.specs.code.Pieces.{lastly}
-use Rattle.lines_text_law.proofs.Grammars.{Spells, s-stop, s-byte, s-this, s-else, s-number, s-word, s-last, Plain, Agrees, agreed}
-use Rattle.lines_text_law.proofs.Rightness.{apart}
+use Rattle.lines_text_law.proofs.Grammars.{Spells, s-stop, s-byte, s-this, s-else, s-number, s-word, s-last, Plain, Agrees}
+use Rattle.lines_text_law.proofs.Sorts.{Lawful, lawful}
 use Rattle.lines_writing_law.specs.Lines.{reportFigures, renderReport}
 
 abbrev report : ℕ → Said → Report
@@ -50,9 +50,6 @@ says t =
 
 unfoldable reportGrammar : Grammar Report
 reportGrammar = word (bytes "t=") (number λ t. word (bytes " say=") (says t))
-
-abbrev ReportLine : Report → List ℕ → Type 0
-ReportLine r bs = (bs ≡ renderReport r) × Writable (reportFigures r)
 
 plain : Plain reportGrammar
 unfolding reportGrammar says lastly word
@@ -118,9 +115,6 @@ agrees =
       ),
     )
 
-to : (r : Report) (bs : List ℕ) → Spells reportGrammar r bs → ReportLine r bs
-to r bs s = agreed renderReport (λ r. Writable (reportFigures r)) (λ x. x) agrees s
-
 time-spells : (t : ℕ) {r : Report} {bs : List ℕ} → t ≤ writtenMost → Spells (says t) r bs → Spells reportGrammar r (bytes "t=" ++ (numeral t ++ (bytes " say=" ++ bs)))
 unfolding reportGrammar
 time-spells t h s = s-word (bytes "t=") (s-number t h (s-word (bytes " say=") s))
@@ -174,9 +168,10 @@ said-spells t (Close c) f =
     (s-word (bytes "lose price=")
     (s-number (c .price) (f .1 .0) (s-last (bytes " base=") (λ b. report t (Close (record { price = c .price; base = b }))) (c .base) (f .1 .1 .0)))))))))))
 
-from : (r : Report) (bs : List ℕ) → ReportLine r bs → Spells reportGrammar r bs
-from r bs l = rw (l .0) (said-spells (r .time) (r .said) (l .1))
+report-lines : Lawful renderReport reportFigures (λ s. look reportGrammar s 0)
+unfolding reportGrammar word
+report-lines = lawful renderReport reportFigures reportGrammar plain agrees (λ r f. said-spells (r .time) (r .said) f) refl
 
 -- two reports never share a line
 pub report-apart : (r s : Report) → Writable (reportFigures r) → Writable (reportFigures s) → renderReport r ≡ renderReport s → r ≡ s
-report-apart r s v w q = apart ReportLine reportGrammar plain to from r s (renderReport r) (refl, v) (q, w)
+report-apart = report-lines .apart

@@ -6,8 +6,8 @@ use Rattle.lines_text_law.specs.Grammar.{Answer, whole, unfinished, wrong}
 use Rattle.lines_reading_law.specs.declared.ReadEvent.{ReadEvent}
 use Rattle.lines_reading_law.specs.declared.ReadSettings.{ReadSettings}
 use Rattle.lines_reading_law.specs.Answers.{eventAnswer, settingsAnswer}
-use Rattle.lines_reading_law.proofs.EventLines.{event-only}
-use Rattle.lines_reading_law.proofs.SettingsLines.{settings-only}
+use Rattle.lines_reading_law.proofs.EventLines.{event-lines}
+use Rattle.lines_reading_law.proofs.SettingsLines.{settings-lines}
 use Rattle.records_law.proofs.Told.{told-only}
 use Rattle.lines_writing_law.proofs.Back.{writes-one}
 use Rattle.feed_law.specs.Worlds.{Lent, lentOf}
@@ -48,7 +48,7 @@ event-same (ReadEvent.Wrong n) = refl
 
 pub event-read-determined : EventReadDetermined
 event-read-determined bytes r r′ a b =
-    sym (event-same r) ∙ (ap eventBack (event-only bytes (eventAnswer r) (eventAnswer r′) (a .right) (b .right)) ∙ event-same r′)
+    sym (event-same r) ∙ (ap eventBack (event-lines .only bytes (eventAnswer r) (eventAnswer r′) (a .right) (b .right)) ∙ event-same r′)
 
 pub walk-determined : WalkDetermined
 walk-determined bytes place r r′ e f = sym (event-same r) ∙ (ap eventBack (e ∙ sym f) ∙ event-same r′)
@@ -65,7 +65,7 @@ settings-same (ReadSettings.Wrong n) = refl
 
 pub settings-read-determined : SettingsReadDetermined
 settings-read-determined bytes r r′ a b =
-    sym (settings-same r) ∙ (ap settingsBack (settings-only bytes (settingsAnswer r) (settingsAnswer r′) (a .right) (b .right)) ∙ settings-same r′)
+    sym (settings-same r) ∙ (ap settingsBack (settings-lines .only bytes (settingsAnswer r) (settingsAnswer r′) (a .right) (b .right)) ∙ settings-same r′)
 
 pub write-determined : WriteDetermined
 write-determined room line numbers room₁ room₂ r₁ r₂ a b = writes-one a b

@@ -1,5 +1,6 @@
 -- The code answers as the grammar does, and that answer is the right one.
-use Rattle.lines_reading_law.proofs.EventLines.{event-right}
+use Rattle.lines_text_law.proofs.Sorts.{right-as}
+use Rattle.lines_reading_law.proofs.EventLines.{event-lines}
 use borrow.Author.Needs.{needs}
 use Rattle.lines_reading.proofs.read_event.Statement.{statement}
 use Rattle.lines_reading.proofs.read_event.Tie as tie
@@ -8,7 +9,7 @@ read-requires : tie.Need-read-requires
 read-requires c κs = search needs
 
 returns : tie.Need-returns
-returns c = record { right = rw (c .read .ensures) (event-right (c .before .before .args .bytes .now)) }
+returns c = search (right-as event-lines)
 
 pub read-event-spec : {M : Type 1} → statement M
 read-event-spec = tie.close (tie.spec read-requires returns)

@@ -1,5 +1,6 @@
 -- The code answers as the grammar does, and that answer is the right one.
-use Rattle.lines_reading_law.proofs.SettingsLines.{settings-right}
+use Rattle.lines_text_law.proofs.Sorts.{right-as}
+use Rattle.lines_reading_law.proofs.SettingsLines.{settings-lines}
 use borrow.Author.Needs.{needs}
 use Rattle.lines_reading.proofs.read_settings.Statement.{statement}
 use Rattle.lines_reading.proofs.read_settings.Tie as tie
@@ -8,7 +9,7 @@ read-requires : tie.Need-read-requires
 read-requires c κs = search needs
 
 returns : tie.Need-returns
-returns c = record { right = rw (c .read .ensures) (settings-right (c .before .before .args .bytes .now)) }
+returns c = search (right-as settings-lines)
 
 pub read-settings-spec : {M : Type 1} → statement M
 read-settings-spec = tie.close (tie.spec read-requires returns)

@@ -1,5 +1,7 @@
 -- The slice may be too short; otherwise each of the reader's three answers is one case.
-use Rattle.desk_law.proofs.LineReads.{event-no-run, event-whole-few, event-whole, event-unfinished, event-wrong-few, event-wrong}
+use Rattle.lines_reading_law.proofs.EventLines.{event-lines, read-event}
+use Rattle.lines_writing_law.proofs.Short.{event-short}
+use Rattle.desk_law.proofs.LineReads.{read-short, whole-few, wrong-few, whole-into, unfinished-into, wrong-into}
 use borrow.Author.Needs.{needs}
 use Rattle.desk.proofs.line_calls.kakoludar_read_event.Statement.{statement}
 use Rattle.desk.proofs.line_calls.kakoludar_read_event.Tie as tie
@@ -8,7 +10,7 @@ refused-requires : tie.Need-refused-requires
 refused-requires c κs = search needs
 
 returns : tie.Need-returns
-returns c = search event-no-run
+returns c = search read-short
 
 read-event-requires : tie.Need-read-event-requires
 read-event-requires c κs = search needs
@@ -26,7 +28,7 @@ lay-requires : tie.Need-lay-requires
 lay-requires c κs = search needs
 
 done-requires : tie.Need-done-requires
-done-requires c κs = search event-whole-few
+done-requires c κs = search (whole-few event-lines event-short, read-event)
 
 enum-told : tie.Need-enum-told
 enum-told c = search needs
@@ -38,19 +40,19 @@ enum-known-n : tie.Need-enum-known-n
 enum-known-n c = search needs
 
 wrong-at-requires : tie.Need-wrong-at-requires
-wrong-at-requires c κs = search event-wrong-few
+wrong-at-requires c κs = search (wrong-few event-lines event-short, read-event)
 
 same-length : tie.Need-same-length
 same-length c = search needs
 
 returns-2 : tie.Need-returns-2
-returns-2 c = search event-whole
+returns-2 c = search (whole-into event-lines event-short, read-event)
 
 returns-3 : tie.Need-returns-3
-returns-3 c = search event-unfinished
+returns-3 c = search (unfinished-into event-lines event-short, read-event)
 
 returns-4 : tie.Need-returns-4
-returns-4 c = search event-wrong
+returns-4 c = search (wrong-into event-lines event-short, read-event)
 
 pub kakoludar-read-event-spec : {M : Type 1} → statement M
 kakoludar-read-event-spec =

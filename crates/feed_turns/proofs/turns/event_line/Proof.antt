@@ -1,10 +1,11 @@
 -- One arm for each answer of the reader: an event, an unfinished line, a wrong one.
 use borrow.Author.Needs.{needs}
+use Rattle.lines_reading_law.proofs.EventLines.{read-event}
 use Rattle.feed_law.proofs.Taking.{event-whole, event-unfinished, event-wrong}
 use Rattle.feed_turns.proofs.turns.event_line.Statement.{statement}
 use Rattle.feed_turns.proofs.turns.event_line.Tie as tie
 
-ruleset answers = (needs, event-whole, event-unfinished, event-wrong)
+ruleset answers = (needs, read-event, event-whole, event-unfinished, event-wrong)
 
 read-event-requires : tie.Need-read-event-requires
 read-event-requires c κs = search answers

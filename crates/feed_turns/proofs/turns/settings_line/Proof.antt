@@ -1,10 +1,11 @@
 -- One arm for each answer of the reader: settings, an unfinished line, a wrong one.
 use borrow.Author.Needs.{needs}
+use Rattle.lines_reading_law.proofs.SettingsLines.{read-settings}
 use Rattle.feed_law.proofs.Taking.{settings-whole, settings-unfinished, settings-wrong}
 use Rattle.feed_turns.proofs.turns.settings_line.Statement.{statement}
 use Rattle.feed_turns.proofs.turns.settings_line.Tie as tie
 
-ruleset answers = (needs, settings-whole, settings-unfinished, settings-wrong)
+ruleset answers = (needs, read-settings, settings-whole, settings-unfinished, settings-wrong)
 
 read-settings-requires : tie.Need-read-settings-requires
 read-settings-requires c κs = search answers
