@@ -11,20 +11,20 @@ use Rattle.terms.specs.declared.Verdict.the-variants.{Fine, Refused}
 use Rattle.terms.specs.Sizes.{lineRoom}
 use Rattle.terms.specs.Refusals.{numberOf}
 use Rattle.tables.specs.Put.{put}
-use Rattle.lines_text_law.specs.Grammar.{Answer, whole, unfinished, wrong}
+use Rattle.lines_text_law.specs.Grammar.{LineAnswer, whole, unfinished, wrong}
 use Rattle.lines_text_law.specs.Reading.{LineOf, Right, ReadAs}
 use Rattle.lines_text_law.proofs.Sorts.{Lawful, told}
 use Rattle.desk_packing_law.specs.Answers.{countMost, answerNumber, answerOf}
 use Rattle.desk_law.specs.Reads.{readNumber, runRead, ReadInto}
 
 -- where the slice is too short for the numbers of a value, nothing is read
-pub read-short : {E : Type 0} (numbers : E → List ℕ) (m : ℕ) (a : Answer E) (run : List ℕ) (r : ℕ) → length run < m → r ≡ answerOf (Refused SmallRoom) 0 →
+pub read-short : {E : Type 0} (numbers : E → List ℕ) (m : ℕ) (a : LineAnswer E) (run : List ℕ) (r : ℕ) → length run < m → r ≡ answerOf (Refused SmallRoom) 0 →
     ReadInto numbers m a run run r
 read-short numbers m a run r h x = record { answer = rw (lt-ltb (length run) m h) x; laid = rw (lt-ltb (length run) m h) }
 
 -- lines of any sort of which none is longer than a line room: a is the answer of a reader
-module _ {E : Type 0} {render figures : E → List ℕ} {read : List ℕ → Answer E} (lines : Lawful render figures read)
-    (short : (e : E) → length (render e) ≤ lineRoom) {line : List ℕ} {a : Answer E} (right : ReadAs (LineOf render figures) line a) where
+module _ {E : Type 0} {render figures : E → List ℕ} {read : List ℕ → LineAnswer E} (lines : Lawful render figures read)
+    (short : (e : E) → length (render e) ≤ lineRoom) {line : List ℕ} {a : LineAnswer E} (right : ReadAs (LineOf render figures) line a) where
   -- an answer can count the bytes of a line, and those before a wrong byte
   pub whole-few : {e : E} {n : ℕ} → a ≡ whole e n → n ≤ countMost
   whole-few {e} {n} q = go (rw q at (right .right))
@@ -42,7 +42,7 @@ module _ {E : Type 0} {render figures : E → List ℕ} {read : List ℕ → Ans
 
   -- what each answer leaves in the slice
   module _ (numbers : E → List ℕ) (m : ℕ) (run : List ℕ) (r : ℕ) (h : m ≤ length run) where
-    into : {o : Answer E} {run′ : List ℕ} → a ≡ o → r ≡ readNumber o → run′ ≡ runRead numbers o run → ReadInto numbers m (read line) run run′ r
+    into : {o : LineAnswer E} {run′ : List ℕ} → a ≡ o → r ≡ readNumber o → run′ ≡ runRead numbers o run → ReadInto numbers m (read line) run run′ r
     into q x l =
         let k = sym (told lines line a right) ∙ q in
         record { answer = rw (le-ltb (length run) m h, k) x; laid = rw (le-ltb (length run) m h, k) l }

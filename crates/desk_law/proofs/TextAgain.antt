@@ -14,7 +14,7 @@ use Rattle.terms.specs.declared.Verdict.the-variants.{Fine, Refused}
 use Rattle.terms.specs.declared.Refusal.the-variants.{SmallRoom}
 use Rattle.terms.specs.Sizes.{lineRoom}
 use Rattle.terms.proofs.Logic.{by}
-use Rattle.lines_text_law.specs.Grammar.{Answer, whole, unfinished, wrong}
+use Rattle.lines_text_law.specs.Grammar.{LineAnswer, whole, unfinished, wrong}
 use Rattle.lines_reading_law.specs.Answers.{readEvent, readSettings}
 use Rattle.state_law.specs.declared.Session.{Session}
 use Rattle.soundness_law.specs.Sound.{dayIn}
@@ -53,13 +53,13 @@ called-ten s e buys sells room t = go (callVerdict s e buys sells room)
     go Fine = act-ten (dayIn s buys sells) e t
     go (Refused r) = t
 
-settings-ten : (l : Lent) (a : Answer Settings) → Ten (l .session) → Ten (settingsTurn calls l a .world .session)
+settings-ten : (l : Lent) (a : LineAnswer Settings) → Ten (l .session) → Ten (settingsTurn calls l a .world .session)
 unfolding calls
 settings-ten l (whole g n) t = opening-ten g
 settings-ten l unfinished t = t
 settings-ten l (wrong n) t = t
 
-event-ten : (l : Lent) (a : Answer Event) → Ten (l .session) → Ten (eventTurn calls l a .world .session)
+event-ten : (l : Lent) (a : LineAnswer Event) → Ten (l .session) → Ten (eventTurn calls l a .world .session)
 unfolding calls
 event-ten l (whole e n) t = called-ten (l .session) e (l .buys) (l .sells) (l .room) t
 event-ten l unfinished t = t

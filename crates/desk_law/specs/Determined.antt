@@ -3,7 +3,7 @@ use Prim.Native.Nat.{ℕ}
 use mathlib.Core.Path.{_≡_}
 use mathlib.Core.List.{List}
 use Rattle.terms.specs.declared.Verdict.{Verdict}
-use Rattle.lines_text_law.specs.Grammar.{Answer}
+use Rattle.lines_text_law.specs.Grammar.{LineAnswer}
 use Rattle.feed_law.specs.Feeds.{Feed}
 use Rattle.desk_law.specs.Calls.{OpenedAs, AppliedOn, soundOn, viewOn}
 use Rattle.desk_law.specs.Reads.{ReadInto}
@@ -34,7 +34,7 @@ ApplyDetermined =
 -- `kakoludar_read_event` and `kakoludar_read_settings`
 abbrev pub ReadDetermined : Type 1
 ReadDetermined =
-    (E : Type 0) (numbers : E → List ℕ) (n : ℕ) (a : Answer E) (run run₁ run₂ : List ℕ) (r₁ r₂ : ℕ) →
+    (E : Type 0) (numbers : E → List ℕ) (n : ℕ) (a : LineAnswer E) (run run₁ run₂ : List ℕ) (r₁ r₂ : ℕ) →
     ReadInto numbers n a run run₁ r₁ → ReadInto numbers n a run run₂ r₂ → (r₁ ≡ r₂) × (run₁ ≡ run₂)
 
 -- `kakoludar_write_settings`, `kakoludar_write_event` and `kakoludar_write_report`

@@ -5,7 +5,7 @@ use mathlib.Core.Path.{_≡_, refl, sym, ap, _∙_}
 use mathlib.Core.List.{List, [], _++_}
 use lib.ListN.{length, length-append}
 use Rattle.terms.specs.Sizes.{lineRoom}
-use Rattle.lines_text_law.specs.Grammar.{Answer, whole, unfinished, wrong}
+use Rattle.lines_text_law.specs.Grammar.{LineAnswer, whole, unfinished, wrong}
 use Rattle.lines_text_law.specs.Reading.{LineOf, Begins, Right}
 use Rattle.lines_text_law.proofs.Sorts.{Lawful}
 use Rattle.lines_reading_law.specs.Answers.{readEvent, readSettings}
@@ -19,10 +19,10 @@ use Rattle.feed_law.specs.Worlds.{World}
 use Rattle.feed_law.specs.Turns.{Turn, waits, ends, openTurn, applyTurn, lineTurn, settingsTurn, eventTurn, turnOf, stopAt}
 use Rattle.feed_law.proofs.Longer.{right-longer}
 
-not-whole : {E : Type 0} {o : Answer E} {e : E} {n : ℕ} → o ≡ whole e n → o ≡ unfinished → ⊥
+not-whole : {E : Type 0} {o : LineAnswer E} {e : E} {n : ℕ} → o ≡ whole e n → o ≡ unfinished → ⊥
 not-whole p q = let z : _≡_ {A = ℕ} 0 1 = cc in omega arith
 
-not-wrong : {E : Type 0} {o : Answer E} {n : ℕ} → o ≡ wrong n → o ≡ unfinished → ⊥
+not-wrong : {E : Type 0} {o : LineAnswer E} {n : ℕ} → o ≡ wrong n → o ≡ unfinished → ⊥
 not-wrong p q = let z : _≡_ {A = ℕ} 0 1 = cc in omega arith
 
 pub not-waits : Stop.Over ≡ Stop.Waits → ⊥
@@ -30,13 +30,13 @@ not-waits p = let z : _≡_ {A = ℕ} 0 1 = cc in omega arith
 
 -- ---- lines of any sort
 
-module _ {E : Type 0} {render figures : E → List ℕ} {read : List ℕ → Answer E} (lines : Lawful render figures read) where
+module _ {E : Type 0} {render figures : E → List ℕ} {read : List ℕ → LineAnswer E} (lines : Lawful render figures read) where
   -- every line has at least one byte
   some : (s : List ℕ) (e : E) (n : ℕ) → Right (LineOf render figures) s (whole e n) → n ≡ 0 → ⊥
   some s e n r z = not-whole (lines .only [] (read []) (whole e 0) (lines .right []) (omega arith, rw z at (r .1))) (lines .none)
 
   -- an answer stays when more bytes follow, unless it was "unfinished"
-  stays : (xs ys : List ℕ) (o : Answer E) → (o ≡ unfinished → ⊥) → Right (LineOf render figures) xs o → read (xs ++ ys) ≡ o
+  stays : (xs ys : List ℕ) (o : LineAnswer E) → (o ≡ unfinished → ⊥) → Right (LineOf render figures) xs o → read (xs ++ ys) ≡ o
   stays xs ys o n r = lines .only (xs ++ ys) _ _ (lines .right (xs ++ ys)) (right-longer (LineOf render figures) xs ys o n r)
 
   -- where lines are short, so are their starts
@@ -53,13 +53,13 @@ module _ {W : Type 0} (on : World W) where
         Sort stage w xs ys
 
   -- the turn of a line of any sort
-  module _ {E : Type 0} {render figures : E → List ℕ} {read : List ℕ → Answer E} (lines : Lawful render figures read)
+  module _ {E : Type 0} {render figures : E → List ℕ} {read : List ℕ → LineAnswer E} (lines : Lawful render figures read)
       (short : (e : E) → length (render e) ≤ lineRoom) (stage : Stage) (w : W) (k : ℕ → E → Turn W) (takes : (n : ℕ) (e : E) → k n e .used ≡ n)
       (turns : (s : List ℕ) → turnOf on stage w s ≡ lineTurn on stage w k (read s)) (xs ys : List ℕ) where
-    turn-is : (s : List ℕ) (o : Answer E) → read s ≡ o → turnOf on stage w s ≡ lineTurn on stage w k o
+    turn-is : (s : List ℕ) (o : LineAnswer E) → read s ≡ o → turnOf on stage w s ≡ lineTurn on stage w k o
     turn-is s o e = turns s ∙ ap (lineTurn on stage w k) e
 
-    line-sort : (o : Answer E) → read xs ≡ o → Right (LineOf render figures) xs o → Sort stage w xs ys
+    line-sort : (o : LineAnswer E) → read xs ≡ o → Right (LineOf render figures) xs o → Sort stage w xs ys
     line-sort (whole e n) q r =
         let t : turnOf on stage w xs ≡ k n e = turn-is xs (whole e n) q in
         let u : turnOf on stage w xs .used ≡ n = ap (λ (x : Turn W). x .used) t ∙ takes n e in

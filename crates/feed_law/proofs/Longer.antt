@@ -8,7 +8,7 @@ use lib.Seq.{take-append-le, take-take}
 use lib.Dec.{ltb}
 use borrow.Author.Tests.{ltb-true, ltb-false}
 use Rattle.terms.proofs.Logic.{cases}
-use Rattle.lines_text_law.specs.Grammar.{Answer, whole, unfinished, wrong}
+use Rattle.lines_text_law.specs.Grammar.{LineAnswer, whole, unfinished, wrong}
 use Rattle.lines_text_law.specs.Reading.{Begins, Contains, Right}
 
 module _ {E : Type 0} (L : E → List ℕ → Type 0) where
@@ -48,7 +48,7 @@ module _ {E : Type 0} (L : E → List ℕ → Type 0) where
       wrong-longer =
           (rw long (omega (arith, r .0)), subst (Begins L) (sym (front n (omega (arith, r .0)))) (r .1), (λ k h j b. none-longer k h b), none-whole)
 
-    pub right-longer : (o : Answer E) → (o ≡ unfinished → ⊥) → Right L xs o → Right L (xs ++ ys) o
+    pub right-longer : (o : LineAnswer E) → (o ≡ unfinished → ⊥) → Right L xs o → Right L (xs ++ ys) o
     right-longer (whole e n) u r = whole-longer e n r
     right-longer unfinished u r = absurd (u refl)
     right-longer (wrong n) u r = wrong-longer n r

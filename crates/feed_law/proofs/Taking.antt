@@ -15,7 +15,7 @@ use Rattle.terms.specs.declared.Verdict.the-variants.{Fine, Refused}
 use Rattle.terms.specs.Sizes.{lineRoom}
 use Rattle.tables.specs.Lengths.{recordLength, roomLength}
 use Rattle.terms.proofs.Logic.{both}
-use Rattle.lines_text_law.specs.Grammar.{Answer, whole, unfinished, wrong}
+use Rattle.lines_text_law.specs.Grammar.{LineAnswer, whole, unfinished, wrong}
 use Rattle.lines_text_law.proofs.Sorts.{told}
 use Rattle.lines_text_law.specs.Reading.{ReadAs}
 use Rattle.lines_reading_law.specs.Lines.{EventLine, SettingsLine}
@@ -24,7 +24,7 @@ use Rattle.lines_reading_law.proofs.SettingsLines.{settings-lines}
 use Rattle.state_law.specs.declared.Session.{Session}
 use Rattle.state_law.specs.declared.Opened.{Opened}
 use Rattle.state_law.specs.Opening.{openingOf}
-use Rattle.engine_law.specs.declared.Answer.{Answer as Reply}
+use Rattle.engine_law.specs.declared.Answer.{Answer}
 use Rattle.engine_law.specs.declared.Applied.{Applied}
 use Rattle.engine_law.specs.Calls.{roomy, called, answerBy, AppliedAs}
 use Rattle.engine_law.proofs.Called.{called-few, fine-roomy}
@@ -82,14 +82,14 @@ module _ (g : Settings) (o : Opened) (used : ℕ) (opened : o ≡ openingOf g) w
       record { turned = λ buys sells room. turned-as e (sym (ap stageBy (judged v))) (kept buys sells room) refl (rw (judged v) p) }
 
 -- each answer of the reader of settings is one case
-module _ {session : Session} {bytes : List ℕ} {a : Answer Settings} (read : ReadAs SettingsLine bytes a) where
-  by-settings : {out out′ : List ℕ} {r : Turned} (o : Answer Settings) → a ≡ o →
+module _ {session : Session} {bytes : List ℕ} {a : LineAnswer Settings} (read : ReadAs SettingsLine bytes a) where
+  by-settings : {out out′ : List ℕ} {r : Turned} (o : LineAnswer Settings) → a ≡ o →
       TablesAside session (λ l. settingsTurn calls l o) out out′ r → SettingsTurned session bytes out out′ r
   by-settings {out} {out′} {r} o e k =
       record {
         turned =
             λ buys sells room.
-            subst (λ (x : Answer Settings). TurnedAs (settingsTurn calls (lentOf session buys sells room) x) out buys sells room out′ r)
+            subst (λ (x : LineAnswer Settings). TurnedAs (settingsTurn calls (lentOf session buys sells room) x) out buys sells room out′ r)
             (sym e ∙ told settings-lines bytes a read) (k buys sells room);
       }
 
@@ -107,14 +107,14 @@ module _ {session : Session} {bytes : List ℕ} {a : Answer Settings} (read : Re
 
 -- ---- events
 
-module _ {session : Session} {bytes buys sells room : List ℕ} {a : Answer Event} (read : ReadAs EventLine bytes a) where
-  by-event : {out buys′ sells′ room′ out′ : List ℕ} {r : Turned} (o : Answer Event) → a ≡ o →
+module _ {session : Session} {bytes buys sells room : List ℕ} {a : LineAnswer Event} (read : ReadAs EventLine bytes a) where
+  by-event : {out buys′ sells′ room′ out′ : List ℕ} {r : Turned} (o : LineAnswer Event) → a ≡ o →
       TurnedAs (eventTurn calls (lentOf session buys sells room) o) out buys′ sells′ room′ out′ r →
       EventTurned session bytes buys sells room out buys′ sells′ room′ out′ r
   by-event {out} {buys′} {sells′} {room′} {out′} {r} o e k =
       record {
         turned =
-            subst (λ (x : Answer Event). TurnedAs (eventTurn calls (lentOf session buys sells room) x) out buys′ sells′ room′ out′ r)
+            subst (λ (x : LineAnswer Event). TurnedAs (eventTurn calls (lentOf session buys sells room) x) out buys′ sells′ room′ out′ r)
             (sym e ∙ told event-lines bytes a read) k;
       }
 
@@ -141,19 +141,19 @@ module _ {s : Session} {e : Event} {buys sells room buys′ sells′ room′ : L
   verdict = called s e buys sells room .verdict
 
   -- where a count is answered, the event was not refused, and the count is that of its reports
-  counted : (v : Verdict) (n count : ℕ) → answerBy v n ≡ Reply.Reported count → (v ≡ Fine) × (count ≡ n)
+  counted : (v : Verdict) (n count : ℕ) → answerBy v n ≡ Answer.Reported count → (v ≡ Fine) × (count ≡ n)
   counted Fine n count q = (refl, (cc))
   counted (Refused r) n count q = absurd (let z : _≡_ {A = ℕ} 0 1 = cc in omega arith)
 
-  refused : (v : Verdict) (n : ℕ) (r : Refusal) → answerBy v n ≡ Reply.Refused r → v ≡ Refused r
+  refused : (v : Verdict) (n : ℕ) (r : Refusal) → answerBy v n ≡ Answer.Refused r → v ≡ Refused r
   refused Fine n r q = absurd (let z : _≡_ {A = ℕ} 0 1 = cc in omega arith)
   refused (Refused r′) n r q = cc
 
-  by-count : {count : ℕ} → p .answer ≡ Reply.Reported count → (verdict ≡ Fine) × (count ≡ length reports)
+  by-count : {count : ℕ} → p .answer ≡ Answer.Reported count → (verdict ≡ Fine) × (count ≡ length reports)
   by-count q = counted verdict (length reports) _ (sym (k .answer) ∙ q)
 
   -- the report room holds all records that are counted, and the output room can hold their lines
-  pub reports-held : {count : ℕ} → p .answer ≡ Reply.Reported count → length room′ ≡ length room → recordLength * count ≤ length room′
+  pub reports-held : {count : ℕ} → p .answer ≡ Answer.Reported count → length room′ ≡ length room → recordLength * count ≤ length room′
   unfolding roomy
   reports-held q h =
       let c = by-count q in
@@ -161,7 +161,7 @@ module _ {s : Session} {e : Event} {buys sells room buys′ sells′ room′ : L
       let long : roomLength ≤ length room = leb-true roomLength (length room) (both (fine-roomy s e buys sells room (c .0)) .1) in
       omega (arith, c .1)
 
-  pub lines-held : {count : ℕ} (out : List ℕ) → p .answer ≡ Reply.Reported count → textMost ≤ length out → lineRoom * count ≤ length out
+  pub lines-held : {count : ℕ} (out : List ℕ) → p .answer ≡ Answer.Reported count → textMost ≤ length out → lineRoom * count ≤ length out
   lines-held out q h =
       let c = by-count q in
       let few = called-few s e buys sells room in
@@ -173,7 +173,7 @@ module _ {s : Session} {e : Event} {buys sells room buys′ sells′ room′ : L
 
   module _ {used wrote : ℕ} {out out′ : List ℕ} {r : Turned} (h : r ≡ turnedTo Stage.Trading (p .session) used wrote) where
     -- the reports of an accepted event are printed,
-    pub goes-told : {count : ℕ} → p .answer ≡ Reply.Reported count → Prints out (recordsText count room′) wrote out′ →
+    pub goes-told : {count : ℕ} → p .answer ≡ Answer.Reported count → Prints out (recordsText count room′) wrote out′ →
         WholeTurned s e used buys sells room out buys′ sells′ room′ out′ r
     unfolding calls
     goes-told {count} q t =
@@ -183,7 +183,7 @@ module _ {s : Session} {e : Event} {buys sells room buys′ sells′ room′ : L
         record { turned = turned-as h refl left refl (subst (λ (x : List ℕ). Prints out x wrote out′) text t) }
 
     -- or its refusal is
-    pub goes-refused : {n : Refusal} → p .answer ≡ Reply.Refused n → Prints out (refusedText (e .time) n) wrote out′ →
+    pub goes-refused : {n : Refusal} → p .answer ≡ Answer.Refused n → Prints out (refusedText (e .time) n) wrote out′ →
         WholeTurned s e used buys sells room out buys′ sells′ room′ out′ r
     unfolding calls
     goes-refused {n} q t =

@@ -10,7 +10,7 @@ use Rattle.terms.specs.declared.Refusal.the-variants.{LineWrong}
 use Rattle.terms.specs.declared.Verdict.{Verdict}
 use Rattle.terms.specs.declared.Verdict.the-variants.{Fine, Refused}
 use Rattle.terms.specs.Sizes.{lineRoom}
-use Rattle.lines_text_law.specs.Grammar.{Answer, whole, unfinished, wrong}
+use Rattle.lines_text_law.specs.Grammar.{LineAnswer, whole, unfinished, wrong}
 use Rattle.lines_reading_law.specs.Answers.{readEvent, readSettings}
 use Rattle.state_law.specs.declared.Opened.{Opened}
 use Rattle.state_law.specs.Opening.{openingOf, fixedSession}
@@ -63,15 +63,15 @@ module _ {W : Type 0} (on : World W) where
   applyTurn w n e = record { stage = Stage.Trading; world = on .next w e; used = n; text = eventText e (on .verdict w e) (on .reports w e) }
 
   -- what a reader's answer comes to: a whole line comes to k
-  abbrev pub lineTurn : {E : Type 0} → Stage → W → (ℕ → E → Turn W) → Answer E → Turn W
+  abbrev pub lineTurn : {E : Type 0} → Stage → W → (ℕ → E → Turn W) → LineAnswer E → Turn W
   lineTurn stage w k (whole e n) = k n e
   lineTurn stage w k unfinished = waits stage w
   lineTurn stage w k (wrong n) = ends w n
 
-  abbrev pub settingsTurn : W → Answer Settings → Turn W
+  abbrev pub settingsTurn : W → LineAnswer Settings → Turn W
   settingsTurn w = lineTurn Stage.Awaiting w (λ n g. openTurn w n (openingOf g))
 
-  abbrev pub eventTurn : W → Answer Event → Turn W
+  abbrev pub eventTurn : W → LineAnswer Event → Turn W
   eventTurn w = lineTurn Stage.Trading w (applyTurn w)
 
   -- the line of settings comes first, then lines of events; once the run is over, nothing

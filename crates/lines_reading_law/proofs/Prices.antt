@@ -8,12 +8,12 @@ use Rattle.terms.specs.declared.Kind.the-variants.{Limit, Market}
 use Rattle.terms.specs.declared.Life.{Life}
 use Rattle.terms.specs.declared.Side.{Side}
 use Rattle.lines_text_law.specs.Text.{bytes}
-use Rattle.lines_text_law.specs.Grammar.{Answer, whole, stop, word}
+use Rattle.lines_text_law.specs.Grammar.{LineAnswer, whole, stop, word}
 use Rattle.lines_text_law.specs.code.Pieces.{at, lastly}
 use Rattle.lines_text_law.proofs.Steps.{at-stop}
 use Rattle.lines_reading_law.specs.Grammars.{order, priceRest}
 
-module _ (s : List ℕ) (n t : ℕ) (side : Side) (limit : Bool) (life : Life) (lots : ℕ) (o : Answer Event) where
+module _ (s : List ℕ) (n t : ℕ) (side : Side) (limit : Bool) (life : Life) (lots : ℕ) (o : LineAnswer Event) where
   pub price-due : limit ≡ true → o ≡ at s (lastly (bytes " price=") (λ price. order t side (Limit price) life lots)) n
       → o ≡ at s (priceRest t side limit life lots) n
   unfolding priceRest

@@ -11,7 +11,7 @@ use borrow.Author.Tests.{ltb-true, ltb-false, lt-ltb, le-ltb, ne-eqb, eqb-true, 
 use Rattle.terms.specs.Sizes.{writtenMost}
 use Rattle.terms.proofs.Logic.{cases}
 use Rattle.lines_text_law.specs.Numerals.{dec, numeral}
-use Rattle.lines_text_law.specs.Grammar.{Answer, digit, more, numeralThen}
+use Rattle.lines_text_law.specs.Grammar.{LineAnswer, digit, more, numeralThen}
 
 -- ---- what the test for a digit says of a byte
 
@@ -101,7 +101,7 @@ width-last v a m = width-is 8 v a (omega arith) m
 
 -- ---- a numeral is read to its end
 
-module _ {E : Type 0} (K : ℕ → List ℕ → ℕ → Answer E) where
+module _ {E : Type 0} (K : ℕ → List ℕ → ℕ → LineAnswer E) where
   first : (n : ℕ) (l : List ℕ) (p : ℕ) → 0 < n → n < 10 → numeralThen ((48 + n) ∷ l) p K ≡ more 8 n l (p + 1) K
   first n l p a b =
       let e : 48 + n - 48 ≡ n = omega arith in
@@ -168,7 +168,7 @@ pub record Begun (E : Type 0) (l : List ℕ) : Type 0 where
   pub r : List ℕ
   pub below : v ≤ writtenMost
   pub split : l ≡ numeral v ++ r
-  pub reads : (K : ℕ → List ℕ → ℕ → Answer E) (p : ℕ) (u : List ℕ) → Alike r u → numeralThen (numeral v ++ u) p K ≡ K v u (p + length (numeral v))
+  pub reads : (K : ℕ → List ℕ → ℕ → LineAnswer E) (p : ℕ) (u : List ℕ) → Alike r u → numeralThen (numeral v ++ u) p K ≡ K v u (p + length (numeral v))
 
 numeral-snoc : (v d : ℕ) → 0 < v → v < 100000000 → d < 10 → numeral (v * 10 + d) ≡ numeral v ++ ((48 + d) ∷ [])
 unfolding numeral

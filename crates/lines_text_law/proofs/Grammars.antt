@@ -12,7 +12,7 @@ use Rattle.terms.specs.Sizes.{writtenMost}
 use Rattle.terms.proofs.Logic.{cases}
 use Rattle.lines_text_law.specs.Text.{bytes}
 use Rattle.lines_text_law.specs.Numerals.{numeral}
-use Rattle.lines_text_law.specs.Grammar.{Grammar, stop, byte, either, number, word, Answer, whole, wrong, unfinished, digit, look}
+use Rattle.lines_text_law.specs.Grammar.{Grammar, stop, byte, either, number, word, LineAnswer, whole, wrong, unfinished, digit, look}
 use Rattle.lines_text_law.specs.code.Pieces.{lastly}
 use Rattle.lines_text_law.proofs.Digits.{numeral-then, Alike, Begun, number-cases}
 
@@ -99,7 +99,7 @@ module _ {E : Type 0} where
 
 -- The reason for an answer about the bytes l: a line stands at their start; or they begin one; or a part a of them begins one, and after a
 -- the byte x is wrong, whatever comes later.
-pub data Seen {E : Type 0} (g : Grammar E) (l : List ℕ) (p : ℕ) : Answer E → Type 0 where
+pub data Seen {E : Type 0} (g : Grammar E) (l : List ℕ) (p : ℕ) : LineAnswer E → Type 0 where
   was-whole : (e : E) (m : ℕ) (bs r : List ℕ) → Spells g e bs → l ≡ bs ++ r → m ≡ p + length bs → Seen g l p (whole e m)
   was-unfinished : (e : E) (t : List ℕ) → Spells g e (l ++ t) → Seen g l p unfinished
   was-wrong : (m : ℕ) (a : List ℕ) (x : ℕ) (z : List ℕ) → l ≡ a ++ x ∷ z → m ≡ p + length a → (e : E) (t : List ℕ) → Spells g e (a ++ t)
@@ -118,14 +118,14 @@ module _ {E : Type 0} where
   front : (f g : Grammar E) (b : ℕ)
       → ((e : E) (bs : List ℕ) → Spells g e bs → Spells f e (b ∷ bs))
       → ((u : List ℕ) (p : ℕ) → look f (b ∷ u) p ≡ look g u (p + 1))
-      → (l : List ℕ) (p : ℕ) {o : Answer E} → Seen g l (p + 1) o → Seen f (b ∷ l) p o
+      → (l : List ℕ) (p : ℕ) {o : LineAnswer E} → Seen g l (p + 1) o → Seen f (b ∷ l) p o
   front f g b c k l p (was-whole e m bs r s q n) = was-whole e m (b ∷ bs) r (c e bs s) (rw q) (omega arith)
   front f g b c k l p (was-unfinished e t s) = was-unfinished e t (c e (l ++ t) s)
   front f g b c k l p (was-wrong m a x z q n e t s w) =
       was-wrong m (b ∷ a) x z (rw q) (omega arith) e t (c e (a ++ t) s) (λ u. k (a ++ x ∷ u) p ∙ w u)
 
   -- the reason for the other way of a choice is one for the choice
-  beside : (b : ℕ) (g h : Grammar E) (y : ℕ) (l : List ℕ) (p : ℕ) → eqb y b ≡ false → {o : Answer E} → Seen h (y ∷ l) p o → Seen (either b g h) (y ∷ l) p o
+  beside : (b : ℕ) (g h : Grammar E) (y : ℕ) (l : List ℕ) (p : ℕ) → eqb y b ≡ false → {o : LineAnswer E} → Seen h (y ∷ l) p o → Seen (either b g h) (y ∷ l) p o
   beside b g h y l p v (was-whole e m bs r s q n) = was-whole e m bs r (s-else s) q n
   beside b g h y l p v (was-unfinished e t s) = was-unfinished e t (s-else s)
   beside b g h y l p v (was-wrong m [] x z q n e t s w) =
@@ -135,7 +135,7 @@ module _ {E : Type 0} where
       (λ u. other b g h c (a ++ x ∷ u) (c ∷ (a ++ x ∷ u)) p refl (let i : y ≡ c = cc in rw i at v) ∙ w u)
 
   -- the reason behind a numeral is a reason with it
-  behind : (g : ℕ → Grammar E) (l : List ℕ) (k : Begun E l) (p : ℕ) {o : Answer E} → Seen (g (k .v)) (k .r) (p + length (numeral (k .v))) o → Seen (number g) l p o
+  behind : (g : ℕ → Grammar E) (l : List ℕ) (k : Begun E l) (p : ℕ) {o : LineAnswer E} → Seen (g (k .v)) (k .r) (p + length (numeral (k .v))) o → Seen (number g) l p o
   behind g l k p (was-whole e m bs r s q n) =
       was-whole e m (numeral (k .v) ++ bs) r (s-number (k .v) (k .below) s)
       (k .split ∙ ap (λ (z : List ℕ). numeral (k .v) ++ z) q ∙ sym (append-assoc (numeral (k .v)) bs r))

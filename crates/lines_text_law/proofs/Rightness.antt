@@ -9,14 +9,14 @@ use lib.Seq.{take-at, take-append-add, length-take-le, take-length}
 use lib.Dec.{ltb}
 use borrow.Author.Tests.{ltb-true, ltb-false}
 use Rattle.terms.proofs.Logic.{cases}
-use Rattle.lines_text_law.specs.Grammar.{Grammar, Answer, whole, wrong, unfinished, look}
+use Rattle.lines_text_law.specs.Grammar.{Grammar, LineAnswer, whole, wrong, unfinished, look}
 use Rattle.lines_text_law.specs.Reading.{Begins, Right}
 use Rattle.lines_text_law.proofs.Grammars.{Spells, Plain, back, Seen, was-whole, was-unfinished, was-wrong, see}
 
-not-both : {E : Type 0} {o : Answer E} {e : E} {m k : ℕ} → o ≡ whole e m → o ≡ wrong k → ⊥
+not-both : {E : Type 0} {o : LineAnswer E} {e : E} {m k : ℕ} → o ≡ whole e m → o ≡ wrong k → ⊥
 not-both p q = let z : _≡_ {A = ℕ} 0 1 = cc in omega arith
 
-not-short : {E : Type 0} {o : Answer E} {e : E} {m : ℕ} → o ≡ whole e m → o ≡ unfinished → ⊥
+not-short : {E : Type 0} {o : LineAnswer E} {e : E} {m : ℕ} → o ≡ whole e m → o ≡ unfinished → ⊥
 not-short p q = let z : _≡_ {A = ℕ} 0 1 = cc in omega arith
 
 longer : (a : List ℕ) (x : ℕ) (z : List ℕ) (k : ℕ) → length a < k → take k (a ++ x ∷ z) ≡ a ++ x ∷ take (k - length a - 1) z
@@ -45,7 +45,7 @@ module _ {E : Type 0} (L : E → List ℕ → Type 0) (g : Grammar E) (plain : P
       (ap (λ (c : List ℕ). look g c 0) (append-assoc (a ++ x ∷ u) (b .1) [] ∙ append-assoc a (x ∷ u) (b .1 ++ []))
       ∙ w (u ++ (b .1 ++ [])))
 
-  shown : (b : List ℕ) (o : Answer E) → look g b 0 ≡ o → Seen g b 0 o → Right L b o
+  shown : (b : List ℕ) (o : LineAnswer E) → look g b 0 ≡ o → Seen g b 0 o → Right L b o
   shown b o i (was-whole e m bs r s q n) =
       let len : length b ≡ length bs + length r = ap length q ∙ length-append bs r in
       (omega arith, subst (λ (c : List ℕ). L e c) (sym (ap (take m) q ∙ take-at bs r m (omega arith))) (to e bs s))
@@ -65,7 +65,7 @@ module _ {E : Type 0} (L : E → List ℕ → Type 0) (g : Grammar E) (plain : P
   right b = shown b (look g b 0) refl (see g b 0)
 
   -- two right answers are the same
-  pub one : (b : List ℕ) (o q : Answer E) → Right L b o → Right L b q → o ≡ q
+  pub one : (b : List ℕ) (o q : LineAnswer E) → Right L b o → Right L b q → o ≡ q
   one b (whole e m) (whole f n) r s = sym (holds b e m (r .0) (r .1)) ∙ holds b f n (s .0) (s .1)
   one b (whole e m) unfinished r s = absurd (s .1 (e, m, r .0, r .1))
   one b (whole e m) (wrong n) r s = absurd (s .3 (e, m, r .0, r .1))

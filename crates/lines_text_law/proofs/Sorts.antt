@@ -4,17 +4,17 @@ use mathlib.Core.Path.{_≡_, refl}
 use mathlib.Core.List.{List, [], _++_}
 use lib.ListN.{length, take}
 use Rattle.terms.specs.Numbers.{Writable}
-use Rattle.lines_text_law.specs.Grammar.{Grammar, Answer, whole, unfinished, look}
+use Rattle.lines_text_law.specs.Grammar.{Grammar, LineAnswer, whole, unfinished, look}
 use Rattle.lines_text_law.specs.Reading.{LineOf, Right, ReadAs}
 use Rattle.lines_text_law.proofs.Grammars.{Spells, Plain, Agrees, agreed}
 use Rattle.lines_text_law.proofs.Rightness.{right, one, read-back, apart}
 
 -- what holds of one sort of line: render writes the line of a value, with the numbers of figures, and read is the answer to bytes
-pub record Lawful {E : Type 0} (render figures : E → List ℕ) (read : List ℕ → Answer E) : Type 0 where
+pub record Lawful {E : Type 0} (render figures : E → List ℕ) (read : List ℕ → LineAnswer E) : Type 0 where
   -- the reader's answer is the right one
   pub right : (s : List ℕ) → Right (LineOf render figures) s (read s)
   -- and no other is
-  pub only : (s : List ℕ) (o q : Answer E) → Right (LineOf render figures) s o → Right (LineOf render figures) s q → o ≡ q
+  pub only : (s : List ℕ) (o q : LineAnswer E) → Right (LineOf render figures) s o → Right (LineOf render figures) s q → o ≡ q
   -- a value's line is read back as the value, whatever follows
   pub back : (e : E) (rest : List ℕ) → Writable (figures e) → read (render e ++ rest) ≡ whole e (length (render e))
   -- two values never share a line
@@ -48,11 +48,11 @@ module _ {E : Type 0} (render figures : E → List ℕ) (g : Grammar E) (plain :
         none = none;
       }
 
-module _ {E : Type 0} {render figures : E → List ℕ} {read : List ℕ → Answer E} (lines : Lawful render figures read) where
+module _ {E : Type 0} {render figures : E → List ℕ} {read : List ℕ → LineAnswer E} (lines : Lawful render figures read) where
   -- an answer that meets the contract is the computed one
-  pub told : (s : List ℕ) (a : Answer E) → ReadAs (LineOf render figures) s a → a ≡ read s
+  pub told : (s : List ℕ) (a : LineAnswer E) → ReadAs (LineOf render figures) s a → a ≡ read s
   told s a r = lines .only s a (read s) (r .right) (lines .right s)
 
   -- and the computed one meets it
-  pub right-as : (s : List ℕ) (a : Answer E) → a ≡ read s → ReadAs (LineOf render figures) s a
+  pub right-as : (s : List ℕ) (a : LineAnswer E) → a ≡ read s → ReadAs (LineOf render figures) s a
   right-as s a q = record { right = rw q (lines .right s) }

@@ -14,7 +14,7 @@ use Rattle.terms.proofs.Logic.{cases}
 use Rattle.lines_text_law.specs.declared.Reached.{Reached}
 use Rattle.lines_text_law.specs.declared.Found.{Found}
 use Rattle.lines_text_law.specs.Text.{bytes}
-use Rattle.lines_text_law.specs.Grammar.{Grammar, stop, byte, either, number, word, Answer, whole, unfinished, wrong, digit, more, look}
+use Rattle.lines_text_law.specs.Grammar.{Grammar, stop, byte, either, number, word, LineAnswer, whole, unfinished, wrong, digit, more, look}
 use Rattle.lines_text_law.specs.code.Pieces.{at, wordOn, moreOn, numberOn, thenNumber, fieldOn, endAfter, thenEnd, lastOn, lastly}
 use Rattle.lines_text_law.proofs.Digits.{digit-yes, digit-low, digit-high, fewer}
 
@@ -35,12 +35,12 @@ unfolding at
 at-stop s e n = refl
 
 -- how reading goes on behind a piece
-abbrev afterWord : {E : Type 0} → Reached → (ℕ → Answer E) → Answer E
+abbrev afterWord : {E : Type 0} → Reached → (ℕ → LineAnswer E) → LineAnswer E
 afterWord (Reached.To m) k = k m
 afterWord Reached.Short k = unfinished
 afterWord (Reached.Wrong m) k = wrong m
 
-abbrev afterNumber : {E : Type 0} → Found → (ℕ → ℕ → Answer E) → Answer E
+abbrev afterNumber : {E : Type 0} → Found → (ℕ → ℕ → LineAnswer E) → LineAnswer E
 afterNumber (Found.Value v m) k = k v m
 afterNumber Found.Short k = unfinished
 afterNumber (Found.Wrong m) k = wrong m
@@ -102,7 +102,7 @@ module _ {E : Type 0} (s : List ℕ) where
 -- ---- the same as rules for `search`: o is what a reader answers, r what a piece found
 
 module _ {E : Type 0} (s w : List ℕ) (g : Grammar E) (n m : ℕ) (r : Reached) (found : r ≡ wordOn w (drop n s) n) where
-  pub word-to : (o : Answer E) → r ≡ Reached.To m → o ≡ at s g m → o ≡ at s (word w g) n
+  pub word-to : (o : LineAnswer E) → r ≡ Reached.To m → o ≡ at s g m → o ≡ at s (word w g) n
   word-to o e h = h ∙ sym (rw (at-word s w g n, ← found, e))
 
   pub word-wrong : r ≡ Reached.Wrong m → wrong m ≡ at s (word w g) n
@@ -112,7 +112,7 @@ pub word-short : {E : Type 0} (s w : List ℕ) (g : Grammar E) (n : ℕ) (r : Re
 word-short s w g n r found e = sym (rw (at-word s w g n, ← found, e))
 
 module _ {E : Type 0} (s w : List ℕ) (g : ℕ → Grammar E) (n : ℕ) (r : Found) (found : r ≡ fieldOn w s n) where
-  pub field-value : (v m : ℕ) (o : Answer E) → r ≡ Found.Value v m → o ≡ at s (g v) m → o ≡ at s (word w (number g)) n
+  pub field-value : (v m : ℕ) (o : LineAnswer E) → r ≡ Found.Value v m → o ≡ at s (g v) m → o ≡ at s (word w (number g)) n
   field-value v m o e h = h ∙ sym (rw (at-field s w g n, ← found, e))
 
   pub field-short : r ≡ Found.Short → unfinished ≡ at s (word w (number g)) n
@@ -122,7 +122,7 @@ module _ {E : Type 0} (s w : List ℕ) (g : ℕ → Grammar E) (n : ℕ) (r : Fo
   field-wrong m e = sym (rw (at-field s w g n, ← found, e))
 
 module _ {E : Type 0} (s w : List ℕ) (f : ℕ → E) (n : ℕ) (r : Found) (found : r ≡ lastOn w s n) where
-  pub last-value : (v m : ℕ) (o : Answer E) → r ≡ Found.Value v m → o ≡ whole (f v) m → o ≡ at s (lastly w f) n
+  pub last-value : (v m : ℕ) (o : LineAnswer E) → r ≡ Found.Value v m → o ≡ whole (f v) m → o ≡ at s (lastly w f) n
   last-value v m o e h = h ∙ sym (rw (at-last s w f n, ← found, e))
 
   pub last-short : r ≡ Found.Short → unfinished ≡ at s (lastly w f) n
@@ -137,17 +137,17 @@ module _ {E : Type 0} (s : List ℕ) (b : ℕ) (g h : Grammar E) (n : ℕ) where
   unfolding at
   either-end k = sym (rw (drop-of-length-le s k))
 
-  pub either-this : (o : Answer E) → n < length s → getD s n 0 ≡ b → o ≡ at s g (n + 1) → o ≡ at s (either b g h) n
+  pub either-this : (o : LineAnswer E) → n < length s → getD s n 0 ≡ b → o ≡ at s g (n + 1) → o ≡ at s (either b g h) n
   unfolding at
   either-this o k e q = q ∙ sym (rw (drop-cons s n 0 k, eq-eqb (getD s n 0) b e, add-one))
 
-  pub either-else : (o : Answer E) → n < length s → (getD s n 0 ≡ b → ⊥) → o ≡ at s h n → o ≡ at s (either b g h) n
+  pub either-else : (o : LineAnswer E) → n < length s → (getD s n 0 ≡ b → ⊥) → o ≡ at s h n → o ≡ at s (either b g h) n
   unfolding at
   either-else o k e q = q ∙ sym (rw (drop-cons s n 0 k, ne-eqb (getD s n 0) b e))
 
 -- the last way of a choice is taken or the byte is wrong
 module _ {E : Type 0} (s : List ℕ) (b : ℕ) (g : Grammar E) (n : ℕ) where
-  pub byte-this : (o : Answer E) → n < length s → getD s n 0 ≡ b → o ≡ at s g (n + 1) → o ≡ at s (byte b g) n
+  pub byte-this : (o : LineAnswer E) → n < length s → getD s n 0 ≡ b → o ≡ at s g (n + 1) → o ≡ at s (byte b g) n
   unfolding at
   byte-this o k e q = q ∙ sym (rw (drop-cons s n 0 k, eq-eqb (getD s n 0) b e, add-one))
 

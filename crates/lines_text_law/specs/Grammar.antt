@@ -18,17 +18,17 @@ word [] g = g
 word (b ∷ w) g = byte b (word w g)
 
 -- what reading answers: a value and where its line ends; that the bytes end within a line; or the place of the first wrong byte
-pub data Answer (E : Type 0) : Type 0 where
-  whole : E → ℕ → Answer E
-  unfinished : Answer E
-  wrong : ℕ → Answer E
+pub data LineAnswer (E : Type 0) : Type 0 where
+  whole : E → ℕ → LineAnswer E
+  unfinished : LineAnswer E
+  wrong : ℕ → LineAnswer E
 
 -- whether a byte is one of the digits 0 to 9
 abbrev pub digit : ℕ → Bool
 digit x = cond (ltb x 48) false (ltb x 58)
 
 -- reads up to f more digits behind those whose value is v, and goes on with k
-abbrev pub more : {E : Type 0} → ℕ → ℕ → List ℕ → ℕ → (ℕ → List ℕ → ℕ → Answer E) → Answer E
+abbrev pub more : {E : Type 0} → ℕ → ℕ → List ℕ → ℕ → (ℕ → List ℕ → ℕ → LineAnswer E) → LineAnswer E
 more zero v l n k = k v l n
 more (suc f) v [] n k = k v [] n
 more (suc f) v (x ∷ l) n k =
@@ -37,7 +37,7 @@ more (suc f) v (x ∷ l) n k =
     cond (digit x) on end
 
 -- reads a numeral, which is 0, or a digit from 1 and up to eight more, and goes on with k
-abbrev pub numeralThen : {E : Type 0} → List ℕ → ℕ → (ℕ → List ℕ → ℕ → Answer E) → Answer E
+abbrev pub numeralThen : {E : Type 0} → List ℕ → ℕ → (ℕ → List ℕ → ℕ → LineAnswer E) → LineAnswer E
 numeralThen [] n k = unfinished
 numeralThen (x ∷ l) n k =
     let naught = k 0 l (n + 1) in
@@ -45,7 +45,7 @@ numeralThen (x ∷ l) n k =
     cond (eqb x 48) naught (cond (digit x) on (wrong n))
 
 -- reads the bytes l by a grammar; the first of them stands at place n
-abbrev pub look : {E : Type 0} → Grammar E → List ℕ → ℕ → Answer E
+abbrev pub look : {E : Type 0} → Grammar E → List ℕ → ℕ → LineAnswer E
 look (stop e) l n = whole e n
 look (byte b g) [] n = unfinished
 look (byte b g) (x ∷ l) n = let on = look g l (n + 1) in cond (eqb x b) on (wrong n)

@@ -15,7 +15,7 @@ use Rattle.terms.specs.Refusals.{codeOf}
 use Rattle.terms.proofs.Cascade.{fine-first}
 use Rattle.lines_text_law.specs.Numerals.{allWritable}
 use Rattle.terms.specs.Numbers.{Writable}
-use Rattle.lines_text_law.specs.Grammar.{Answer, whole}
+use Rattle.lines_text_law.specs.Grammar.{LineAnswer, whole}
 use Rattle.lines_text_law.proofs.Fills.{tested-writable}
 use Rattle.lines_text_law.proofs.Sorts.{Lawful}
 use Rattle.lines_reading_law.specs.Lines.{renderEvent, eventFigures, renderSettings, settingsFigures}
@@ -63,7 +63,7 @@ written-within {d} {line} {ns} {d′} {n} w s =
     omega arith
 
 -- what was written is read back with the same value and length, whatever else stands in the room
-written-back : {E : Type 0} {render figures : E → List ℕ} {read : List ℕ → Answer E} → Lawful render figures read →
+written-back : {E : Type 0} {render figures : E → List ℕ} {read : List ℕ → LineAnswer E} → Lawful render figures read →
     {d d′ : List ℕ} {n : ℕ} (e : E) → Writes d (render e) (figures e) (Wrote.Written n) d′ → read d′ ≡ whole e n
 written-back {render = render} {read = read} lines {d} e w =
     let l = written-line w in

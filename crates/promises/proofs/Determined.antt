@@ -2,7 +2,7 @@
 use mathlib.Core.Path.{_≡_, refl, sym, ap, _∙_}
 use Rattle.terms.specs.declared.Event.{Event}
 use Rattle.terms.specs.declared.Settings.{Settings}
-use Rattle.lines_text_law.specs.Grammar.{Answer, whole, unfinished, wrong}
+use Rattle.lines_text_law.specs.Grammar.{LineAnswer, whole, unfinished, wrong}
 use Rattle.lines_reading_law.specs.declared.ReadEvent.{ReadEvent}
 use Rattle.lines_reading_law.specs.declared.ReadSettings.{ReadSettings}
 use Rattle.lines_reading_law.specs.Answers.{eventAnswer, settingsAnswer}
@@ -36,7 +36,7 @@ apply-determined s e buys sells room buys₁ sells₁ room₁ buys₂ sells₂ r
     }
 
 -- a reader's answer as code returns it, from the answer of the definitions
-abbrev eventBack : Answer Event → ReadEvent
+abbrev eventBack : LineAnswer Event → ReadEvent
 eventBack (whole e n) = ReadEvent.Whole e n
 eventBack unfinished = ReadEvent.Unfinished
 eventBack (wrong n) = ReadEvent.Wrong n
@@ -53,7 +53,7 @@ event-read-determined bytes r r′ a b =
 pub walk-determined : WalkDetermined
 walk-determined bytes place r r′ e f = sym (event-same r) ∙ (ap eventBack (e ∙ sym f) ∙ event-same r′)
 
-abbrev settingsBack : Answer Settings → ReadSettings
+abbrev settingsBack : LineAnswer Settings → ReadSettings
 settingsBack (whole g n) = ReadSettings.Whole g n
 settingsBack unfinished = ReadSettings.Unfinished
 settingsBack (wrong n) = ReadSettings.Wrong n

@@ -24,7 +24,7 @@ use Rattle.tables.specs.Tables.{decode}
 use Rattle.tables.proofs.Puts.{length-put}
 use Rattle.tables.proofs.Whole.{length-tableOf}
 use Rattle.tables.proofs.Records.{length-records}
-use Rattle.lines_text_law.specs.Grammar.{Answer, whole, unfinished, wrong}
+use Rattle.lines_text_law.specs.Grammar.{LineAnswer, whole, unfinished, wrong}
 use Rattle.lines_reading_law.specs.Answers.{readEvent, readSettings}
 use Rattle.state_law.specs.Opening.{openedBy, openingOf, openedSession, fixedSession}
 use Rattle.state_law.specs.Day.{Day}
@@ -144,13 +144,13 @@ record Same (t : Turn Lent) (u : Turn Day) : Type 0 where
   text : t .text ≡ u .text
   long : Long (t .world)
 
-settings-same : (l : Lent) → Long l → (o : Answer Settings) → Same (settingsTurn calls l o) (settingsTurn days (dayLent l) o)
+settings-same : (l : Lent) → Long l → (o : LineAnswer Settings) → Same (settingsTurn calls l o) (settingsTurn days (dayLent l) o)
 unfolding calls
 settings-same l h (whole g n) = record { stage = refl; day = opened-day g l; used = refl; text = refl; long = h }
 settings-same l h unfinished = record { stage = refl; day = refl; used = refl; text = refl; long = h }
 settings-same l h (wrong n) = record { stage = refl; day = refl; used = refl; text = refl; long = h }
 
-event-same : (l : Lent) → Long l → (o : Answer Event) → Same (eventTurn calls l o) (eventTurn days (dayLent l) o)
+event-same : (l : Lent) → Long l → (o : LineAnswer Event) → Same (eventTurn calls l o) (eventTurn days (dayLent l) o)
 unfolding calls days
 event-same l h (whole e n) =
     record {

@@ -37,7 +37,7 @@ use denote.Triple.Walked.{says, Stays, stay-none, stay-none-slice, walkOf, goes-
 use denote.Exit.{yes}
 use denote.Triple.Clauses.{ensured, lasts}
 use Rattle.terms.specs.declared.Event.{Event}
-use Rattle.lines_text_law.specs.Grammar.{Answer}
+use Rattle.lines_text_law.specs.Grammar.{LineAnswer}
 use Rattle.lines_reading_law.specs.Answers.{eventAnswer}
 use Rattle.lines_reading_law.specs.Walk.{readAt}
 use Rattle.journal.specs.declared.Walker.{Walker}
@@ -86,7 +86,7 @@ module _ {M : Type 1} (𝓤 : URA M) (H : Heap 𝓤) (A : Atoms 𝓤) (W : Given
   abbrev v : Val
   v = sliceVal (s .ptr) (length (s .now))
 
-  abbrev found : Answer Event
+  abbrev found : LineAnswer Event
   found = readAt (now s) n
 
   -- the struct's type as a local of a body has it

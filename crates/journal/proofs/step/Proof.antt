@@ -44,7 +44,7 @@ use denote.Triple.Walked.{says, Stays, stay-none, walkOf, goes-none, Walks, ends
 use denote.Exit.{yes}
 use denote.Triple.Clauses.{ensured, lasts}
 use Rattle.terms.specs.declared.Event.{Event}
-use Rattle.lines_text_law.specs.Grammar.{Answer}
+use Rattle.lines_text_law.specs.Grammar.{LineAnswer}
 use Rattle.lines_reading_law.specs.Answers.{eventAnswer}
 use Rattle.lines_reading_law.specs.Walk.{readAt}
 use Rattle.journal.specs.declared.Walker.{Walker}
@@ -82,7 +82,7 @@ module _ {M : Type 1} (𝓤 : URA M) (H : Heap 𝓤) (A : Atoms 𝓤) (W : Given
   abbrev v : Val
   v = sliceVal (d .bytes .ptr) (length (d .bytes .now))
 
-  abbrev found : Answer Event
+  abbrev found : LineAnswer Event
   found = readAt (now (d .bytes)) (d .at)
 
   abbrev Post : Val → SProp 𝓤

@@ -7,10 +7,10 @@ use lib.Dec.{eqb}
 use Rattle.lines_text_law.specs.declared.Reached.{Reached}
 use Rattle.lines_text_law.specs.declared.Found.{Found}
 use Rattle.lines_text_law.specs.Text.{bytes}
-use Rattle.lines_text_law.specs.Grammar.{Grammar, stop, number, word, Answer, digit, look}
+use Rattle.lines_text_law.specs.Grammar.{Grammar, stop, number, word, LineAnswer, digit, look}
 
 -- what a grammar answers to the bytes of s from place n on
-unfoldable pub at : {E : Type 0} → List ℕ → Grammar E → ℕ → Answer E
+unfoldable pub at : {E : Type 0} → List ℕ → Grammar E → ℕ → LineAnswer E
 at s g n = look g (drop n s) n
 
 -- what reading the word w finds, where the bytes left are l and the first of them stands at place n
