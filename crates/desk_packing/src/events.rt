@@ -8,13 +8,11 @@ use terms::Life;
 use terms::Side;
 ghost use mathlib.Core.Path.{_≡_};
 ghost use Prim.Native.Nat.{_≤_};
-ghost use mathlib.Core.Bool.{cond};
 ghost use mathlib.Core.List.{[], _∷_};
-ghost use lib.Dec.{eqb};
 ghost use lib.ListN.{length};
 ghost use Rattle.terms.specs.Carried.{limitOf};
 ghost use Rattle.desk_packing_law.specs.Runs.{eventLength};
-ghost use Rattle.desk_packing_law.specs.Events.{sideNumber, kindNumber, lifeNumber, orZero, eventNumbers, entryBy, eventIf, foundFrom, foundIn, eventFrom};
+ghost use Rattle.desk_packing_law.specs.Events.{sideNumber, kindNumber, lifeNumber, orZero, eventNumbers, kindBy, lifeBy, entryBy, eventIf, foundFrom, foundIn, eventFrom};
 
 fn of_side(side: Side) -> u64
     ensures { λ r. ⌜ r ≡ sideNumber side ⌝ }
@@ -81,7 +79,7 @@ pub fn pack(e: Event) -> [u64; 6]
 }
 
 fn kind_by(kind: u64, price: u64) -> Kind
-    ensures { λ r. ⌜ r ≡ cond (eqb kind 1) (Kind.Limit price) Kind.Market ⌝ }
+    ensures { λ r. ⌜ r ≡ kindBy kind price ⌝ }
 {
     if kind == 1 {
         return Kind::Limit(price);
@@ -90,7 +88,7 @@ fn kind_by(kind: u64, price: u64) -> Kind
 }
 
 fn life_by(life: u64) -> Life
-    ensures { λ r. ⌜ r ≡ cond (eqb life 1) Life.AllDay Life.Ioc ⌝ }
+    ensures { λ r. ⌜ r ≡ lifeBy life ⌝ }
 {
     if life == 1 {
         return Life::AllDay;

@@ -59,10 +59,16 @@ eventNumbers e = e .time ∷ actNumbers (e .act)
 
 -- ---- events read back
 
--- the order of a side that some numbers make; a number that is no kind's or no life's is taken for the last
+-- the kind and the life that some numbers make; a number that is none's is taken for the last
+abbrev pub kindBy : ℕ → ℕ → Kind
+kindBy kind price = cond (eqb kind 1) (Limit price) Market
+
+abbrev pub lifeBy : ℕ → Life
+lifeBy life = cond (eqb life 1) AllDay Ioc
+
+-- the order of a side that some numbers make
 abbrev pub entryBy : Side → ℕ → ℕ → ℕ → ℕ → Entry
-entryBy side kind life lots price =
-    record { side = side; kind = cond (eqb kind 1) (Limit price) Market; life = cond (eqb life 1) AllDay Ioc; lots = lots }
+entryBy side kind life lots price = record { side = side; kind = kindBy kind price; life = lifeBy life; lots = lots }
 
 -- the act that some numbers make, a row for each number of what it does; a number that is none of these is taken for a clock event's
 unfoldable pub actBy : ℕ → ℕ → ℕ → ℕ → ℕ → Act

@@ -1,6 +1,7 @@
 // terms: the paper's words as types, in which every crate above speaks.
-// It may use nothing. It promises: refusals, report kinds, reasons and categories have the paper's numbers, each by a definition in specs/
-// and a function proved equal to it; settings are judged by 12 and then 13, for any 64-bit numbers whatever.
+// It may use nothing. It promises: refusals, report kinds, reasons and categories have the paper's numbers, and an act has the parts that it
+// carries, each by a definition in specs/ and a function proved equal to it; settings are judged by 12 and then 13, for any 64-bit numbers
+// whatever.
 
 pub mod judge;
 pub mod numbers;
