@@ -1,4 +1,5 @@
-/* Plays document 01's listing through the library, prints the report lines and compares them with the paper's. */
+/* Plays document 01's listing through the library, prints the report lines and compares them with the paper's. Then it comes back from
+ * the day's lines, as if it had been killed before the last of them was saved whole. */
 #include "kakoludar.h"
 
 #include <inttypes.h>
@@ -45,6 +46,29 @@ static int show(void) {
     if (kakoludar_code(answer)) return refused("standing", answer);
     fprintf(stderr, "band %" PRIu64 " to %" PRIu64 ", range %" PRIu64 " to %" PRIu64 "\n", now[KAKOLUDAR_STANDING_BAND_LOW],
             now[KAKOLUDAR_STANDING_BAND_HIGH], now[KAKOLUDAR_STANDING_RANGE_LOW], now[KAKOLUDAR_STANDING_RANGE_HIGH]);
+    return 0;
+}
+
+/* Comes back from the lines but for their last byte, by both calls: the cancel before the close was the last whole event. */
+static int come_back(void) {
+    static uint64_t spare_buys[KAKOLUDAR_SIZE_TABLE], spare_sells[KAKOLUDAR_SIZE_TABLE];
+    const uint8_t *saved = (const uint8_t *)INPUT;
+    size_t length = sizeof INPUT - 2;
+    size_t whole = (size_t)(strstr(INPUT, "t=3600000") - INPUT);
+    for (int lent = 0; lent < 2; lent++) {
+        uint64_t place[KAKOLUDAR_SIZE_PLACE];
+        uint64_t answer =
+            lent ? kakoludar_resume_lent(saved, length, session, KAKOLUDAR_SIZE_SESSION, buys, KAKOLUDAR_SIZE_TABLE, sells,
+                                         KAKOLUDAR_SIZE_TABLE, place, KAKOLUDAR_SIZE_PLACE, spare_buys, KAKOLUDAR_SIZE_TABLE,
+                                         spare_sells, KAKOLUDAR_SIZE_TABLE, room, KAKOLUDAR_SIZE_ROOM)
+                 : kakoludar_resume(saved, length, session, KAKOLUDAR_SIZE_SESSION, buys, KAKOLUDAR_SIZE_TABLE, sells,
+                                    KAKOLUDAR_SIZE_TABLE, place, KAKOLUDAR_SIZE_PLACE);
+        if (kakoludar_code(answer)) return refused("resume", answer);
+        if (place[0] != whole || session[KAKOLUDAR_SESSION_TIME] != 961000 || session[KAKOLUDAR_SESSION_CLOSED]) {
+            fprintf(stderr, "another day came back\n");
+            return 1;
+        }
+    }
     return 0;
 }
 
@@ -95,5 +119,5 @@ int main(void) {
         return 1;
     }
     fprintf(stderr, "the paper's 13 lines\n");
-    return 0;
+    return come_back();
 }

@@ -10,6 +10,8 @@
  *   kakoludar_view          the orders that rest on a side, best first
  *   kakoludar_standing      the band, the range and the rest of what an app shows of a day
  *   kakoludar_sound         whether numbers are a session and its live orders
+ *   kakoludar_resume, kakoludar_resume_lent
+ *                           the saved lines of a day in, its session and tables out: come back after the app was killed
  *   kakoludar_read_..       one line of text as settings or an event
  *   kakoludar_write_..      settings, an event or a report as a line of text
  *   kakoludar_start, kakoludar_feed, kakoludar_end
@@ -21,12 +23,13 @@
  *    says, and is not NULL, not even where the length is 0.
  *  - It is determined: the same numbers in give the same numbers out, on every machine.
  *  - Slices that it writes must overlap no other slice of the same call.
- *  - It never allocates, reads no clock, has no globals, keeps no pointer, does not recurse (some 12 KiB of stack are enough)
- *    and needs nothing but memcpy and memset. Calls on memory that does not overlap may run in any threads at once.
+ *  - It never allocates, reads no clock, has no globals, keeps no pointer, does not recurse (some 12 KiB of stack are enough for
+ *    every call but kakoludar_resume, which asks for some 52 KiB) and needs nothing but memcpy and memset. Calls on memory that
+ *    does not overlap may run in any threads at once.
  *  - The caller keeps all state: the session's numbers and both tables. They may be copied, stored and taken up again: all three
  *    of one moment, or not at all. Numbers of two moments (a session stored after a call, tables stored before it) can pass for
  *    sound; then orders that have traded stand in the book again, and no call can tell. Where an app may be killed between two
- *    writes, the day's lines are what it saves: docs/LINES.md, "Save and come back".
+ *    writes, the day's lines are what it saves, and kakoludar_resume takes them: docs/LINES.md, "Save and come back".
  */
 #ifndef KAKOLUDAR_H
 #define KAKOLUDAR_H
@@ -40,11 +43,11 @@ extern "C" {
 
 /* ---- Version
  *
- * KAKOLUDAR_VERSION is 1,000,000 * major + 1,000 * minor + patch: this header is of 0.2.0. KAKOLUDAR_LAYOUT marks the layout of
+ * KAKOLUDAR_VERSION is 1,000,000 * major + 1,000 * minor + patch: this header is of 0.3.0. KAKOLUDAR_LAYOUT marks the layout of
  * the numbers that an app may store, session, run and tables. It is number 0 of every session: numbers with another in that
  * place, stored by another version, are no session's (2; a run: over). Layouts are counted from 101, since before they were
  * marked a category, 0 to 7, stood in that place. */
-#define KAKOLUDAR_VERSION 2000
+#define KAKOLUDAR_VERSION 3000
 #define KAKOLUDAR_LAYOUT 101
 
 /* The version of the library that is linked. Where it is not KAKOLUDAR_VERSION, this header is of another one.
@@ -60,7 +63,7 @@ uint64_t kakoludar_layout(void);
 /* ---- Answers
  *
  * An answer is code + 256 * count. The code is 0 where the call was done, else the number of a refusal. The count is said at
- * each function; beside a refusal it is 0, but for KAKOLUDAR_REFUSED_WRONG_LINE, where it is the place. */
+ * each function; beside a refusal it is 0, but for KAKOLUDAR_REFUSED_WRONG_LINE of a reader, where it is the place. */
 
 /* The code of an answer: enum kakoludar_refused. */
 static inline unsigned kakoludar_code(uint64_t answer) { return (unsigned)(answer % 256u); }
@@ -84,9 +87,10 @@ enum kakoludar_refused {
     KAKOLUDAR_REFUSED_SETTINGS_RANGE = 12, /* a number of the settings is out of its range */
     KAKOLUDAR_REFUSED_SETTINGS_TICK = 13,  /* base, close or settlement not a multiple of the tick */
     KAKOLUDAR_REFUSED_UNFINISHED = 14,     /* the bytes begin a line and hold no whole one */
-    KAKOLUDAR_REFUSED_WRONG_LINE = 15,     /* the bytes begin no line of the sort that is due; the count is the place */
+    KAKOLUDAR_REFUSED_WRONG_LINE = 15,     /* the bytes begin no line of the sort that is due; count or place[0] is the place */
     KAKOLUDAR_REFUSED_SHORT_LINE = 16,     /* line room under 128 bytes */
-    KAKOLUDAR_REFUSED_LARGE_NUMBER = 17    /* a number above 999,999,999 is to be written */
+    KAKOLUDAR_REFUSED_LARGE_NUMBER = 17,   /* a number above 999,999,999 is to be written */
+    KAKOLUDAR_REFUSED_SAVED_LINE = 22      /* a saved line that the engine refuses; place[0] is its start */
 };
 
 /* ---- Sizes
@@ -103,6 +107,7 @@ enum kakoludar_refused {
 #define KAKOLUDAR_SIZE_RUN 45      /* where text in and text out stands: its stage, then the session's numbers */
 #define KAKOLUDAR_SIZE_STANDING 14 /* enum kakoludar_standing_at */
 #define KAKOLUDAR_SIZE_COUNTS 2    /* of a feed: the bytes taken, the bytes printed */
+#define KAKOLUDAR_SIZE_PLACE 1     /* of a resume: the bytes that count, or the place of the first bad line */
 #define KAKOLUDAR_SIZE_LINE 128    /* bytes that a writer asks for */
 #define KAKOLUDAR_SIZE_TEXT 66560  /* bytes of output room with which a feed always makes progress: 520 lines of 128 */
 
@@ -275,6 +280,40 @@ uint64_t kakoludar_view(uint64_t side, const uint64_t *session, size_t session_l
  *            a wider band or a new reference, is not in it; apply a clock event first to see it. A closed session answers too. */
 uint64_t kakoludar_standing(const uint64_t *session, size_t session_len, const uint64_t *buys, size_t buys_len,
                             const uint64_t *sells, size_t sells_len, uint64_t *standing, size_t standing_len);
+
+/* ---- Saved lines
+ *
+ * What an app saves of a day: the settings line, then the line of each accepted event, each before its reports are shown. A kill
+ * cuts these bytes after any byte. Both calls rebuild the day of the whole lines, as if it had never stopped, and say how many
+ * bytes count; cut the file back to them before a line is appended. To go on as text, a run of it is KAKOLUDAR_STAGE_TRADING and
+ * then the session's numbers. */
+
+/* Comes back: the session and the tables of the settings line and all whole event lines. A tail that begins an event line is
+ * dropped, whatever the engine would say of it.
+ *   Answers  0; 1 for a session under 44 numbers, a place under 1 or a table under 768; then by the first bad line, whatever
+ *            follows it: 14 where the bytes begin a settings line and hold no whole one (no bytes, too), 15 for a line that is
+ *            none, a tail that begins none too, 22 for a line that the engine refuses, settings included. The count is 0.
+ *   Writes   place[0]: with 0 how many bytes count, those of the whole lines; with 15 the place, counted from the first saved
+ *            byte; with 22 the line's start; with 14 and 1 it is 0.
+ *            The session: with 0 as it is after the last whole event, its clock too; where it refuses the layout and zeros, as
+ *            kakoludar_open writes them on 12.
+ *            The tables: with 0, once there is an event, as kakoludar_apply leaves them after the last (the numbers past the live
+ *            orders are 0 up to 768).
+ *            Nothing at all where the session or the place is too short.
+ *   Never    writes a report: those of the saved events count as handed out. Never touches a table where it refuses, or where the
+ *            bytes hold no event, as an opening touches none. Its scratch, two tables and a report room, is on the stack: 37,248
+ *            bytes of the 52 KiB or so that it asks for. (The larger tables and room of later requests make it 82,688.) */
+uint64_t kakoludar_resume(const uint8_t *saved, size_t saved_len, uint64_t *session, size_t session_len, uint64_t *buys,
+                          size_t buys_len, uint64_t *sells, size_t sells_len, uint64_t *place, size_t place_len);
+
+/* The same with its scratch lent, for a thread with a small stack: two spare tables and a report room.
+ *   Answers  as kakoludar_resume; 1 too for a spare table under 768 numbers or a room under 3,120.
+ *   Writes   as kakoludar_resume; after any answer but 1 the first 768, 768 and 3,120 numbers of the scratch are 0.
+ *   Never    touches the scratch where it answers 1. What stands in it before the call does not matter. */
+uint64_t kakoludar_resume_lent(const uint8_t *saved, size_t saved_len, uint64_t *session, size_t session_len, uint64_t *buys,
+                               size_t buys_len, uint64_t *sells, size_t sells_len, uint64_t *place, size_t place_len,
+                               uint64_t *spare_buys, size_t spare_buys_len, uint64_t *spare_sells, size_t spare_sells_len,
+                               uint64_t *room, size_t room_len);
 
 /* ---- Lines
  *

@@ -10,6 +10,7 @@ variable KAKOLUDAR_LIBRARY names, else the one that host/library has built besid
     day.apply(k.Order(2_000, k.Side.BUY, lots=1, price=10_305))      # raises Refused: refused by 8: limit outside the band ..
 
     k.run(open('examples/touch.in', 'rb').read())                    # a whole day as text: its report lines
+    day, counted = k.Session.resume(open('day.saved', 'rb').read())  # comes back from the lines that an app saved, cut after any byte
 
 Prices are whole paise, quantities lots, times milliseconds from the open. docs/LINES.md has every line, refusal and formula. What the
 library refuses is raised as Refused; a number that is below 0 or takes more than 64 bits never reaches it: ValueError."""
@@ -24,9 +25,9 @@ from typing import Optional
 
 # ---- sizes and places, as in kakoludar.h
 
-VERSION, LAYOUT = 2000, 101
+VERSION, LAYOUT = 3000, 101
 SIZE_SETTINGS, SIZE_SESSION, SIZE_EVENT, SIZE_RECORD, SIZE_ORDER, SIZE_STANDING = 8, 44, 6, 6, 3, 14
-SIZE_TABLE, SIZE_ROOM, SIZE_RUN, SIZE_COUNTS, SIZE_LINE, SIZE_TEXT = 768, 3120, 45, 2, 128, 66560
+SIZE_TABLE, SIZE_ROOM, SIZE_RUN, SIZE_COUNTS, SIZE_PLACE, SIZE_LINE, SIZE_TEXT = 768, 3120, 45, 2, 1, 128, 66560
 SESSION_LAYOUT, SESSION_TIME, SESSION_CLOSED, SESSION_REFERENCE = 0, 9, 10, 17
 STAGE_TRADING = 1
 STOP_WAITS, STOP_FULL, STOP_ENDED = 0, 1, 2
@@ -88,16 +89,19 @@ WORDS = {
     15: 'the bytes begin no line of the sort that is due',
     16: 'line room under 128 bytes',
     17: 'a number above 999,999,999 is to be written',
+    22: 'a saved line that the engine refuses',
 }
 
 
 class Refused(Exception):
-    """A refusal: its `number`, and its `place` in the line (15). Its words say what is wrong and what is allowed."""
+    """A refusal: its `number`, and its `place`: in the line (15), or from the first saved byte on (a resume: 15, and 22 the start of the
+    line). Its words say what is wrong and what is allowed."""
 
     def __init__(self, number, place=0):
         self.number, self.place = number, place
         words = WORDS.get(number, 'a code that this module does not know: the library is of another version')
-        super().__init__(f'refused by {number}: {words}' + (f', from byte {place} on' if number == 15 else ''))
+        where = {15: f', from byte {place} on', 22: f', the one at byte {place}'}.get(number, '')
+        super().__init__(f'refused by {number}: {words}{where}')
 
 
 @dataclass(frozen=True)
@@ -402,6 +406,18 @@ class Session:
         """Takes up a day that was kept as numbers (`numbers`, `tables`): all three of one moment, or not at all. Numbers that are no
         sound session are refused by 2, but numbers of two moments can pass for sound."""
         return cls(_numbers(SIZE_SESSION, session), _numbers(SIZE_TABLE, buys), _numbers(SIZE_TABLE, sells))
+
+    @classmethod
+    def resume(cls, saved):
+        """Comes back from what an app has saved of a day, its settings line and the line of each accepted event, cut after any byte: the
+        day of all whole lines, as if it had never stopped, and how many bytes count. The file is to be cut back to these before a line
+        is appended. Raises Refused by the first bad line: 14 where there is no whole settings line yet, 15 for a line that is none, 22
+        for one that the engine refuses; its `place` counts from the first saved byte."""
+        session, buys, sells, place = map(_numbers, (SIZE_SESSION, SIZE_TABLE, SIZE_TABLE, SIZE_PLACE))
+        code = _call('kakoludar_resume', bytes(saved), session, buys, sells, place)
+        if code:
+            raise Refused(code, place[0])
+        return cls(session, buys, sells), place[0]
 
     def apply(self, event):
         """Applies an event and gives the list of its reports. Raises Refused by 2 to 11; a refused event changes nothing."""

@@ -68,6 +68,58 @@ def by_values(given):
     return printed
 
 
+def journal(given):
+    """What an app saves of a day: the file, the accepted events, and behind each saved line the file's end and the day's numbers."""
+    settings, at = k.read_settings(given)
+    day, file, events = k.Session.open(settings), given[:at], []
+    behind = [(len(file), day.numbers, day.tables)]
+    while at < len(given):
+        try:
+            event, taken = k.read_event(given[at:])
+        except k.Refused:
+            break
+        at += taken
+        try:
+            day.apply(event)
+        except k.Refused:
+            continue
+        file, events = file + k.write_event(event), events + [event]
+        behind.append((len(file), day.numbers, day.tables))
+    return file, events, behind
+
+
+def comes_back(given):
+    """What is saved of a day, cut after every byte: the whole lines count, and what comes back is the day as it was behind them and goes on
+    to the same end."""
+    file, events, behind = journal(given)
+    for cut in range(len(file) + 1):
+        if cut < behind[0][0]:
+            assert refused(14, k.Session.resume, file[:cut]).place == 0
+            continue
+        back, counted = k.Session.resume(file[:cut])
+        whole = max(line for line, (end, _, _) in enumerate(behind) if end <= cut)
+        assert (counted, back.numbers, back.tables) == behind[whole], cut
+        if cut == counted:
+            for event in events[whole:]:
+                back.apply(event)
+            assert (len(file), back.numbers, back.tables) == behind[-1], cut
+    return len(file) + 1
+
+
+def saved():
+    """Every example day comes back; a bad line tells its place."""
+    cuts = sum(comes_back(path.read_bytes()) for path in sorted((ROOT / 'examples').glob('*.in')))
+    first, second = k.write_settings(SETTINGS), k.write_event(k.Order(5, k.Side.SELL, lots=4, price=10_150))
+    assert refused(14, k.Session.resume, b'').place == 0
+    assert refused(15, k.Session.resume, second).place == 0
+    assert refused(22, k.Session.resume, k.write_settings(replace(SETTINGS, days=367)) + second).place == 0
+    assert refused(15, k.Session.resume, first + second + b'\n').place == len(first + second)
+    assert refused(15, k.Session.resume, first + b't=00').place == len(first) + 3
+    refusal = refused(22, k.Session.resume, first + second + k.write_event(k.Clock(4)) + b'\n')
+    assert refusal.place == len(first + second) and str(refusal).endswith(f'the one at byte {refusal.place}')
+    return cuts
+
+
 def calls():
     """The calls on a session."""
     day = k.Session.open(SETTINGS)
@@ -115,4 +167,4 @@ def header():
 
 calls()
 header()
-print(f'python: {days()} example days, whole, in pieces and by values')
+print(f'python: {days()} example days, whole, in pieces and by values; {saved()} cuts of what is saved of them')

@@ -43,12 +43,16 @@
 //! );
 //! assert!(out.ends_with(b"t=1000 say=trade buy=2 sell=1 qty=1 price=10150\n"));
 //! ```
+//!
+//! An app that may be killed saves the day's lines, and comes back by [`Session::resume`]: docs/LINES.md, "Save and come back".
 #![deny(missing_docs)]
 
 pub mod plain;
 pub mod raw;
+mod saved;
 pub mod terms;
 
+pub use saved::{NoDay, Resumed, Scratch};
 use std::fmt;
 use terms::{at, COUNTS, EVENT, LINE, RECORD, ROOM, RUN, SESSION, SETTINGS, STANDING, TABLE, TEXT};
 pub use terms::{Act, Category, Ends, Event, Kind, Life, Refusal, Report, Settings, Side, Standing, Traded, Why};
@@ -83,9 +87,14 @@ pub struct Session {
 }
 
 impl Session {
+    /// Memory to lend, before any day is in it.
+    fn blank() -> Box<Session> {
+        Box::new(Session { session: [0; SESSION], buys: [0; TABLE], sells: [0; TABLE], room: [0; ROOM] })
+    }
+
     /// Opens a day. Refused by 12 or 13.
     pub fn open(settings: &Settings) -> Result<Box<Session>, Refusal> {
-        let mut day = Box::new(Session { session: [0; SESSION], buys: [0; TABLE], sells: [0; TABLE], room: [0; ROOM] });
+        let mut day = Session::blank();
         answered(raw::open(&settings.to_run(), &mut day.session)).map_err(|(refusal, _)| refusal)?;
         Ok(day)
     }
@@ -93,7 +102,7 @@ impl Session {
     /// Takes up a day that was kept as numbers ([`Session::numbers`], [`Session::tables`]): all three of one moment, or not at all.
     /// Whatever they are, the calls stay safe: numbers that are no sound session are refused by 2. But numbers of two moments can
     /// pass for sound, and then orders that have traded rest again. Where an app may be killed between two writes, the day's lines
-    /// are what it saves: docs/LINES.md, "Save and come back".
+    /// are what it saves, and [`Session::resume`] takes them: docs/LINES.md, "Save and come back".
     pub fn from_numbers(session: [u64; SESSION], buys: [u64; TABLE], sells: [u64; TABLE]) -> Box<Session> {
         Box::new(Session { session, buys, sells, room: [0; ROOM] })
     }

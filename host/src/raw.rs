@@ -44,6 +44,36 @@ extern "C" {
         sells: *const u64,
         sells_len: usize,
     ) -> u64;
+    fn kakoludar_resume(
+        saved: *const u8,
+        saved_len: usize,
+        session: *mut u64,
+        session_len: usize,
+        buys: *mut u64,
+        buys_len: usize,
+        sells: *mut u64,
+        sells_len: usize,
+        place: *mut u64,
+        place_len: usize,
+    ) -> u64;
+    fn kakoludar_resume_lent(
+        saved: *const u8,
+        saved_len: usize,
+        session: *mut u64,
+        session_len: usize,
+        buys: *mut u64,
+        buys_len: usize,
+        sells: *mut u64,
+        sells_len: usize,
+        place: *mut u64,
+        place_len: usize,
+        spare_buys: *mut u64,
+        spare_buys_len: usize,
+        spare_sells: *mut u64,
+        spare_sells_len: usize,
+        room: *mut u64,
+        room_len: usize,
+    ) -> u64;
     fn kakoludar_read_settings(line: *const u8, line_len: usize, settings: *mut u64, settings_len: usize) -> u64;
     fn kakoludar_read_event(line: *const u8, line_len: usize, event: *mut u64, event_len: usize) -> u64;
     fn kakoludar_write_settings(settings: *const u64, settings_len: usize, line: *mut u8, line_len: usize) -> u64;
@@ -152,6 +182,58 @@ pub fn standing(session: &[u64], buys: &[u64], sells: &[u64], standing: &mut [u6
             sells.len(),
             standing.as_mut_ptr(),
             standing.len(),
+        )
+    }
+}
+
+/// Comes back from saved lines: 0 and how many bytes count, in `place`; 1; 14, 15 or 22 and the place. It takes some 52 KiB of stack.
+pub fn resume(saved: &[u8], session: &mut [u64], buys: &mut [u64], sells: &mut [u64], place: &mut [u64]) -> u64 {
+    unsafe {
+        kakoludar_resume(
+            saved.as_ptr(),
+            saved.len(),
+            session.as_mut_ptr(),
+            session.len(),
+            buys.as_mut_ptr(),
+            buys.len(),
+            sells.as_mut_ptr(),
+            sells.len(),
+            place.as_mut_ptr(),
+            place.len(),
+        )
+    }
+}
+
+/// The same with two spare tables and a report room lent to work in, for a thread with a small stack.
+#[allow(clippy::too_many_arguments)]
+pub fn resume_lent(
+    saved: &[u8],
+    session: &mut [u64],
+    buys: &mut [u64],
+    sells: &mut [u64],
+    place: &mut [u64],
+    spare_buys: &mut [u64],
+    spare_sells: &mut [u64],
+    room: &mut [u64],
+) -> u64 {
+    unsafe {
+        kakoludar_resume_lent(
+            saved.as_ptr(),
+            saved.len(),
+            session.as_mut_ptr(),
+            session.len(),
+            buys.as_mut_ptr(),
+            buys.len(),
+            sells.as_mut_ptr(),
+            sells.len(),
+            place.as_mut_ptr(),
+            place.len(),
+            spare_buys.as_mut_ptr(),
+            spare_buys.len(),
+            spare_sells.as_mut_ptr(),
+            spare_sells.len(),
+            room.as_mut_ptr(),
+            room.len(),
         )
     }
 }

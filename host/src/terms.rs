@@ -5,7 +5,7 @@
 use std::fmt;
 
 /// The version of the library that this package is of: 1,000,000 × major + 1,000 × minor + patch.
-pub const VERSION: u64 = 2_000;
+pub const VERSION: u64 = 3_000;
 /// The layout of the numbers that may be stored: number 0 of every session.
 pub const LAYOUT: u64 = 101;
 /// How many numbers a run of settings has.
@@ -28,6 +28,8 @@ pub const RUN: usize = 45;
 pub const STANDING: usize = 14;
 /// How many counts a feed gives: bytes taken, bytes printed.
 pub const COUNTS: usize = 2;
+/// How many numbers a resume gives: the bytes that count, or the place of the first bad line.
+pub const PLACE: usize = 1;
 /// How many bytes of output room a feed asks for: what one line can print at most.
 pub const TEXT: usize = 66_560;
 
@@ -486,8 +488,8 @@ macro_rules! refusals {
         }
 
         impl Refusal {
-            /// Those of the paper, in the order of their numbers, from 1.
-            pub const ALL: [Refusal; 17] = [$(Refusal::$name),*];
+            /// Those of the paper, in the order of their numbers.
+            pub const ALL: [Refusal; [$($number),*].len()] = [$(Refusal::$name),*];
 
             /// Its number.
             pub fn number(self) -> u64 {
@@ -535,6 +537,7 @@ refusals! {
     15 WrongLine "the bytes begin no line of the sort that is due"
     16 ShortLine "line room under 128 bytes"
     17 LargeNumber "a number above 999,999,999 is to be written"
+    22 SavedLine "a saved line that the engine refuses"
 }
 
 impl fmt::Display for Refusal {

@@ -36,6 +36,7 @@ fn sizes_and_places_are_the_headers() {
         ("LINE", LINE),
         ("RUN", RUN),
         ("COUNTS", COUNTS),
+        ("PLACE", PLACE),
         ("TEXT", TEXT),
         ("STANDING", STANDING),
     ];
@@ -84,15 +85,17 @@ fn refusals_are_those_of_the_header_and_of_the_table() {
     let refused: Vec<u64> = constants().iter().filter(|(name, _)| name.starts_with("REFUSED_")).map(|(_, &n)| n).collect();
     assert_eq!(refused.len(), 1 + Refusal::ALL.len());
     let table = LINES.split("## Refusal numbers").nth(1).expect("the table's section");
-    for (number, refusal) in (1..).zip(Refusal::ALL) {
-        assert_eq!((refusal.number(), Refusal::from_number(number)), (number, Some(refusal)));
+    let numbers = Refusal::ALL.map(Refusal::number);
+    assert!(numbers.is_sorted_by(|before, number| before < number));
+    for (number, refusal) in numbers.into_iter().zip(Refusal::ALL) {
+        assert_eq!(Refusal::from_number(number), Some(refusal));
         assert!(refused.contains(&number));
         let row = format!("| {number} | {} |", refusal.words());
         assert!(table.contains(&row), "docs/LINES.md has no row {row}");
         assert_eq!(refusal.to_string(), format!("refused by {number}: {}", refusal.words()));
     }
     assert_eq!(Refusal::from_number(0), None);
-    for unknown in 18..=255 {
+    for unknown in (1..=255).filter(|number| !numbers.contains(number)) {
         let refusal = Refusal::from_number(unknown).expect("a code that is not 0 is a refusal");
         assert_eq!((refusal, refusal.number()), (Refusal::Unknown(unknown as u8), unknown));
     }

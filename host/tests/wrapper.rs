@@ -139,6 +139,36 @@ fn damaged_numbers_are_refused() {
 }
 
 #[test]
+fn a_day_comes_back_from_its_lines() {
+    let mut day = Session::open(&settings()).unwrap();
+    let mut file = write_settings(&settings()).unwrap().to_vec();
+    let opening = file.len();
+    for event in [limit(5, Side::Sell, 4, 10_150), limit(6, Side::Buy, 1, 10_150), Event { time: 60_000, act: Act::Clock }] {
+        day.apply(&event).unwrap();
+        file.extend_from_slice(&write_event(&event).unwrap());
+    }
+    let whole = file.len();
+    file.extend_from_slice(b"t=60001 do=canc");
+    let mut scratch = Scratch::new();
+    for back in
+        [Session::resume(&file), Session::resume_lent(&file, &mut scratch), Session::resume_lent(&file, &mut scratch)]
+    {
+        let Ok(mut back) = back else { panic!("no day came back") };
+        assert_eq!((back.counted, back.day.numbers(), back.day.tables()), (whole, day.numbers(), day.tables()));
+        let reports: Vec<Report> = back.day.apply(&limit(60_001, Side::Buy, 3, 10_150)).unwrap().collect();
+        assert_eq!(reports[1], Report::Trade { time: 60_001, buy: 3, sell: 1, lots: 3, price: 10_150 });
+    }
+
+    let no_day = |bytes: &[u8]| Session::resume(bytes).err().map(|no_day| (no_day.place, no_day.to_string()));
+    let told = |place, words: &str| Some((place, format!("refused by {words}")));
+    assert_eq!(no_day(b"cat="), told(0, "14: the bytes begin a line and hold no whole one; no bytes at all, too"));
+    assert_eq!(no_day(b"cat=x"), told(4, "15: the bytes begin no line of the sort that is due, from byte 4 on"));
+    file.truncate(opening);
+    file.extend_from_slice(b"t=5 do=cancel id=1\n");
+    assert_eq!(no_day(&file), told(opening, "22: a saved line that the engine refuses, the one at byte 79"));
+}
+
+#[test]
 fn lines_are_read_and_written() {
     let line = b"t=61000 do=buy kind=market life=day qty=6\n";
     let (event, taken) = read_event(line).unwrap();

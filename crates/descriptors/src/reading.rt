@@ -24,6 +24,25 @@ pub fn read_some(fd: i32, buf: &mut [u8]) -> Got
     Got::Failed
 }
 
+// Reads until the buffer is full or the input is at its end.
+pub fn fill(fd: i32, buf: &mut [u8]) -> Got
+    ensures { λ r. ⌜ GotWithin (length (now (buf .entry))) r ⌝ }
+{
+    let mut at: usize = 0;
+    while at < buf.len() {
+        match read_some(fd, &mut buf[at..]) {
+            Got::Failed => return Got::Failed,
+            Got::Bytes(n) => {
+                if n == 0 {
+                    return Got::Bytes(at);
+                }
+                at += n;
+            }
+        }
+    }
+    Got::Bytes(at)
+}
+
 // Reads to the end of the input. An input that fills the buffer counts as too long, since its end was not seen.
 pub fn read_whole(fd: i32, buf: &mut [u8]) -> Load
     ensures { λ r. ⌜ LoadWithin (length (now (buf .entry))) r ⌝ }

@@ -10,6 +10,7 @@ use engine_law::Applied;
 use state::opening;
 use state_law::Opened;
 use state_law::Session;
+use tables::flat;
 use tables::lengths;
 use terms::Event;
 use terms::Refusal;
@@ -63,7 +64,7 @@ pub extern "C" fn kakoludar_open(settings: &[u64], session: &mut [u64]) -> u64
     let verdict = o.verdict;
     let s = o.session;
     let numbers = sessions::pack(s);
-    runs::lay(session, &numbers);
+    flat::lay(session, &numbers);
     answer_to(verdict)
 }
 
@@ -87,7 +88,7 @@ fn lay_applied(session: &mut [u64], applied: Applied) -> u64
     match answer {
         Answer::Reported(count) => {
             let numbers = sessions::pack(after);
-            runs::lay(session, &numbers);
+            flat::lay(session, &numbers);
             desk_answers::done(count)
         }
         Answer::Refused(r) => desk_answers::refused(r),

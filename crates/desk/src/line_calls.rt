@@ -7,6 +7,7 @@ use lines_reading_law::ReadEvent;
 use lines_reading_law::ReadSettings;
 use lines_writing_law::Wrote;
 use records_law::ReadRecord;
+use tables::flat;
 use tables::lengths;
 use terms::Refusal;
 use terms::sizes;
@@ -39,7 +40,7 @@ pub extern "C" fn kakoludar_read_event(line: &[u8], event: &mut [u64]) -> u64
     match lines_reading::read_event(line) {
         ReadEvent::Whole(e, n) => {
             let numbers = events::pack(e);
-            runs::lay(event, &numbers);
+            flat::lay(event, &numbers);
             desk_answers::done(n as u64)
         }
         ReadEvent::Unfinished => desk_answers::refused(Refusal::LineUnfinished),
@@ -58,7 +59,7 @@ pub extern "C" fn kakoludar_read_settings(line: &[u8], settings: &mut [u64]) -> 
     match lines_reading::read_settings(line) {
         ReadSettings::Whole(g, n) => {
             let numbers = settings::pack(g);
-            runs::lay(settings, &numbers);
+            flat::lay(settings, &numbers);
             desk_answers::done(n as u64)
         }
         ReadSettings::Unfinished => desk_answers::refused(Refusal::LineUnfinished),

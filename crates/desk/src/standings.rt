@@ -4,6 +4,7 @@ use desk_packing::sessions;
 use engine::standings;
 use engine_law::Standing;
 use engine_law::Stood;
+use tables::flat;
 use terms::Refusal;
 use terms::Verdict;
 ghost use mathlib.Core.Path.{_≡_};
@@ -15,7 +16,7 @@ ghost use Rattle.desk_law.specs.Versions.{version};
 
 pub const STANDING: usize = 14;
 
-pub const VERSION: u64 = 2000;
+pub const VERSION: u64 = 3000;
 
 // The numbers of a standing.
 fn packed(st: Standing) -> [u64; 14]
@@ -52,7 +53,7 @@ fn lay_stood(run: &mut [u64], stood: Stood) -> u64
     match verdict {
         Verdict::Fine => {
             let numbers = packed(st);
-            runs::lay(run, &numbers);
+            flat::lay(run, &numbers);
             desk_answers::done(0)
         }
         Verdict::Refused(r) => desk_answers::refused(r),

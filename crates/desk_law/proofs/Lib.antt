@@ -8,5 +8,8 @@ pub mod Again
 pub mod TextAgain
 pub mod Stands
 pub mod StandsRead
+pub mod Resumes
+pub mod ResumesRead
+pub mod ResumesAgain
 pub mod Determined
 pub mod Turned

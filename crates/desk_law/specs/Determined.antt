@@ -10,6 +10,7 @@ use Rattle.desk_law.specs.Reads.{ReadInto}
 use Rattle.desk_law.specs.Writes.{WrittenOn}
 use Rattle.desk_law.specs.Feeding.{StartedAs, FedAs}
 use Rattle.desk_law.specs.Standings.{StandingOn}
+use Rattle.desk_law.specs.Resuming.{ResumedInto, ResumedLentInto}
 use Rattle.desk_packing_law.specs.Runs.{layout}
 use Rattle.desk_law.specs.Versions.{version}
 
@@ -54,6 +55,30 @@ FeedDetermined =
     FedAs of run bytes buys sells room out counts run₁ buys₁ sells₁ room₁ out₁ counts₁ r₁ →
     FedAs of run bytes buys sells room out counts run₂ buys₂ sells₂ room₂ out₂ counts₂ r₂ →
     Coincide run₁ buys₁ sells₁ room₁ run₂ buys₂ sells₂ room₂ r₁ r₂ × (out₁ ≡ out₂) × (counts₁ ≡ counts₂)
+
+-- all that both calls that resume answer and leave
+pub record SameResumed (run buys sells place run′ buys′ sells′ place′ : List ℕ) (r r′ : ℕ) : Type 0 where
+  pub answer : r ≡ r′
+  pub kept : run ≡ run′
+  pub bought : buys ≡ buys′
+  pub sold : sells ≡ sells′
+  pub placed : place ≡ place′
+
+-- `kakoludar_resume`
+abbrev pub ResumeDetermined : Type 0
+ResumeDetermined =
+    (bytes run buys sells place run₁ buys₁ sells₁ place₁ run₂ buys₂ sells₂ place₂ : List ℕ) (r₁ r₂ : ℕ) →
+    ResumedInto bytes run buys sells place run₁ buys₁ sells₁ place₁ r₁ → ResumedInto bytes run buys sells place run₂ buys₂ sells₂ place₂ r₂ →
+    SameResumed run₁ buys₁ sells₁ place₁ run₂ buys₂ sells₂ place₂ r₁ r₂
+
+-- `kakoludar_resume_lent`, with its scratch
+abbrev pub ResumeLentDetermined : Type 0
+ResumeLentDetermined =
+    (bytes run buys sells place bought sold room run₁ buys₁ sells₁ place₁ bought₁ sold₁ room₁ run₂ buys₂ sells₂ place₂ bought₂ sold₂ room₂ : List ℕ)
+    (r₁ r₂ : ℕ) →
+    ResumedLentInto bytes run buys sells place bought sold room run₁ buys₁ sells₁ place₁ bought₁ sold₁ room₁ r₁ →
+    ResumedLentInto bytes run buys sells place bought sold room run₂ buys₂ sells₂ place₂ bought₂ sold₂ room₂ r₂ →
+    SameResumed run₁ buys₁ sells₁ place₁ run₂ buys₂ sells₂ place₂ r₁ r₂ × (bought₁ ≡ bought₂) × (sold₁ ≡ sold₂) × (room₁ ≡ room₂)
 
 -- `kakoludar_sound` and `kakoludar_view`
 abbrev pub SoundDetermined : Type 0

@@ -3,4 +3,4 @@ use Prim.Native.Nat.{ℕ}
 
 -- the library's number
 abbrev pub version : ℕ
-version = 2000
+version = 3000

@@ -1,8 +1,7 @@
-// How many numbers each value takes, where the sections of a session begin, and how numbers are written into a lent slice.
+// How many numbers each value takes, and where the sections of a session begin.
 ghost use mathlib.Core.Path.{_≡_};
 ghost use Prim.Native.Nat.{_+_, _≤_};
 ghost use lib.ListN.{length};
-ghost use Rattle.tables.specs.Put.{put};
 ghost use Rattle.desk_packing_law.specs.Runs.{tenAt};
 
 pub const SETTINGS: usize = 8;
@@ -24,18 +23,6 @@ pub const LIVE_AT: usize = 14;
 pub const RECKONING_AT: usize = 17;
 
 pub const TAPE_AT: usize = 20;
-
-// Writes numbers to the front of a slice; what lies past them is as it was.
-pub fn lay(run: &mut [u64], ns: &[u64])
-    requires { ⌜ length (now ns) ≤ length (now run) ⌝ }
-    ensures { λ _. ⌜ now (run .exit) ≡ put (now (run .entry)) 0 (now (ns .entry)) ⌝ }
-{
-    let mut j: usize = 0;
-    while j < ns.len() {
-        run[j] = ns[j];
-        j += 1;
-    }
-}
 
 // Ten numbers of a slice, as an array.
 pub fn ten_at(ns: &[u64], at: usize) -> [u64; 10]

@@ -1,5 +1,4 @@
 pub mod Codes
-pub mod Lays
 pub mod Listed
 pub mod Packs
 pub mod Inverse

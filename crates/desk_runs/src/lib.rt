@@ -1,10 +1,10 @@
 // desk_runs: a run of the program between two pieces of its input, as 45 numbers, for apps that keep and hand over nothing else.
 // It may use feed_law, desk_packing_law and desk_packing, and what these use. It promises: packing and unpacking are the definitions of
 // desk_packing_law, for any numbers whatever; numbers that are no run's are a run that is over, which takes no byte and prints none.
-use desk_packing::runs;
 use desk_packing::sessions;
 use feed_law::Run;
 use feed_law::Stage;
+use tables::flat;
 ghost use mathlib.Core.Path.{_≡_};
 ghost use Prim.Native.Nat.{_≤_, _<_};
 ghost use mathlib.Core.List.{_∷_};
@@ -71,7 +71,7 @@ fn lay_behind(ns: &mut [u64], first: u64, rest: &[u64])
     requires { ⌜ length (now rest) < length (now ns) ⌝ }
     ensures { λ _. ⌜ now (ns .exit) ≡ put (now (ns .entry)) 0 (first ∷ now (rest .entry)) ⌝ }
 {
-    runs::lay(&mut ns[1..], rest);
+    flat::lay(&mut ns[1..], rest);
     ns[0] = first;
 }
 

@@ -61,7 +61,7 @@ found-long buys sells room found h n =
     let q = both (p .0) in
     record { buys-long = leb-true _ _ (q .0); sells-long = leb-true _ _ (q .1); room-long = leb-true _ _ (p .1) }
 
-long-roomy : {buys sells room : List ℕ} → LongEnough buys sells room → roomy buys sells room ≡ true
+pub long-roomy : {buys sells room : List ℕ} → LongEnough buys sells room → roomy buys sells room ≡ true
 unfolding roomy
 long-roomy g = make (make (le-leb _ _ (g .buys-long)) (le-leb _ _ (g .sells-long))) (le-leb _ _ (g .room-long))
 

@@ -1,4 +1,6 @@
 pub mod Kept
+pub mod Joined
+pub mod Left
 pub mod Listing
 pub mod Starts
 pub mod Dones

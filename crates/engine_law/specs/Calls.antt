@@ -31,7 +31,12 @@ use Rattle.engine_law.specs.Outcome.{Outcome, decided}
 unfoldable pub roomy : List ℕ → List ℕ → List ℕ → Bool
 roomy buys sells room = leb tableLength (length buys) ⊓ leb tableLength (length sells) ⊓ leb roomLength (length room)
 
--- the same, as facts about lengths
+-- both tables are long enough
+pub record LongTables (buys sells : List ℕ) : Type 0 where
+  pub buys-long : tableLength ≤ length buys
+  pub sells-long : tableLength ≤ length sells
+
+-- the tables and the room are
 pub record LongEnough (buys sells room : List ℕ) : Type 0 where
   pub buys-long : tableLength ≤ length buys
   pub sells-long : tableLength ≤ length sells

@@ -4,10 +4,15 @@ use native.Mathlib.Omega.{arith}
 use mathlib.Core.Path.{_≡_, refl, sym, ap, _∙_}
 use mathlib.Core.List.{List, [], _++_}
 use lib.ListN.{length, length-append}
+use Rattle.terms.specs.declared.Event.{Event}
+use Rattle.terms.specs.declared.Settings.{Settings}
+use Rattle.terms.specs.declared.Refusal.{Refusal}
+use Rattle.terms.specs.declared.Verdict.{Verdict}
+use Rattle.terms.specs.declared.Verdict.the-variants.{Fine, Refused}
 use Rattle.terms.specs.Sizes.{lineRoom}
 use Rattle.lines_text_law.specs.Grammar.{LineAnswer, whole, unfinished, wrong}
 use Rattle.lines_text_law.specs.Reading.{LineOf, Begins, Right}
-use Rattle.lines_text_law.proofs.Sorts.{Lawful}
+use Rattle.lines_text_law.proofs.Sorts.{Lawful, not-whole, not-wrong, some, stays}
 use Rattle.lines_reading_law.specs.Answers.{readEvent, readSettings}
 use Rattle.lines_reading_law.proofs.EventLines.{event-lines}
 use Rattle.lines_reading_law.proofs.SettingsLines.{settings-lines}
@@ -16,14 +21,7 @@ use Rattle.state_law.specs.Opening.{openingOf}
 use Rattle.feed_law.specs.declared.Stage.{Stage}
 use Rattle.feed_law.specs.declared.Stop.{Stop}
 use Rattle.feed_law.specs.Worlds.{World}
-use Rattle.feed_law.specs.Turns.{Turn, waits, ends, openTurn, applyTurn, lineTurn, settingsTurn, eventTurn, turnOf, stopAt}
-use Rattle.feed_law.proofs.Longer.{right-longer}
-
-not-whole : {E : Type 0} {o : LineAnswer E} {e : E} {n : ℕ} → o ≡ whole e n → o ≡ unfinished → ⊥
-not-whole p q = let z : _≡_ {A = ℕ} 0 1 = cc in omega arith
-
-not-wrong : {E : Type 0} {o : LineAnswer E} {n : ℕ} → o ≡ wrong n → o ≡ unfinished → ⊥
-not-wrong p q = let z : _≡_ {A = ℕ} 0 1 = cc in omega arith
+use Rattle.feed_law.specs.Turns.{Turn, waits, ends, openTurn, applyTurn, lineTurn, savesBy, settingsTurn, eventTurn, turnOf, stopAt}
 
 pub not-waits : Stop.Over ≡ Stop.Waits → ⊥
 not-waits p = let z : _≡_ {A = ℕ} 0 1 = cc in omega arith
@@ -31,14 +29,6 @@ not-waits p = let z : _≡_ {A = ℕ} 0 1 = cc in omega arith
 -- ---- lines of any sort
 
 module _ {E : Type 0} {render figures : E → List ℕ} {read : List ℕ → LineAnswer E} (lines : Lawful render figures read) where
-  -- every line has at least one byte
-  some : (s : List ℕ) (e : E) (n : ℕ) → Right (LineOf render figures) s (whole e n) → n ≡ 0 → ⊥
-  some s e n r z = not-whole (lines .only [] (read []) (whole e 0) (lines .right []) (omega arith, rw z at (r .1))) (lines .none)
-
-  -- an answer stays when more bytes follow, unless it was "unfinished"
-  stays : (xs ys : List ℕ) (o : LineAnswer E) → (o ≡ unfinished → ⊥) → Right (LineOf render figures) xs o → read (xs ++ ys) ≡ o
-  stays xs ys o n r = lines .only (xs ++ ys) _ _ (lines .right (xs ++ ys)) (right-longer (LineOf render figures) xs ys o n r)
-
   -- where lines are short, so are their starts
   start-short : ((e : E) → length (render e) ≤ lineRoom) → (s : List ℕ) → Begins (LineOf render figures) s → length s ≤ lineRoom
   start-short short s (e, rest, l) =
@@ -76,6 +66,17 @@ module _ {W : Type 0} (on : World W) where
       line-sort event-lines event-short Stage.Trading w (applyTurn on w) (λ n e. refl) (λ s. refl) xs ys (readEvent xs) refl (event-lines .right xs)
   sort Stage.Over w xs ys = waiting (λ s. absurd (not-waits s)) refl
 
+  -- the line of an accepted event is saved, all of it, and that of a refused one is not
+  module _ (w : W) (bytes : List ℕ) (e : Event) (n : ℕ) (q : readEvent bytes ≡ whole e n) where
+    saves-by : (v : Verdict) → on .verdict w e ≡ v → turnOf on Stage.Trading w bytes .saves ≡ savesBy v n
+    saves-by v h = ap (λ (o : LineAnswer Event). eventTurn on w o .saves) q ∙ ap (λ (x : Verdict). savesBy x n) h
+
+    pub accepted-saved : on .verdict w e ≡ Fine → turnOf on Stage.Trading w bytes .saves ≡ n
+    accepted-saved h = saves-by Fine h
+
+    pub refused-unsaved : (r : Refusal) → on .verdict w e ≡ Refused r → turnOf on Stage.Trading w bytes .saves ≡ 0
+    refused-unsaved r h = saves-by (Refused r) h
+
   -- where there are no bytes, no line is taken
   pub turn-none : (stage : Stage) (w : W) → turnOf on stage w [] ≡ waits on stage w
   turn-none Stage.Awaiting w = ap (settingsTurn on w) (settings-lines .none)
@@ -85,6 +86,29 @@ module _ {W : Type 0} (on : World W) where
   module _ (stage : Stage) (w : W) (xs : List ℕ) where
     abbrev t : Turn W
     t = turnOf on stage w xs
+
+    -- no more bytes are saved than are taken
+    pub turn-saves : t .saves ≤ t .used
+    turn-saves = by-stage stage
+      where
+        by-verdict : (v : Verdict) (n : ℕ) → savesBy v n ≤ n
+        by-verdict Fine n = omega arith
+        by-verdict (Refused r) n = omega arith
+
+        by-settings : (o : LineAnswer Settings) → settingsTurn on w o .saves ≤ settingsTurn on w o .used
+        by-settings (whole g n) = by-verdict (openingOf g .verdict) n
+        by-settings unfinished = omega arith
+        by-settings (wrong n) = omega arith
+
+        by-event : (o : LineAnswer Event) → eventTurn on w o .saves ≤ eventTurn on w o .used
+        by-event (whole e n) = by-verdict (on .verdict w e) n
+        by-event unfinished = omega arith
+        by-event (wrong n) = omega arith
+
+        by-stage : (s : Stage) → turnOf on s w xs .saves ≤ turnOf on s w xs .used
+        by-stage Stage.Awaiting = by-settings (readSettings xs)
+        by-stage Stage.Trading = by-event (readEvent xs)
+        by-stage Stage.Over = omega arith
 
     -- no more bytes are taken than are there
     pub turn-within : t .used ≤ length xs

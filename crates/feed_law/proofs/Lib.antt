@@ -2,7 +2,6 @@ pub mod Prints
 pub mod Taking
 pub mod Going
 pub mod Ending
-pub mod Longer
 pub mod First
 pub mod Pieces
 pub mod Starts

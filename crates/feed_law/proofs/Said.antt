@@ -5,9 +5,9 @@ use mathlib.Core.Path.{_≡_}
 use mathlib.Core.List.{List}
 use Rattle.terms.specs.declared.Event.{Event}
 use Rattle.terms.specs.declared.Refusal.{Refusal}
-use Rattle.terms.specs.declared.Refusal.the-variants.{SmallRoom, Unsound, Closed, NumberRange, TimeBack, OutOfHours, OffTick, OutsideBand, NotResting, SideFull, DayFull, SettingsRange, SettingsOffTick, LineUnfinished, LineWrong, SmallLineRoom, NumberLong}
 use Rattle.terms.specs.Sizes.{writtenMost}
 use Rattle.terms.specs.Refusals.{numberOf}
+use Rattle.terms.proofs.Refusals.{refusal-number}
 use Rattle.lines_text_law.specs.Grammar.{whole}
 use Rattle.lines_text_law.proofs.Fills.{writable-tested}
 use Rattle.lines_reading_law.specs.Answers.{readEvent}
@@ -16,23 +16,7 @@ use Rattle.lines_writing_law.specs.Lines.{refusedFigures, renderRefused, badFig
 use Rattle.feed_law.specs.Texts.{refusedText, badText}
 
 number-small : (r : Refusal) → numberOf r ≤ writtenMost
-number-small SmallRoom = omega arith
-number-small Unsound = omega arith
-number-small Closed = omega arith
-number-small NumberRange = omega arith
-number-small TimeBack = omega arith
-number-small OutOfHours = omega arith
-number-small OffTick = omega arith
-number-small OutsideBand = omega arith
-number-small NotResting = omega arith
-number-small SideFull = omega arith
-number-small DayFull = omega arith
-number-small SettingsRange = omega arith
-number-small SettingsOffTick = omega arith
-number-small LineUnfinished = omega arith
-number-small LineWrong = omega arith
-number-small SmallLineRoom = omega arith
-number-small NumberLong = omega arith
+number-small r = omega (arith, refusal-number r .1)
 
 -- an event that was read has a time that can be written
 pub refused-said : (s : List ℕ) (e : Event) (n : ℕ) (r : Refusal) → readEvent s ≡ whole e n → refusedText (e .time) r ≡ renderRefused (e .time) r

@@ -62,13 +62,14 @@ freshRun = record { stage = Stage.Awaiting; session = fixedSession }
 abbrev pub turnBy : Run → List ℕ → List ℕ → List ℕ → List ℕ → Turn Lent
 turnBy run buys sells room bytes = turnOf calls (run .stage) (lentOf (run .session) buys sells room) bytes
 
-abbrev pub turnedTo : Stage → Session → ℕ → ℕ → Turned
-turnedTo stage session used wrote = record { run = record { stage = stage; session = session }; used = used; wrote = wrote }
+abbrev pub turnedTo : Stage → Session → ℕ → ℕ → ℕ → Turned
+turnedTo stage session used saves wrote = record { run = record { stage = stage; session = session }; used = used; saves = saves; wrote = wrote }
 
 pub record TurnedAs (t : Turn Lent) (out buys′ sells′ room′ out′ : List ℕ) (r : Turned) : Type 0 where
   pub stage : r .run .stage ≡ t .stage
   pub world : lentOf (r .run .session) buys′ sells′ room′ ≡ t .world
   pub used : r .used ≡ t .used
+  pub saves : r .saves ≡ t .saves
   pub printed : Prints out (t .text) (r .wrote) out′
 
 -- the tables play no part in this turn: it is the same whatever they hold
@@ -95,6 +96,7 @@ pub record EventTurned (session : Session) (bytes buys sells room out buys′ se
 pub record TurnTaken (run : Run) (buys sells room bytes out buys′ sells′ room′ out′ : List ℕ) (r : Turned) : Type 0 where
   pub turned : TurnedAs (turnBy run buys sells room bytes) out buys′ sells′ room′ out′ r
   pub used-there : r .used ≤ length bytes
+  pub saves-there : r .saves ≤ length bytes
   pub wrote-there : r .wrote ≤ length out
 
 -- the same for the line from a place of the bytes on, printed behind what was written before

@@ -3,3 +3,4 @@ pub mod Worlds
 pub mod Turns
 pub mod Feeds
 pub mod Pieces
+pub mod Saving

@@ -19,11 +19,13 @@ use Rattle.feed_law.specs.declared.Stop.{Stop}
 use Rattle.feed_law.specs.Texts.{mostAt, eventText, settingsText, badText, endText}
 use Rattle.feed_law.specs.Worlds.{World, days}
 
--- what the first line of some bytes comes to: where the run stands then, how many bytes the line has (0 where none was taken), what it prints
+-- what the first line of some bytes comes to: where the run stands then, how many bytes the line has (0 where none was taken), how many of
+-- them are to be saved, what it prints
 pub record Turn (W : Type 0) : Type 0 where
   pub stage : Stage
   pub world : W
   pub used : ℕ
+  pub saves : ℕ
   pub text : List ℕ
 
 -- what many lines come to: where the run stands then, how many bytes were taken, what is printed, and why no more were taken
@@ -39,6 +41,11 @@ abbrev pub stageBy : Verdict → Stage
 stageBy Fine = Stage.Trading
 stageBy (Refused r) = Stage.Over
 
+-- document 02, item 4: "The app saves each accepted event as its line, after the settings line"; all of a line, or nothing
+abbrev pub savesBy : Verdict → ℕ → ℕ
+savesBy Fine n = n
+savesBy (Refused r) n = 0
+
 abbrev pub stopAt : Stage → Stop
 stopAt Stage.Awaiting = Stop.Waits
 stopAt Stage.Trading = Stop.Waits
@@ -49,18 +56,32 @@ module _ {W : Type 0} (on : World W) where
 
   -- the bytes hold no whole line yet: nothing is taken or printed
   abbrev pub waits : Stage → W → Turn W
-  waits stage w = record { stage = stage; world = w; used = 0; text = [] }
+  waits stage w = record { stage = stage; world = w; used = 0; saves = 0; text = [] }
 
   -- a wrong line is told as bad, and ends the run
   abbrev pub ends : W → ℕ → Turn W
-  ends w place = record { stage = Stage.Over; world = w; used = 0; text = badText LineWrong place }
+  ends w place = record { stage = Stage.Over; world = w; used = 0; saves = 0; text = badText LineWrong place }
 
   -- settings open the session or end the run; an event is applied
   abbrev pub openTurn : W → ℕ → Opened → Turn W
-  openTurn w n o = record { stage = stageBy (o .verdict); world = on .opened w (o .session); used = n; text = settingsText (o .verdict) }
+  openTurn w n o =
+      record {
+        stage = stageBy (o .verdict);
+        world = on .opened w (o .session);
+        used = n;
+        saves = savesBy (o .verdict) n;
+        text = settingsText (o .verdict);
+      }
 
   abbrev pub applyTurn : W → ℕ → Event → Turn W
-  applyTurn w n e = record { stage = Stage.Trading; world = on .next w e; used = n; text = eventText e (on .verdict w e) (on .reports w e) }
+  applyTurn w n e =
+      record {
+        stage = Stage.Trading;
+        world = on .next w e;
+        used = n;
+        saves = savesBy (on .verdict w e) n;
+        text = eventText e (on .verdict w e) (on .reports w e);
+      }
 
   -- what a reader's answer comes to: a whole line comes to k
   abbrev pub lineTurn : {E : Type 0} → Stage → W → (ℕ → E → Turn W) → LineAnswer E → Turn W

@@ -27,10 +27,12 @@ pub enum Stop {
     Refused(Refusal),
 }
 
-// What one line came to: where the run stands after it, how many bytes it has (0 where none was taken), and how many were printed.
+// What one line came to: where the run stands after it, how many bytes it has (0 where none was taken), how many of them are to be saved, and
+// how many were printed.
 pub struct Turned {
     pub run: Run,
     pub used: usize,
+    pub saves: usize,
     pub wrote: usize,
 }
 

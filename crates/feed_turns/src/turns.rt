@@ -20,9 +20,9 @@ ghost use Rattle.terms.specs.Sizes.{lineRoom};
 ghost use Rattle.feed_law.specs.Texts.{textMost, mostAt};
 ghost use Rattle.feed_law.specs.Feeds.{turnedTo, BadTurned, OpenTurned, WholeTurned, SettingsTurned, EventTurned, TurnTaken};
 
-// The answer about a line: where the run stands after it, how many bytes were taken and how many printed.
-fn turned(stage: Stage, session: Session, used: usize, wrote: usize) -> Turned
-    ensures { λ r. ⌜ r ≡ turnedTo stage session used wrote ⌝ }
+// The answer about a line: where the run stands after it, how many bytes were taken, how many of them are to be saved, and how many printed.
+fn turned(stage: Stage, session: Session, used: usize, saves: usize, wrote: usize) -> Turned
+    ensures { λ r. ⌜ r ≡ turnedTo stage session used saves wrote ⌝ }
 {
     Turned {
         run: Run {
@@ -30,6 +30,7 @@ fn turned(stage: Stage, session: Session, used: usize, wrote: usize) -> Turned
             session: session,
         },
         used: used,
+        saves: saves,
         wrote: wrote,
     }
 }
@@ -40,7 +41,7 @@ fn bad_line(session: Session, place: usize, out: &mut [u8]) -> Turned
     ensures { λ r. ⌜ BadTurned session place (now (out .entry)) (now (out .exit)) r ⌝ }
 {
     let wrote = printing::tell_bad(Refusal::LineWrong, place, out);
-    turned(Stage::Over, session, 0, wrote)
+    turned(Stage::Over, session, 0, 0, wrote)
 }
 
 // Opens the session of a whole line of settings, or tells that they are refused and ends the run.
@@ -52,10 +53,10 @@ fn opens(settings: Settings, used: usize, out: &mut [u8]) -> Turned
     let verdict = o.verdict;
     let opened = o.session;
     match verdict {
-        Verdict::Fine => turned(Stage::Trading, opened, used, 0),
+        Verdict::Fine => turned(Stage::Trading, opened, used, used, 0),
         Verdict::Refused(refusal) => {
             let wrote = printing::tell_bad(refusal, 0, out);
-            turned(Stage::Over, opened, used, wrote)
+            turned(Stage::Over, opened, used, 0, wrote)
         }
     }
 }
@@ -67,7 +68,7 @@ fn settings_line(session: Session, bytes: &[u8], out: &mut [u8]) -> Turned
 {
     match lines_reading::read_settings(bytes) {
         ReadSettings::Whole(settings, used) => opens(settings, used, out),
-        ReadSettings::Unfinished => turned(Stage::Awaiting, session, 0, 0),
+        ReadSettings::Unfinished => turned(Stage::Awaiting, session, 0, 0, 0),
         ReadSettings::Wrong(place) => bad_line(session, place, out),
     }
 }
@@ -92,11 +93,27 @@ fn goes(
     match answer {
         Answer::Reported(count) => {
             let wrote = printing::tell_records(room, count, out);
-            turned(Stage::Trading, after, used, wrote)
+            Turned {
+                run: Run {
+                    stage: Stage::Trading,
+                    session: after,
+                },
+                used: used,
+                saves: used,
+                wrote: wrote,
+            }
         }
         Answer::Refused(refusal) => {
             let wrote = printing::tell_refused(time, refusal, out);
-            turned(Stage::Trading, after, used, wrote)
+            Turned {
+                run: Run {
+                    stage: Stage::Trading,
+                    session: after,
+                },
+                used: used,
+                saves: 0,
+                wrote: wrote,
+            }
         }
     }
 }
@@ -115,7 +132,7 @@ fn event_line(
 {
     match lines_reading::read_event(bytes) {
         ReadEvent::Whole(event, used) => goes(session, event, used, buys, sells, room, out),
-        ReadEvent::Unfinished => turned(Stage::Trading, session, 0, 0),
+        ReadEvent::Unfinished => turned(Stage::Trading, session, 0, 0, 0),
         ReadEvent::Wrong(place) => bad_line(session, place, out),
     }
 }
@@ -137,6 +154,6 @@ pub fn turn(
     match stage {
         Stage::Awaiting => settings_line(session, bytes, out),
         Stage::Trading => event_line(session, bytes, buys, sells, room, out),
-        Stage::Over => turned(Stage::Over, session, 0, 0),
+        Stage::Over => turned(Stage::Over, session, 0, 0, 0),
     }
 }

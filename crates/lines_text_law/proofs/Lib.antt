@@ -4,4 +4,5 @@ pub mod Rightness
 pub mod Steps
 pub mod Rooms
 pub mod Fills
+pub mod Longer
 pub mod Sorts

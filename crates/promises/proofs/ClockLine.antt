@@ -39,7 +39,7 @@ use Rattle.acts_law.proofs.Pieces.{EachTold, clock-each}
 use Rattle.acts_law.proofs.Stays.{act-stays}
 use Rattle.engine_law.specs.Outcome.{Outcome, decided, outcome, after, told}
 use Rattle.engine_law.proofs.Kept.{outcome-verdict, accepted-sound}
-use Rattle.promises.proofs.Runs.{told-append}
+use Rattle.engine_law.proofs.Joined.{told-append}
 use Rattle.promises.specs.ClockLine.{clockAt, plainOne, plain, Reply, replies, From, ClockLine}
 
 -- ---- the day after an accepted clock event, called the ticked day

@@ -1,5 +1,7 @@
 -- Each contract gives the result by an equation, or fixes the one right answer to bytes, so two results for one input are equal.
+use Prim.Native.Nat.{ℕ}
 use mathlib.Core.Path.{_≡_, refl, sym, ap, _∙_}
+use mathlib.Core.List.{List}
 use Rattle.terms.specs.declared.Event.{Event}
 use Rattle.terms.specs.declared.Settings.{Settings}
 use Rattle.lines_text_law.specs.Grammar.{LineAnswer, whole, unfinished, wrong}
@@ -11,7 +13,10 @@ use Rattle.lines_reading_law.proofs.SettingsLines.{settings-lines}
 use Rattle.records_law.proofs.Told.{told-only}
 use Rattle.lines_writing_law.proofs.Back.{writes-one}
 use Rattle.feed_law.specs.Worlds.{Lent, lentOf}
-use Rattle.promises.specs.Determined.{CheckDetermined, OpeningDetermined, ViewDetermined, StandingDetermined, ApplyDetermined, EventReadDetermined, SettingsReadDetermined, WriteDetermined, RecordReadDetermined, WalkDetermined, StartDetermined, FeedDetermined}
+use Rattle.resume_law.specs.declared.Resumed.{Resumed}
+use Rattle.resume_law.specs.Rebuilt.{Rebuilt}
+use Rattle.resume_law.specs.Calls.{ResumedBy}
+use Rattle.promises.specs.Determined.{CheckDetermined, OpeningDetermined, ViewDetermined, StandingDetermined, ApplyDetermined, EventReadDetermined, SettingsReadDetermined, WriteDetermined, RecordReadDetermined, WalkDetermined, StartDetermined, FeedDetermined, SameResumed, ResumeDetermined, ResumeLentDetermined}
 
 pub check-determined : CheckDetermined
 check-determined g r r′ e f = e ∙ sym f
@@ -92,3 +97,23 @@ feed-determined of run buys sells room bytes out buys₁ sells₁ room₁ out₁
       told = ap (λ (l : Lent). l .room) w;
       printed = a .printed .laid ∙ sym (b .printed .laid);
     }
+
+-- what a call that comes back leaves, given what the bytes come to
+resumed-one : (x : Rebuilt) (buys sells buys₁ sells₁ buys₂ sells₂ : List ℕ) (r₁ r₂ : Resumed) → ResumedBy x buys sells buys₁ sells₁ r₁ →
+    ResumedBy x buys sells buys₂ sells₂ r₂ → SameResumed r₁ r₂ buys₁ sells₁ buys₂ sells₂
+resumed-one x buys sells buys₁ sells₁ buys₂ sells₂ r₁ r₂ a b =
+    record {
+      answer = a .answer ∙ sym (b .answer);
+      session = a .session ∙ sym (b .session);
+      bought = a .bought ∙ sym (b .bought);
+      sold = a .sold ∙ sym (b .sold);
+    }
+
+pub resume-determined : ResumeDetermined
+resume-determined bytes buys sells buys₁ sells₁ buys₂ sells₂ r₁ r₂ a b = resumed-one _ buys sells buys₁ sells₁ buys₂ sells₂ r₁ r₂ a b
+
+pub resume-lent-determined : ResumeLentDetermined
+resume-lent-determined bytes buys sells bought sold room buys₁ sells₁ bought₁ sold₁ room₁ buys₂ sells₂ bought₂ sold₂ room₂ r₁ r₂ a b =
+    let s = a .scratch in
+    let t = b .scratch in
+    (resumed-one _ buys sells buys₁ sells₁ buys₂ sells₂ r₁ r₂ (a .resumed) (b .resumed), s .first ∙ sym (t .first), s .second ∙ sym (t .second), s .third ∙ sym (t .third))

@@ -33,7 +33,8 @@ use Rattle.promises.specs.Within.{TradesWithin}
 use Rattle.promises.specs.Slabs.{NeverNarrows, WidensAfterTouch, WidensToEnhanced, WidensOnce}
 use Rattle.promises.specs.Standings.{StandsSaid}
 use Rattle.promises.specs.Always.{AlwaysSound, NeverTwo, TimeForward, ReportsForward, ReportsFit}
-use Rattle.promises.proofs.Runs.{after-append, run-sound, run-forward, run-kept, run-counts, run-settings, run-tells, run-widens, run-once, run-asked}
+use Rattle.engine_law.proofs.Joined.{after-append}
+use Rattle.promises.proofs.Runs.{run-sound, run-forward, run-kept, run-counts, run-settings, run-tells, run-widens, run-once, run-asked}
 
 -- a day without orders
 abbrev pub emptyDay : Session → Day

@@ -10,3 +10,5 @@ pub mod Calls
 pub mod Seen
 pub mod Determined
 pub mod Printing
+pub mod Resuming
+pub mod Keeping

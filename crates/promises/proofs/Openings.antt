@@ -44,7 +44,7 @@ by-opening P g f h = go (settingsVerdict g) refl
     go (Refused r) e = h r e
 
 -- no order is live after an opening, whatever lies in the tables
-opening-held : (g : Settings) (buys sells : List ℕ) → dayHeld (openedOn (openingOf g) buys sells) ≡ firstDay g
+pub opening-held : (g : Settings) (buys sells : List ℕ) → dayHeld (openedOn (openingOf g) buys sells) ≡ firstDay g
 unfolding openedSession fixedSession decode
 opening-held g buys sells = by-opening (λ (o : Opened). dayHeld (openedOn o buys sells) ≡ emptyDay (o .session)) g (λ e. refl) (λ r e. refl)
 

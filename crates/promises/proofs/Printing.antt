@@ -28,12 +28,11 @@ use Rattle.lines_text_law.specs.Grammar.{LineAnswer, whole, unfinished, wrong}
 use Rattle.lines_reading_law.specs.Answers.{readEvent, readSettings}
 use Rattle.state_law.specs.Opening.{openedBy, openingOf, openedSession, fixedSession}
 use Rattle.state_law.specs.Day.{Day}
-use Rattle.soundness_law.specs.Sound.{dayIn, soundBy}
-use Rattle.soundness_law.proofs.Clocked.{session-clocked}
-use Rattle.soundness_law.proofs.Days.{sound-day}
+use Rattle.soundness_law.specs.Sound.{dayIn}
 use Rattle.engine_law.specs.Outcome.{Outcome, outcome}
 use Rattle.engine_law.specs.Calls.{roomy, called, tableBy}
-use Rattle.engine_law.proofs.Kept.{accepted-sound, outcome-few}
+use Rattle.engine_law.proofs.Kept.{outcome-few}
+use Rattle.engine_law.proofs.Left.{sides-few, outcome-day}
 use Rattle.engine_law.proofs.Applies.{called-outcome}
 use Rattle.feed_law.specs.declared.Run.{Run}
 use Rattle.feed_law.specs.declared.Stage.{Stage}
@@ -45,10 +44,8 @@ use Rattle.feed_law.specs.Feeds.{Feed, TakenAs, feedVerdict, fedBy, fedOf, ende
 use Rattle.feed_law.proofs.Going.{fed-by}
 use Rattle.feed_law.proofs.Pieces.{pieces, end-prints-rest}
 use Rattle.feed_law.proofs.Starts.{end-world}
-use Rattle.promises.specs.Runs.{Held}
 use Rattle.promises.specs.Printed.{Holding, atStart, dayOn, Piece, PieceFed, Feeding, toPrint, FeedingPrints, EndPrints, ProgramPrints}
 use Rattle.promises.specs.Printed.Feeding.{ends, feeds}
-use Rattle.promises.proofs.Tables.{Left, outcome-day}
 
 -- ---- the day that lent numbers hold
 
@@ -84,41 +81,17 @@ module _ (l : Lent) (e : Event) (long : Long l) where
   comes-to : called (l .session) e (l .buys) (l .sells) (l .room) ≡ o
   comes-to = called-outcome (l .session) e (l .buys) (l .sells) (l .room) long
 
-  abbrev before : Held
-  before = record { session = l .session; buys = l .buys; sells = l .sells }
-
-  abbrev afterwards : Held
-  afterwards = record { session = l′ .session; buys = l′ .buys; sells = l′ .sells }
-
-  left : Left o before (o .reports) afterwards
-  unfolding calls
-  left =
-      record {
-        session = ap (λ (x : Outcome). x .day .session) comes-to;
-        buys = ap (λ (x : Outcome). tableBy (x .verdict) (x .day .buys) (l .buys)) comes-to;
-        sells = ap (λ (x : Outcome). tableBy (x .verdict) (x .day .sells) (l .sells)) comes-to;
-        reports = refl;
-      }
-
   next-day : dayLent l′ ≡ days .next (dayLent l) e
-  unfolding days
-  next-day = outcome-day before afterwards e (o .reports) left
+  unfolding calls days
+  next-day =
+      outcome-day (l .session) (l′ .session) (l .buys) (l .sells) (l′ .buys) (l′ .sells) e (ap (λ (x : Outcome). x .day .session) comes-to)
+      (ap (λ (x : Outcome). tableBy (x .verdict) (x .day .buys) (l .buys)) comes-to)
+      (ap (λ (x : Outcome). tableBy (x .verdict) (x .day .sells) (l .sells)) comes-to)
 
   -- it leaves tables and room long enough
-  few : (side : List Order) (n : ℕ) → n ≡ length side → n ≤ slots → length side ≤ slots
-  few side n q h = rw q at h
-
   table-kept : (v : Verdict) (os : List Order) (t : List ℕ) → (v ≡ Fine → length os ≤ slots) → tableLength ≤ length t → length (tableBy v os t) ≡ length t
   table-kept Fine os t f h = length-tableOf os t (f refl) h
   table-kept (Refused r) os t f h = refl
-
-  sides-few : o .verdict ≡ Fine → (length (o .day .buys) ≤ slots) × (length (o .day .sells) ≤ slots)
-  unfolding soundBy
-  sides-few v =
-      let s = accepted-sound (dayLent l) e v in
-      let d = sound-day (o .day) s in
-      let c = session-clocked (o .day .session) (both (both s .0) .0) in
-      (few (o .day .buys) (o .day .session .live .buys) (d .buys-counted) (c .buys-few), few (o .day .sells) (o .day .session .live .sells) (d .sells-counted) (c .sells-few))
 
   all-long : (tableLength ≤ length (l .buys)) × (tableLength ≤ length (l .sells)) × (roomLength ≤ length (l .room))
   unfolding roomy
@@ -127,8 +100,8 @@ module _ (l : Lent) (e : Event) (long : Long l) where
   next-long : Long l′
   unfolding calls roomy
   next-long =
-      let b = table-kept (o .verdict) (o .day .buys) (l .buys) (λ v. sides-few v .0) (all-long .0) in
-      let s = table-kept (o .verdict) (o .day .sells) (l .sells) (λ v. sides-few v .1) (all-long .1) in
+      let b = table-kept (o .verdict) (o .day .buys) (l .buys) (λ v. sides-few (dayLent l) e v .0) (all-long .0) in
+      let s = table-kept (o .verdict) (o .day .sells) (l .sells) (λ v. sides-few (dayLent l) e v .1) (all-long .1) in
       let n = length-records (o .reports) in
       let m = outcome-few (dayLent l) e in
       let fit : 0 + length (recordsOf (o .reports)) ≤ length (l .room) = omega (arith, all-long .2) in

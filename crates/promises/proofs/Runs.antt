@@ -23,20 +23,6 @@ use Rattle.engine_law.specs.Outcome.{outcome, after, told}
 use Rattle.engine_law.proofs.Kept.{outcome-sound, outcome-kept, outcome-counts, outcome-tells, outcome-widens, outcome-once, outcome-settings, outcome-forward, outcome-given, accepted-asks, asks-old, asks-new}
 use Rattle.promises.specs.Lots.{asked}
 
--- ---- one run after another
-
-pub after-append : (d : Day) (es more : List Event) → after d (es ++ more) ≡ after (after d es) more
-unfolding after
-after-append d [] more = refl
-after-append d (e ∷ es) more = after-append (outcome d e .day) es more
-
-pub told-append : (d : Day) (es more : List Event) → told d (es ++ more) ≡ told d es ++ told (after d es) more
-unfolding after told
-told-append d [] more = refl
-told-append d (e ∷ es) more =
-    ap (λ (l : List Report). outcome d e .reports ++ l) (told-append (outcome d e .day) es more)
-    ∙ sym (append-assoc (outcome d e .reports) (told (outcome d e .day) es) (told (after (outcome d e .day) es) more))
-
 -- ---- the laws of a run
 
 pub run-sound : (d : Day) (es : List Event) → sound d ≡ true → sound (after d es) ≡ true
@@ -105,7 +91,7 @@ run-once d (e ∷ es) h = run-once (outcome d e .day) es (outcome-once d e h)
 
 -- ---- what is asked for under an order's number, over a run
 
-asked-append : (id : ℕ) (d : Day) (es more : List Event) → asked id d (es ++ more) ≡ asked id d es + asked id (after d es) more
+pub asked-append : (id : ℕ) (d : Day) (es more : List Event) → asked id d (es ++ more) ≡ asked id d es + asked id (after d es) more
 unfolding asked after
 asked-append id d [] more = omega arith
 asked-append id d (e ∷ es) more = omega (arith, asked-append id (outcome d e .day) es more)

@@ -8,7 +8,6 @@ use mathlib.Core.List.{List, [], _∷_, _++_}
 use lib.ListN.{length, take}
 use lib.Seq.{take-append-seam}
 use Rattle.terms.specs.declared.Event.{Event}
-use Rattle.terms.specs.declared.Order.{Order}
 use Rattle.terms.specs.declared.Report.{Report}
 use Rattle.terms.specs.declared.Refusal.{Refusal}
 use Rattle.terms.specs.declared.Refusal.the-variants.{SmallRoom}
@@ -20,19 +19,16 @@ use Rattle.terms.specs.Refusals.{codeOf}
 use Rattle.tables.proofs.Records.{length-records}
 use Rattle.terms.proofs.Refusals.{code-fine}
 use Rattle.tables.specs.Put.{put}
-use Rattle.tables.specs.Tables.{decode, tableOf}
-use Rattle.tables.proofs.Slots.{decode-encode}
 use Rattle.book_law.specs.Told.{total}
-use Rattle.state_law.specs.declared.Session.{Session}
 use Rattle.state_law.specs.Day.{Day}
-use Rattle.soundness_law.proofs.Days.{SoundDay, sound-day}
 use Rattle.refusal_law.specs.Refusals.{refusalOf}
 use Rattle.acts_law.specs.Acts.{act}
 use Rattle.acts_law.specs.Asked.{askedBy}
 use Rattle.engine_law.specs.Answers.{answerCount}
 use Rattle.engine_law.specs.Outcome.{Outcome, decided, outcome, after, told}
 use Rattle.engine_law.specs.Calls.{callVerdict, called, tableBy}
-use Rattle.engine_law.proofs.Kept.{accepted-sound, refused-nothing}
+use Rattle.engine_law.proofs.Joined.{after-append, told-append}
+use Rattle.engine_law.proofs.Left.{outcome-day}
 use Rattle.engine_law.proofs.Answers.{called-verdict, answered-code, answered-count}
 use Rattle.engine_law.proofs.Applies.{called-outcome, small-verdict, roomy-verdict}
 use Rattle.engine_law.proofs.Called.{fine-roomy}
@@ -40,7 +36,6 @@ use Rattle.promises.specs.Lots.{asked}
 use Rattle.promises.specs.Runs.{Held, dayHeld, Call, hasRoom, Called, numberAnswered, counting, Calling, askedOver}
 use Rattle.promises.specs.Runs.Calling.{ends, calls}
 use Rattle.promises.proofs.Records.{records-tell}
-use Rattle.promises.proofs.Runs.{after-append, told-append}
 
 -- ---- what the contract says that a call comes to
 
@@ -72,7 +67,7 @@ pub record Left (o : Outcome) (h : Held) (rs : List Report) (h′ : Held) : Type
   pub reports : rs ≡ o .reports
 
 -- records written to the front of a room are the first in it
-first-records : (o : List Report) (room : List ℕ) → take (recordLength * length o) (put room 0 (recordsOf o)) ≡ recordsOf o
+pub first-records : (o : List Report) (room : List ℕ) → take (recordLength * length o) (put room 0 (recordsOf o)) ≡ recordsOf o
 unfolding put
 first-records o room = rw (← length-records o) (take-append-seam (recordsOf o) _)
 
@@ -92,7 +87,7 @@ module _ (h h′ : Held) (c : Call) (rs : List Report) (k : Called h c rs h′) 
       }
 
   -- where nothing lent is short, it leaves what its event does on the day that was held
-  judged : hasRoom h c ≡ true → Left (outcome (dayHeld h) (c .event)) h rs h′
+  pub judged : hasRoom h c ≡ true → Left (outcome (dayHeld h) (c .event)) h rs h′
   judged b = subst (λ o. Left o h rs h′) (judged-called h c b) left
 
   -- a refused call hands out nothing and changes nothing
@@ -115,7 +110,7 @@ module _ (h h′ : Held) (c : Call) (rs : List Report) (k : Called h c rs h′) 
       (b, sym (ap (λ (o : Outcome). o .verdict) (judged-called h c b)) ∙ v)
 
   -- to prove a law of a call: if nothing lent is short, prove it from what its event does; otherwise from the call changing nothing
-  by-room : (P : Bool → Type 0) → (Left (outcome (dayHeld h) (c .event)) h rs h′ → P true) → ((rs ≡ []) × (h′ ≡ h) → P false) →
+  pub by-room : (P : Bool → Type 0) → (Left (outcome (dayHeld h) (c .event)) h rs h′ → P true) → ((rs ≡ []) × (h′ ≡ h) → P false) →
       P (hasRoom h c)
   by-room P f g = go (hasRoom h c) refl
     where
@@ -123,46 +118,9 @@ module _ (h h′ : Held) (c : Call) (rs : List Report) (k : Called h c rs h′) 
       go true e = f (judged e)
       go false e = g (refused-call SmallRoom (short-verdict h c e))
 
--- ---- the day that is read from the tables after an event is the day of its outcome
-
--- a table of orders, read by their count, gives these orders
-reads-back : (n : ℕ) (os : List Order) (t : List ℕ) → n ≡ length os → decode n (tableOf os t) ≡ os
-unfolding tableOf
-reads-back n os t e = rw e (decode-encode os _)
-
--- where nothing is written, the day stays the same
-same-day : (h h′ : Held) → h′ .session ≡ h .session → h′ .buys ≡ h .buys → h′ .sells ≡ h .sells → dayHeld h′ ≡ dayHeld h
-same-day h h′ s b e = λ i. dayHeld (record { session = s i; buys = b i; sells = e i })
-
-module _ (h h′ : Held) (e : Event) (rs : List Report) (k : Left (outcome (dayHeld h) e) h rs h′) where
-  abbrev o : Outcome
-  o = outcome (dayHeld h) e
-
-  accepted-day : o .verdict ≡ Fine → dayHeld h′ ≡ o .day
-  accepted-day v =
-      let w : SoundDay (o .day) = sound-day (o .day) (accepted-sound (dayHeld h) e v) in
-      let b : h′ .buys ≡ tableOf (o .day .buys) (h .buys) = k .buys ∙ ap (λ (x : Verdict). tableBy x (o .day .buys) (h .buys)) v in
-      let s : h′ .sells ≡ tableOf (o .day .sells) (h .sells) = k .sells ∙ ap (λ (x : Verdict). tableBy x (o .day .sells) (h .sells)) v in
-      let bs : decode (h′ .session .live .buys) (h′ .buys) ≡ o .day .buys =
-      ap (decode (h′ .session .live .buys)) b
-      ∙ reads-back (h′ .session .live .buys) (o .day .buys) (h .buys) (ap (λ (x : Session). x .live .buys) (k .session) ∙ w .buys-counted) in
-      let ss : decode (h′ .session .live .sells) (h′ .sells) ≡ o .day .sells =
-      ap (decode (h′ .session .live .sells)) s
-      ∙ reads-back (h′ .session .live .sells) (o .day .sells) (h .sells) (ap (λ (x : Session). x .live .sells) (k .session) ∙ w .sells-counted) in
-      λ i. record { session = k .session i; buys = bs i; sells = ss i }
-
-  by-verdict : (v : Verdict) → o .verdict ≡ v → dayHeld h′ ≡ o .day
-  by-verdict Fine v = accepted-day v
-  by-verdict (Refused r) v =
-      let same : o .day ≡ dayHeld h = refused-nothing (dayHeld h) e r v .0 in
-      same-day h h′
-      (k .session ∙ ap (λ (d : Day). d .session) same)
-      (k .buys ∙ ap (λ (x : Verdict). tableBy x (o .day .buys) (h .buys)) v)
-      (k .sells ∙ ap (λ (x : Verdict). tableBy x (o .day .sells) (h .sells)) v)
-      ∙ sym same
-
-  pub outcome-day : dayHeld h′ ≡ o .day
-  outcome-day = by-verdict (o .verdict) refl
+-- the day that is read from the tables after an event is the day of its outcome
+pub held-outcome : (h h′ : Held) (e : Event) (rs : List Report) → Left (outcome (dayHeld h) e) h rs h′ → dayHeld h′ ≡ outcome (dayHeld h) e .day
+held-outcome h h′ e rs k = outcome-day (h .session) (h′ .session) (h .buys) (h .sells) (h′ .buys) (h′ .sells) e (k .session) (k .buys) (k .sells)
 
 -- ---- a run of calls
 
@@ -176,7 +134,7 @@ judged-next : (h h′ h″ : Held) (e : Event) (es : List Event) (rs rs′ : Lis
     Follows (dayHeld h′) es rs′ h″ → Follows (dayHeld h) (e ∷ es) (rs ++ rs′) h″
 unfolding told after
 judged-next h h′ h″ e es rs rs′ k f =
-    let d : dayHeld h′ ≡ outcome (dayHeld h) e .day = outcome-day h h′ e rs k in
+    let d : dayHeld h′ ≡ outcome (dayHeld h) e .day = held-outcome h h′ e rs k in
     let r : rs′ ≡ told (outcome (dayHeld h) e .day) es = f .reports ∙ ap (λ (x : Day). told x es) d in
     record { reports = λ i. k .reports i ++ r i; day = f .day ∙ ap (λ (x : Day). after x es) d }
 
@@ -202,7 +160,7 @@ run-asks id h es rs h′ (calls h₀ h₁ h₂ c es₀ rs₀ rs₁ k run) =
     by-room h₀ h₁ c rs₀ k
     (λ (b : Bool). askedBy id (c .event .act) rs₀ + askedOver id run ≡ asked id (dayHeld h₀) (counting b (c .event) es₀))
     (λ l. (λ i. askedBy id (c .event .act) (l .reports i) + q i)
-    ∙ ap (λ (d : Day). askedBy id (c .event .act) (outcome (dayHeld h₀) (c .event) .reports) + asked id d es₀) (outcome-day h₀ h₁ (c .event) rs₀ l))
+    ∙ ap (λ (d : Day). askedBy id (c .event .act) (outcome (dayHeld h₀) (c .event) .reports) + asked id d es₀) (held-outcome h₀ h₁ (c .event) rs₀ l))
     (λ n. let none : askedBy id (c .event .act) rs₀ ≡ 0 = ap (askedBy id (c .event .act)) (n .0) in
     let same : asked id (dayHeld h₁) es₀ ≡ asked id (dayHeld h₀) es₀ = ap (λ (x : Held). asked id (dayHeld x) es₀) (n .1) in
     omega arith)

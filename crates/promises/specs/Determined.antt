@@ -25,6 +25,8 @@ use Rattle.feed_law.specs.declared.Run.{Run}
 use Rattle.feed_law.specs.declared.Taken.{Taken}
 use Rattle.feed_law.specs.Feeds.{Feed, freshRun, TakenBy}
 use Rattle.lines_reading_law.specs.Walk.{readAt}
+use Rattle.resume_law.specs.declared.Resumed.{Resumed}
+use Rattle.resume_law.specs.Calls.{ResumedAs, ResumedLent}
 
 -- `terms::judge::check`
 abbrev pub CheckDetermined : Type 0
@@ -101,3 +103,22 @@ FeedDetermined =
     (of : Feed) (run : Run) (buys sells room bytes out buys₁ sells₁ room₁ out₁ buys₂ sells₂ room₂ out₂ : List ℕ) (r₁ r₂ : Taken) →
     TakenBy of run buys sells room bytes out buys₁ sells₁ room₁ out₁ r₁ → TakenBy of run buys sells room bytes out buys₂ sells₂ room₂ out₂ r₂ →
     SameTaken r₁ r₂ buys₁ sells₁ room₁ out₁ buys₂ sells₂ room₂ out₂
+
+-- `resume::resume`, and `resume::resume_lent` with its scratch
+pub record SameResumed (r₁ r₂ : Resumed) (buys₁ sells₁ buys₂ sells₂ : List ℕ) : Type 0 where
+  pub answer : r₁ .answer ≡ r₂ .answer
+  pub session : r₁ .session ≡ r₂ .session
+  pub bought : buys₁ ≡ buys₂
+  pub sold : sells₁ ≡ sells₂
+
+abbrev pub ResumeDetermined : Type 0
+ResumeDetermined =
+    (bytes buys sells buys₁ sells₁ buys₂ sells₂ : List ℕ) (r₁ r₂ : Resumed) → ResumedAs bytes buys sells buys₁ sells₁ r₁ →
+    ResumedAs bytes buys sells buys₂ sells₂ r₂ → SameResumed r₁ r₂ buys₁ sells₁ buys₂ sells₂
+
+abbrev pub ResumeLentDetermined : Type 0
+ResumeLentDetermined =
+    (bytes buys sells bought sold room buys₁ sells₁ bought₁ sold₁ room₁ buys₂ sells₂ bought₂ sold₂ room₂ : List ℕ) (r₁ r₂ : Resumed) →
+    ResumedLent bytes buys sells bought sold room buys₁ sells₁ bought₁ sold₁ room₁ r₁ →
+    ResumedLent bytes buys sells bought sold room buys₂ sells₂ bought₂ sold₂ room₂ r₂ →
+    SameResumed r₁ r₂ buys₁ sells₁ buys₂ sells₂ × (bought₁ ≡ bought₂) × (sold₁ ≡ sold₂) × (room₁ ≡ room₂)

@@ -10,3 +10,4 @@ pub mod Runs
 pub mod Standings
 pub mod Determined
 pub mod Printed
+pub mod Resumed

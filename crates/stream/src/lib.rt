@@ -20,7 +20,8 @@ ghost use lib.ListN.{length};
 ghost use Rattle.terms.specs.Sizes.{lineRoom};
 ghost use Rattle.feed_law.specs.Feeds.{freshRun};
 ghost use Rattle.stream.specs.Front.{ReadBehind};
-ghost use Rattle.stream_law.specs.Streams.{Tables, holding, isOn, heldAs, Hears, HearsOn, isDone, ThroughAs, Compares, PrintedAs};
+ghost use Rattle.engine_law.specs.Calls.{LongTables};
+ghost use Rattle.stream_law.specs.Streams.{holding, isOn, heldAs, Hears, HearsOn, isDone, ThroughAs, Compares, PrintedAs};
 
 // ---- reads
 
@@ -52,7 +53,7 @@ fn read_on(
     buys: &mut [u64],
     sells: &mut [u64],
 ) -> Buffered
-    requires { ⌜ Tables (now buys) (now sells) ⌝ }
+    requires { ⌜ LongTables (now buys) (now sells) ⌝ }
     requires { ⌜ h .have < length (now buf) ⌝ }
     ensures { λ r. ⌜ HearsOn (now (expected .entry)) h (now (buf .entry)) (now (buys .entry)) (now (sells .entry)) (now (buf .exit)) (now (buys .exit)) (now (sells .exit)) r ⌝ }
 {
@@ -90,7 +91,7 @@ fn read_all(
     buys: &mut [u64],
     sells: &mut [u64],
 ) -> Buffered
-    requires { ⌜ Tables (now buys) (now sells) ⌝ }
+    requires { ⌜ LongTables (now buys) (now sells) ⌝ }
     requires { ⌜ lineRoom < length (now buf) ⌝ }
     ensures { λ r. ⌜ Hears (now (expected .entry)) (holding freshRun (now (buys .entry)) (now (sells .entry)) []) to (now (buf .exit)) (now (buys .exit)) (now (sells .exit)) r ⌝ }
 {
@@ -128,7 +129,7 @@ fn run_all(
     buys: &mut [u64],
     sells: &mut [u64],
 ) -> Finish
-    requires { ⌜ Tables (now buys) (now sells) ⌝ }
+    requires { ⌜ LongTables (now buys) (now sells) ⌝ }
     requires { ⌜ lineRoom < length (now buf) ⌝ }
     ensures { λ r. ⌜ ThroughAs (now (expected .entry)) to r ⌝ }
 {

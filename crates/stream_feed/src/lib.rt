@@ -21,7 +21,8 @@ ghost use Rattle.terms.specs.Sizes.{lineRoom};
 ghost use Rattle.feed_law.specs.Texts.{endText};
 ghost use Rattle.stream_law.specs.declared.Reading.{Reading};
 ghost use Rattle.stream_law.specs.Sinks.{SentAs, isOpen};
-ghost use Rattle.stream_law.specs.Streams.{Tables, isFull, moreAfter, HandedIn, HandedFrom, holding, OverAs, readingAfter, ToFront, TakesIn, EndsAs};
+ghost use Rattle.engine_law.specs.Calls.{LongTables};
+ghost use Rattle.stream_law.specs.Streams.{isFull, moreAfter, HandedIn, HandedFrom, holding, OverAs, readingAfter, ToFront, TakesIn, EndsAs};
 
 // The output room holds the most that two lines of input can print, so that the output of many lines goes out in one write.
 const OUT: usize = lines::TEXT * 2;
@@ -112,7 +113,7 @@ fn hand_over(
     buys: &mut [u64],
     sells: &mut [u64],
 ) -> Handed
-    requires { ⌜ Tables (now buys) (now sells) ⌝ }
+    requires { ⌜ LongTables (now buys) (now sells) ⌝ }
     ensures { λ r. ⌜ OverAs (now (expected .entry)) (holding run (now (buys .entry)) (now (sells .entry)) (now (bytes .entry))) to (now (buys .exit)) (now (sells .exit)) r ⌝ }
 {
     let mut now = run;
@@ -145,7 +146,7 @@ fn hand_over(
 // ---- a buffer
 
 // Moves the bytes from `start` to `end` to the front of the buffer.
-fn to_front(buf: &mut [u8], start: usize, end: usize)
+pub fn to_front(buf: &mut [u8], start: usize, end: usize)
     requires { ⌜ (start ≤ end) × (end ≤ length (now buf)) ⌝ }
     ensures { λ _. ⌜ ToFront (now (buf .entry)) start end (now (buf .exit)) ⌝ }
 {
@@ -187,7 +188,7 @@ pub fn take_in(
     buys: &mut [u64],
     sells: &mut [u64],
 ) -> Buffered
-    requires { ⌜ Tables (now buys) (now sells) ⌝ }
+    requires { ⌜ LongTables (now buys) (now sells) ⌝ }
     requires { ⌜ end ≤ length (now buf) ⌝ }
     ensures { λ r. ⌜ TakesIn (now (expected .entry)) run (now (buf .entry)) end (now (buys .entry)) (now (sells .entry)) to (now (buf .exit)) (now (buys .exit)) (now (sells .exit)) r ⌝ }
 {
@@ -233,7 +234,7 @@ pub fn ending(
     buys: &mut [u64],
     sells: &mut [u64],
 ) -> Sink
-    requires { ⌜ Tables (now buys) (now sells) ⌝ }
+    requires { ⌜ LongTables (now buys) (now sells) ⌝ }
     ensures { λ r. ⌜ EndsAs (now (expected .entry)) (holding run (now (buys .entry)) (now (sells .entry)) (now (rest .entry))) to r ⌝ }
 {
     let h = hand_over(to, expected, run, rest, buys, sells);

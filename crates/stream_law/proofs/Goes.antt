@@ -34,7 +34,8 @@ use Rattle.promises.proofs.Printing.{same-printed, fed-long}
 use Rattle.stream_law.specs.declared.Sink.{Sink}
 use Rattle.stream_law.specs.declared.Handed.{Handed}
 use Rattle.stream_law.specs.Sinks.{SentAs, isOpen}
-use Rattle.stream_law.specs.Streams.{outRoom, zeros, Tables, isFull, moreAfter, HandedAs, HandedIn, HandedFrom, holding, Goes, NoLine}
+use Rattle.engine_law.specs.Calls.{LongTables}
+use Rattle.stream_law.specs.Streams.{outRoom, zeros, isFull, moreAfter, HandedAs, HandedIn, HandedFrom, holding, Goes, NoLine}
 use Rattle.stream_law.proofs.Beginnings.{rest-is, part-within}
 use Rattle.stream_law.proofs.Sends.{sent-none, sent-then}
 
@@ -111,7 +112,7 @@ handed-from {bytes = bytes} {at = at} {r = r} there k =
 zeros-length : (n : ℕ) → length (zeros n) ≡ n
 zeros-length n = length-replicate {A = ℕ} n 0
 
-pub rooms-wide : (buys sells : List ℕ) → Tables buys sells → feedVerdict buys sells (zeros roomLength) ≡ Fine
+pub rooms-wide : (buys sells : List ℕ) → LongTables buys sells → feedVerdict buys sells (zeros roomLength) ≡ Fine
 unfolding feedVerdict roomy firstFailed
 rooms-wide buys sells t =
     let b = le-leb tableLength (length buys) (t .buys-long) in

@@ -15,7 +15,8 @@ use Rattle.stream_law.specs.declared.Sink.{Sink}
 use Rattle.stream_law.specs.declared.Handed.{Handed}
 use Rattle.stream_law.specs.declared.Reading.{Reading}
 use Rattle.stream_law.specs.Sinks.{isOpen}
-use Rattle.stream_law.specs.Streams.{outRoom, zeros, Tables, HandedFrom, holding, Goes, NoLine, handedTo, OverAs, readingAfter, ToFront, TakesIn}
+use Rattle.engine_law.specs.Calls.{LongTables}
+use Rattle.stream_law.specs.Streams.{outRoom, zeros, HandedFrom, holding, Goes, NoLine, handedTo, OverAs, readingAfter, ToFront, TakesIn}
 use Rattle.stream_law.proofs.Goes.{goes-none, goes-then, rooms-wide, out-wide, handed-goes, handed-none, handed-some}
 
 -- ---- the loop: the first `at` bytes were taken, and the run went on from its start to where it stands now
@@ -44,7 +45,7 @@ module _ {expected : List ℕ} {run : Run} {buys₀ sells₀ bytes : List ℕ} {
   pub handing-end : {r : Handed} → length bytes ≤ at → r ≡ handedTo now at sink → OverAs expected (holding run buys₀ sells₀ bytes) to buys sells r
   handing-end h e = over-as e (λ _. none-left now buys sells bytes at h)
 
-  module _ (t : Tables buys sells) {buys′ sells′ : List ℕ} {h : Handed} (k : HandedFrom now buys sells bytes at expected sink buys′ sells′ h) where
+  module _ (t : LongTables buys sells) {buys′ sells′ : List ℕ} {h : Handed} (k : HandedFrom now buys sells bytes at expected sink buys′ sells′ h) where
     further : drop (h .used) (drop at bytes) ≡ drop (at + h .used) bytes
     further = drop-drop (h .used) at bytes
 
@@ -73,7 +74,7 @@ module _ {expected : List ℕ} {run : Run} {buys₀ sells₀ bytes : List ℕ} {
 
 -- the loop returns where no further call is to be made
 pub handing-stops : {expected : List ℕ} {run : Run} {buys₀ sells₀ bytes : List ℕ} {to : Sink} {now : Run} {buys sells : List ℕ} {at : ℕ} {sink : Sink} {buys′ sells′ : List ℕ} {h r : Handed} →
-    Handing expected run buys₀ sells₀ bytes to now buys sells at sink → Tables buys sells → HandedFrom now buys sells bytes at expected sink buys′ sells′ h →
+    Handing expected run buys₀ sells₀ bytes to now buys sells at sink → LongTables buys sells → HandedFrom now buys sells bytes at expected sink buys′ sells′ h →
     r ≡ handedTo (h .run) (at + h .used) (h .to) → not (h .more) ≡ true → OverAs expected (holding run buys₀ sells₀ bytes) to buys′ sells′ r
 handing-stops g t k e m = over-as (handing-on g t k) e (stops-there g t k m)
 

@@ -5,7 +5,7 @@ use mathlib.Core.Bool.{Bool, true, false, cond, _&&_}
 use mathlib.Core.List.{List, [], _++_}
 use lib.ListN.{length, take, drop, replicate}
 use Rattle.terms.specs.Sizes.{lineRoom}
-use Rattle.tables.specs.Lengths.{tableLength, roomLength}
+use Rattle.tables.specs.Lengths.{roomLength}
 use Rattle.feed_law.specs.declared.Run.{Run}
 use Rattle.feed_law.specs.declared.Stage.{Stage}
 use Rattle.feed_law.specs.declared.Stop.{Stop}
@@ -33,11 +33,6 @@ zeros n = replicate n 0
 -- what `feed::lines::take_lines` comes to in the program's rooms, in which all is zero before the call
 abbrev pub fedHere : Run → List ℕ → List ℕ → List ℕ → Fed Lent
 fedHere run buys sells bytes = fedOf run buys sells (zeros roomLength) bytes (zeros outRoom)
-
--- both tables are long enough
-pub record Tables (buys sells : List ℕ) : Type 0 where
-  pub buys-long : tableLength ≤ length buys
-  pub sells-long : tableLength ≤ length sells
 
 abbrev pub isFull : Stop → Bool
 isFull Stop.Waits = false

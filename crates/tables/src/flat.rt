@@ -29,6 +29,18 @@ pub fn shift_up(t: &mut [u64], to: usize, from: usize, count: usize)
     }
 }
 
+// Writes numbers to the front of a slice; what lies past them is as it was.
+pub fn lay(run: &mut [u64], ns: &[u64])
+    requires { ⌜ length (now ns) ≤ length (now run) ⌝ }
+    ensures { λ _. ⌜ now (run .exit) ≡ put (now (run .entry)) 0 (now (ns .entry)) ⌝ }
+{
+    let mut j: usize = 0;
+    while j < ns.len() {
+        run[j] = ns[j];
+        j += 1;
+    }
+}
+
 pub fn clear(t: &mut [u64], at: usize, count: usize)
     requires { ⌜ at + count ≤ length (now t) ⌝ }
     ensures { λ _. ⌜ now (t .exit) ≡ put (now (t .entry)) at (replicate count 0) ⌝ }

@@ -12,7 +12,7 @@ use Rattle.terms.specs.declared.Deal.{Deal}
 use Rattle.terms.specs.declared.Ended.{Ended}
 use Rattle.terms.specs.declared.Order.{Order}
 use Rattle.terms.specs.declared.Refusal.{Refusal}
-use Rattle.terms.specs.declared.Refusal.the-variants.{SmallRoom, Unsound, Closed, NumberRange, TimeBack, OutOfHours, OffTick, OutsideBand, NotResting, SideFull, DayFull, SettingsRange, SettingsOffTick, LineUnfinished, LineWrong, SmallLineRoom, NumberLong}
+use Rattle.terms.specs.declared.Refusal.the-variants.{SmallRoom, Unsound, Closed, NumberRange, TimeBack, OutOfHours, OffTick, OutsideBand, NotResting, SideFull, DayFull, SettingsRange, SettingsOffTick, LineUnfinished, LineWrong, SmallLineRoom, NumberLong, LineRefused}
 use Rattle.terms.specs.declared.Said.the-variants.{Accept, Trade, Convert, Cancel, Slab, Ref, Close}
 use Rattle.terms.specs.declared.Why.{Why}
 use Rattle.terms.specs.declared.Why.the-variants.{Asked, Immediate, OutOfRange, OutsideBand as Outside, DayEnd}
@@ -44,7 +44,7 @@ why-listed OutOfRange = refl
 why-listed Outside = refl
 why-listed DayEnd = refl
 
--- ---- "Refusal numbers, first that applies"
+-- ---- "Refusal numbers, first that applies", and those of document 02
 
 abbrev pub allRefusals : List Refusal
 allRefusals =
@@ -65,29 +65,32 @@ allRefusals =
     ∷ LineWrong
     ∷ SmallLineRoom
     ∷ NumberLong
+    ∷ LineRefused
     ∷ []
 
-pub refusals : map numberOf allRefusals ≡ 1 ∷ 2 ∷ 3 ∷ 4 ∷ 5 ∷ 6 ∷ 7 ∷ 8 ∷ 9 ∷ 10 ∷ 11 ∷ 12 ∷ 13 ∷ 14 ∷ 15 ∷ 16 ∷ 17 ∷ []
+pub refusals : map numberOf allRefusals ≡ 1 ∷ 2 ∷ 3 ∷ 4 ∷ 5 ∷ 6 ∷ 7 ∷ 8 ∷ 9 ∷ 10 ∷ 11 ∷ 12 ∷ 13 ∷ 14 ∷ 15 ∷ 16 ∷ 17 ∷ 22 ∷ []
 refusals = refl
 
-pub refusal-listed : (r : Refusal) → getD allRefusals (numberOf r - 1) SmallRoom ≡ r
-refusal-listed SmallRoom = refl
-refusal-listed Unsound = refl
-refusal-listed Closed = refl
-refusal-listed NumberRange = refl
-refusal-listed TimeBack = refl
-refusal-listed OutOfHours = refl
-refusal-listed OffTick = refl
-refusal-listed OutsideBand = refl
-refusal-listed NotResting = refl
-refusal-listed SideFull = refl
-refusal-listed DayFull = refl
-refusal-listed SettingsRange = refl
-refusal-listed SettingsOffTick = refl
-refusal-listed LineUnfinished = refl
-refusal-listed LineWrong = refl
-refusal-listed SmallLineRoom = refl
-refusal-listed NumberLong = refl
+-- there is no other refusal: each stands somewhere in the list
+pub refusal-listed : (r : Refusal) → (place : ℕ) × (getD allRefusals place SmallRoom ≡ r)
+refusal-listed SmallRoom = (0, refl)
+refusal-listed Unsound = (1, refl)
+refusal-listed Closed = (2, refl)
+refusal-listed NumberRange = (3, refl)
+refusal-listed TimeBack = (4, refl)
+refusal-listed OutOfHours = (5, refl)
+refusal-listed OffTick = (6, refl)
+refusal-listed OutsideBand = (7, refl)
+refusal-listed NotResting = (8, refl)
+refusal-listed SideFull = (9, refl)
+refusal-listed DayFull = (10, refl)
+refusal-listed SettingsRange = (11, refl)
+refusal-listed SettingsOffTick = (12, refl)
+refusal-listed LineUnfinished = (13, refl)
+refusal-listed LineWrong = (14, refl)
+refusal-listed SmallLineRoom = (15, refl)
+refusal-listed NumberLong = (16, refl)
+refusal-listed LineRefused = (17, refl)
 
 -- ---- the categories, in the order of tables A and B (001)
 

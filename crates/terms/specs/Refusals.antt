@@ -1,9 +1,9 @@
--- Document 01, "Refusal numbers, first that applies".
+-- Document 01, "Refusal numbers, first that applies"; document 02, item 4.
 use Prim.Native.Nat.{ℕ}
 use mathlib.Core.Bool.{Bool, cond}
 use mathlib.Core.List.{List, [], _∷_}
 use Rattle.terms.specs.declared.Refusal.{Refusal}
-use Rattle.terms.specs.declared.Refusal.the-variants.{SmallRoom, Unsound, Closed, NumberRange, TimeBack, OutOfHours, OffTick, OutsideBand, NotResting, SideFull, DayFull, SettingsRange, SettingsOffTick, LineUnfinished, LineWrong, SmallLineRoom, NumberLong}
+use Rattle.terms.specs.declared.Refusal.the-variants.{SmallRoom, Unsound, Closed, NumberRange, TimeBack, OutOfHours, OffTick, OutsideBand, NotResting, SideFull, DayFull, SettingsRange, SettingsOffTick, LineUnfinished, LineWrong, SmallLineRoom, NumberLong, LineRefused}
 use Rattle.terms.specs.declared.Verdict.{Verdict}
 use Rattle.terms.specs.declared.Verdict.the-variants.{Fine, Refused}
 
@@ -26,6 +26,7 @@ numberOf LineUnfinished = 14  -- line unfinished
 numberOf LineWrong = 15  -- line wrong; returns the place
 numberOf SmallLineRoom = 16  -- line room under 128 bytes
 numberOf NumberLong = 17  -- a number above 999,999,999 to be written
+numberOf LineRefused = 22  -- a saved line that the engine refuses; returns its start
 
 -- a rule: the refusal, and what must hold for it not to apply
 pub record Rule : Type 0 where

@@ -129,7 +129,7 @@ pub struct Report {
     pub said: Said,
 }
 
-// The rows of document 01's table of refusals, in its order.
+// The rows of document 01's table of refusals, in its order; then those of document 02.
 pub enum Refusal {
     SmallRoom,
     Unsound,
@@ -148,6 +148,7 @@ pub enum Refusal {
     LineWrong,
     SmallLineRoom,
     NumberLong,
+    LineRefused,
 }
 
 // A judgement: nothing applies, or the first refusal that does.

@@ -32,6 +32,7 @@ pub fn of_refusal(r: Refusal) -> u64
         Refusal::LineWrong => 15,
         Refusal::SmallLineRoom => 16,
         Refusal::NumberLong => 17,
+        Refusal::LineRefused => 22,
     }
 }
 

@@ -1,5 +1,6 @@
 //! How fast the proved library is beside the plain engine: same inputs, one run, turn about. Medians of many rounds, in
-//! nanoseconds a call; the ratio is plain/desk, so 1.00 is as fast and more is faster.
+//! nanoseconds a call; the ratio is plain/desk, so 1.00 is as fast and more is faster. Then, in the same way, the library's resume
+//! beside the library's own calls that read and apply the same lines one by one.
 //!
 //! `bench WORD` runs the races that have the word in their name. `bench desk NAME CALLS` or `bench plain NAME CALLS` runs one engine
 //! on one race, for a profiler to watch.
@@ -54,22 +55,34 @@ fn limit(time: u64, side: Side, life: Life, lots: u64, price: u64) -> Event {
     Event { time, act: Act::Order { side, kind: Kind::Limit(price), life, lots } }
 }
 
+/// Some trades, so that the last ten are there.
+fn trades() -> Vec<Event> {
+    let trade = |i| [limit(i, Side::Sell, Life::Day, 2, 10_000), limit(i, Side::Buy, Life::Ioc, 2, 10_000)];
+    (0..12).flat_map(trade).collect()
+}
+
+/// So many orders a side that rest.
+fn resting(depth: u64) -> Vec<Event> {
+    let mut rng = Rng(depth);
+    let mut pair = |i| {
+        let away = if i == 0 { 0 } else { rng.below(119) };
+        let buy = limit(1_000 + i, Side::Buy, Life::Day, 5_000, 9_995 - 5 * away);
+        [buy, limit(1_000 + i, Side::Sell, Life::Day, 5_000, 10_005 + 5 * away)]
+    };
+    (0..depth).flat_map(&mut pair).collect()
+}
+
 /// A book with so many orders a side, after `given` orders in all.
 fn book(depth: u64, given: u64) -> Day {
-    let mut rng = Rng(depth);
     let mut room = [0; ROOM];
     let mut day =
         Day { session: plain::Session::open(settings()).expect("good settings"), buys: [0; TABLE], sells: [0; TABLE] };
-    // some trades first, so that the last ten are there
-    for i in 0..12 {
-        day.apply(&mut room, &limit(i, Side::Sell, Life::Day, 2, 10_000));
-        day.apply(&mut room, &limit(i, Side::Buy, Life::Ioc, 2, 10_000));
+    for event in trades() {
+        day.apply(&mut room, &event);
     }
     day.session.given = given.max(day.session.given);
-    for i in 0..depth {
-        let away = if i == 0 { 0 } else { rng.below(119) };
-        day.apply(&mut room, &limit(1_000 + i, Side::Buy, Life::Day, 5_000, 9_995 - 5 * away));
-        day.apply(&mut room, &limit(1_000 + i, Side::Sell, Life::Day, 5_000, 10_005 + 5 * away));
+    for event in resting(depth) {
+        day.apply(&mut room, &event);
     }
     day
 }
@@ -133,12 +146,31 @@ fn text() -> Vec<u8> {
     out
 }
 
-/// One thing that both engines do; a call of either side does it `per` times.
+/// The saved lines of a day: so many orders a side come to rest, then it goes on for long with the book as deep.
+fn saved(depth: u64) -> Vec<u8> {
+    let mut day = book(depth, 0);
+    let mut room = [0; ROOM];
+    let mut events = [trades(), resting(depth)].concat();
+    for _ in 0..20 {
+        let more = mix(&day);
+        for event in &more {
+            day.apply(&mut room, event);
+        }
+        events.extend(more);
+    }
+    let mut lines = written(|line| lines::write_settings(&settings(), line).expect("written"));
+    for event in &events {
+        lines.extend(written(|line| lines::write_event(event, line).expect("written")));
+    }
+    lines
+}
+
+/// One thing that the library does, and what it is raced with, most often the plain engine; a call of either does it `per` times.
 struct Race {
     name: &'static str,
     per: usize,
     desk: Box<dyn FnMut()>,
-    plain: Box<dyn FnMut()>,
+    beside: Box<dyn FnMut()>,
 }
 
 fn apply_race(name: &'static str, depth: u64, given: u64) -> Race {
@@ -165,7 +197,7 @@ fn apply_race(name: &'static str, depth: u64, given: u64) -> Race {
         }
         black_box(&now);
     });
-    Race { name, per, desk, plain }
+    Race { name, per, desk, beside: plain }
 }
 
 fn sound_race(name: &'static str, depth: u64, given: u64) -> Race {
@@ -182,7 +214,7 @@ fn sound_race(name: &'static str, depth: u64, given: u64) -> Race {
             assert!(black_box(&day.session).sound(black_box(&day.buys), black_box(&day.sells)));
         }
     });
-    Race { name, per: 64, desk, plain }
+    Race { name, per: 64, desk, beside: plain }
 }
 
 fn written(mut write: impl FnMut(&mut [u8]) -> usize) -> Vec<u8> {
@@ -211,7 +243,7 @@ fn reading_race() -> Race {
             let _ = black_box(answer);
         }
     });
-    Race { name: "read an event line", per, desk, plain }
+    Race { name: "read an event line", per, desk, beside: plain }
 }
 
 fn settings_reading_race() -> Race {
@@ -231,7 +263,7 @@ fn settings_reading_race() -> Race {
             let _ = black_box(answer);
         }
     });
-    Race { name: "read a settings line", per: 64, desk, plain }
+    Race { name: "read a settings line", per: 64, desk, beside: plain }
 }
 
 fn report_writing_race() -> Race {
@@ -258,7 +290,7 @@ fn report_writing_race() -> Race {
             black_box(&line);
         }
     });
-    Race { name: "write a report line", per, desk, plain }
+    Race { name: "write a report line", per, desk, beside: plain }
 }
 
 fn event_writing_race() -> Race {
@@ -278,13 +310,13 @@ fn event_writing_race() -> Race {
             black_box(&line);
         }
     });
-    Race { name: "write an event line", per, desk, plain }
+    Race { name: "write an event line", per, desk, beside: plain }
 }
 
 /// Text in and text out, a day at once, by `kakoludar_feed`.
 fn text_race() -> Race {
     let input = text();
-    let per = input.iter().filter(|&&byte| byte == b'\n').count();
+    let per = lines_of(&input);
     let again = input.clone();
     let mut out = Vec::with_capacity(1 << 20);
     let mut day = Desk::new();
@@ -301,7 +333,73 @@ fn text_race() -> Race {
         plain::text::run(black_box(&again), &mut out);
         black_box(&out);
     });
-    Race { name: "text in, text out, a line", per, desk, plain }
+    Race { name: "text in, text out, a line", per, desk, beside: plain }
+}
+
+/// How many lines some text has.
+fn lines_of(text: &[u8]) -> usize {
+    text.iter().filter(|&&byte| byte == b'\n').count()
+}
+
+/// The library comes back from saved lines.
+fn come_back(saved: &[u8], day: &mut Memory) {
+    let mut place = [0; PLACE];
+    let answer = raw::resume(black_box(saved), &mut day.session, &mut day.buys, &mut day.sells, &mut place);
+    assert!((answer, place[0] as usize) == (0, saved.len()));
+    black_box(day);
+}
+
+/// What the library is lent for a day.
+struct Memory {
+    session: [u64; SESSION],
+    buys: [u64; TABLE],
+    sells: [u64; TABLE],
+    room: [u64; ROOM],
+}
+
+impl Memory {
+    fn new() -> Box<Memory> {
+        Box::new(Memory { session: [0; SESSION], buys: [0; TABLE], sells: [0; TABLE], room: [0; ROOM] })
+    }
+}
+
+/// Coming back, in both engines.
+fn resume_race(name: &'static str, depth: u64) -> Race {
+    let lines = saved(depth);
+    let again = lines.clone();
+    let mut day = Memory::new();
+    let per = lines_of(&lines);
+    let desk = Box::new(move || come_back(&lines, &mut day));
+    let mut day = Memory::new();
+    let plain = Box::new(move || {
+        let back = plain::saved::resume(black_box(&again), &mut day.buys, &mut day.sells).expect("a day's lines");
+        assert!(back.counted == again.len());
+        black_box((&back, &day));
+    });
+    Race { name, per, desk, beside: plain }
+}
+
+/// Coming back beside reading and applying each line by a call of its own, both in the library.
+fn replay_race(name: &'static str, depth: u64) -> Race {
+    let lines = saved(depth);
+    let again = lines.clone();
+    let mut day = Memory::new();
+    let per = lines_of(&lines);
+    let desk = Box::new(move || come_back(&lines, &mut day));
+    let mut day = Memory::new();
+    let calls = Box::new(move || {
+        let (mut settings, mut event) = ([0; SETTINGS], [0; EVENT]);
+        let mut at = raw::count(raw::read_settings(black_box(&again), &mut settings)) as usize;
+        assert!(raw::open(&settings, &mut day.session) == 0);
+        while at < again.len() {
+            let read = raw::read_event(black_box(&again[at..]), &mut event);
+            at += raw::count(read) as usize;
+            let answer = raw::apply(&mut day.session, &event, &mut day.buys, &mut day.sells, &mut day.room);
+            assert!((raw::code(read), raw::code(answer)) == (0, 0));
+        }
+        black_box(&day);
+    });
+    Race { name, per, desk, beside: calls }
 }
 
 fn median(times: &mut [f64]) -> f64 {
@@ -321,13 +419,21 @@ fn run(race: &mut Race, rounds: usize) {
         start.elapsed().as_nanos() as f64 / (calls * per) as f64
     };
     let mut desk = Vec::with_capacity(rounds);
-    let mut plain = Vec::with_capacity(rounds);
+    let mut beside = Vec::with_capacity(rounds);
     for _ in 0..rounds {
         desk.push(time(&mut *race.desk, race.per));
-        plain.push(time(&mut *race.plain, race.per));
+        beside.push(time(&mut *race.beside, race.per));
     }
-    let (desk, plain) = (median(&mut desk), median(&mut plain));
-    println!("{:34} {:>9.1} {:>9.1} {:>7.2}", race.name, desk, plain, plain / desk);
+    let (desk, beside) = (median(&mut desk), median(&mut beside));
+    println!("{:34} {:>9.1} {:>9.1} {:>7.2}", race.name, desk, beside, beside / desk);
+}
+
+/// The races that have a word in their name, below a line that says what is raced.
+fn run_all(races: &mut [Race], word: &str, heading: [&str; 2]) {
+    println!("{:34} {:>9} {:>9} {:>7}", "", heading[0], heading[1], "ratio");
+    for race in races.iter_mut().filter(|race| race.name.contains(word)) {
+        run(race, 401);
+    }
 }
 
 fn main() {
@@ -343,19 +449,20 @@ fn main() {
         event_writing_race(),
         report_writing_race(),
         text_race(),
+        resume_race("resume, 150 orders a side, a line", 150),
+        resume_race("resume, 3 orders a side, a line", 3),
     ];
+    let mut replays = [replay_race("resume and calls, 150 a side", 150), replay_race("resume and calls, 3 a side", 3)];
     let words: Vec<String> = std::env::args().skip(1).collect();
     if let [engine, name, calls] = &words[..] {
-        let race = races.iter_mut().find(|race| race.name == name).expect("a race of that name");
-        let work = if engine == "desk" { &mut race.desk } else { &mut race.plain };
+        let race = races.iter_mut().chain(&mut replays).find(|race| race.name == name).expect("a race of that name");
+        let work = if engine == "desk" { &mut race.desk } else { &mut race.beside };
         for _ in 0..calls.parse::<usize>().expect("a number") / race.per {
             work();
         }
         return;
     }
     let word = words.first().map_or("", String::as_str);
-    println!("{:34} {:>9} {:>9} {:>7}", "", "desk ns", "plain ns", "ratio");
-    for race in races.iter_mut().filter(|race| race.name.contains(word)) {
-        run(race, 401);
-    }
+    run_all(&mut races, word, ["desk ns", "plain ns"]);
+    run_all(&mut replays, word, ["desk ns", "calls ns"]);
 }

@@ -1,4 +1,4 @@
-//! The practice exchange in ordinary Rust, written from document 01 alone: the yardstick for the proved library, in what it
+//! The practice exchange in ordinary Rust, written from the documents alone: the yardstick for the proved library, in what it
 //! answers and in how fast it answers. It does the same work: it judges the session on every call, keeps the two tables of 768
 //! numbers best first, clears their tails and writes records of six.
 
@@ -6,6 +6,7 @@ mod book;
 mod growth;
 pub mod lines;
 pub mod runs;
+pub mod saved;
 pub mod text;
 
 use crate::terms::*;

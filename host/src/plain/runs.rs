@@ -2,6 +2,7 @@
 //! side. An answer is `code + 256 × count`.
 
 use super::lines::{self, NoLine};
+use super::saved::{self, NoDay};
 use super::{apply as apply_plain, Session};
 use crate::terms::*;
 
@@ -119,6 +120,53 @@ pub fn standing(session: &[u64], buys: &[u64], sells: &[u64], standing: &mut [u6
         *standing = stood.to_numbers();
         0
     }))
+}
+
+/// As `kakoludar_resume`.
+pub fn resume(saved: &[u8], session: &mut [u64], buys: &mut [u64], sells: &mut [u64], place: &mut [u64]) -> u64 {
+    come_back(session, place, || saved::resume(saved, buys, sells))
+}
+
+/// As `kakoludar_resume_lent`: the scratch that it is lent is left cleared, or untouched where something is too short.
+#[allow(clippy::too_many_arguments)]
+pub fn resume_lent(
+    saved: &[u8],
+    session: &mut [u64],
+    buys: &mut [u64],
+    sells: &mut [u64],
+    place: &mut [u64],
+    spare_buys: &mut [u64],
+    spare_sells: &mut [u64],
+    room: &mut [u64],
+) -> u64 {
+    let spare = [spare_buys.first_chunk_mut::<TABLE>(), spare_sells.first_chunk_mut::<TABLE>()];
+    let ([Some(spare_buys), Some(spare_sells)], Some(room)) = (spare, room.first_chunk_mut::<ROOM>()) else {
+        return come_back(session, place, || Err(NoDay { refusal: Refusal::ShortTable, place: 0 }));
+    };
+    let answer = resume(saved, session, buys, sells, place);
+    if answer != Refusal::ShortTable.number() {
+        spare_buys.fill(0);
+        spare_sells.fill(0);
+        room.fill(0);
+    }
+    answer
+}
+
+/// Lays what came back, or the session of a refused opening, and the bytes that count, or the place; nothing where these two are short.
+fn come_back(session: &mut [u64], place: &mut [u64], resume: impl FnOnce() -> Result<saved::Back, NoDay>) -> u64 {
+    let (Some(session), Some(place)) = (session.first_chunk_mut(), place.first_mut()) else {
+        return Refusal::ShortTable.number();
+    };
+    match resume() {
+        Ok(back) => {
+            (*session, *place) = (back.session.to_run(), back.counted as u64);
+            0
+        }
+        Err(no_day) => {
+            (*session, *place) = (Session::fixed().to_run(), no_day.place as u64);
+            no_day.refusal.number()
+        }
+    }
 }
 
 fn read<T, const N: usize>(read: Result<(T, usize), NoLine>, run: &mut [u64], numbers: impl Fn(&T) -> [u64; N]) -> u64 {

@@ -1,6 +1,9 @@
 //! Days, events and damage for the comparisons, from fixed seeds.
 #![allow(dead_code)]
 
+pub mod back;
+pub mod journal;
+
 use kakoludar::plain;
 use kakoludar::terms::*;
 

@@ -1,17 +1,20 @@
 -- At each turn fewer arguments are left.
-use borrow.Author.Needs.{needs}
 use Prim.Native.Nat.{_-_}
+use borrow.Author.Needs.{needs}
 use Rattle.days.proofs.main.Statement.{statement}
 use Rattle.days.proofs.main.Tie as tie
 
 abbrev Inv-loop : tie.InvT-loop
-Inv-loop n count₀ i₀ count i = Unit {0}
+Inv-loop n count₀ i₀ t4 count i = Unit {0}
 
 abbrev μ-loop : tie.MeasureT-loop
-μ-loop n count₀ i₀ count i = n - i
+μ-loop n count₀ i₀ t4 count i = n - i
 
 arg-count-requires : tie.Need-arg-count-requires Inv-loop μ-loop
 arg-count-requires c κs = search needs
+
+none-requires : tie.Need-none-requires Inv-loop μ-loop
+none-requires c κs = search needs
 
 loop-holds : tie.Need-loop-holds Inv-loop μ-loop
 loop-holds c = search needs
@@ -28,6 +31,9 @@ loop-less c = search needs
 loop-again : tie.Need-loop-again Inv-loop μ-loop
 loop-again c = search needs
 
+slice-aggregate-total : tie.Need-slice-aggregate-total Inv-loop μ-loop
+slice-aggregate-total c = search needs
+
 total-requires : tie.Need-total-requires Inv-loop μ-loop
 total-requires c κs = search needs
 
@@ -41,10 +47,12 @@ main-spec =
     Inv-loop
     μ-loop
     arg-count-requires
+    none-requires
     loop-holds
     day-requires
     add-i
     loop-less
     loop-again
+    slice-aggregate-total
     total-requires
     returns)

@@ -3,7 +3,8 @@ use Prim.Native.Nat.{_≤_, _<_}
 use mathlib.Core.Path.{_≡_}
 use lib.ListN.{length}
 use Rattle.terms.specs.Sizes.{lineRoom}
-use Rattle.stream_law.specs.Streams.{Tables, HearsOn}
+use Rattle.engine_law.specs.Calls.{LongTables}
+use Rattle.stream_law.specs.Streams.{HearsOn}
 use Rattle.stream_law.proofs.Hearing.{hears-start, start-short, hears-then, hears-first, hears-last, hears-on}
 use borrow.Author.Needs.{needs}
 use Rattle.stream.proofs.read_all.Statement.{statement}
@@ -12,7 +13,7 @@ use Rattle.stream.proofs.read_all.Tie as tie
 ruleset answers = (needs, hears-start, start-short, hears-then, hears-first, hears-last, hears-on)
 
 abbrev Inv-loop : tie.InvT-loop
-Inv-loop fd expected buf₀ buys₀ sells₀ h₀ turns₀ buf buys sells h turns = HearsOn expected h₀ buf₀ buys₀ sells₀ buf buys sells h × Tables buys sells × (h .have ≤ lineRoom) × (lineRoom < length buf) × (length buf ≡ length buf₀) × (length buys ≡ length buys₀) × (length sells ≡ length sells₀)
+Inv-loop fd expected buf₀ buys₀ sells₀ h₀ turns₀ buf buys sells h turns = HearsOn expected h₀ buf₀ buys₀ sells₀ buf buys sells h × LongTables buys sells × (h .have ≤ lineRoom) × (lineRoom < length buf) × (length buf ≡ length buf₀) × (length buys ≡ length buys₀) × (length sells ≡ length sells₀)
 
 abbrev μ-loop : tie.MeasureT-loop
 μ-loop fd expected buf₀ buys₀ sells₀ h₀ turns₀ buf buys sells h turns = turns

@@ -2,7 +2,7 @@
 use Prim.Native.Nat.{_-_, _^_, _<_}
 use mathlib.Core.Path.{_≡_}
 use lib.ListN.{length}
-use Rattle.stream_law.specs.Streams.{Tables}
+use Rattle.engine_law.specs.Calls.{LongTables}
 use Rattle.stream_law.proofs.Handing.{Handing, handing-start, handing-end, handing-on, handing-less, handing-stops}
 use borrow.Author.Needs.{needs}
 use Rattle.stream_feed.proofs.hand_over.Statement.{statement}
@@ -13,7 +13,7 @@ ruleset answers = (needs, handing-start, handing-end, handing-on, handing-less, 
 abbrev Inv-loop : tie.InvT-loop
 Inv-loop expected bytes buys₀ sells₀ now₀ sink₀ at₀ buys sells now sink at =
     Handing expected now₀ buys₀ sells₀ bytes sink₀ now buys sells at sink
-    × Tables buys sells
+    × LongTables buys sells
     × (length buys ≡ length buys₀)
     × (length sells ≡ length sells₀)
     × (length bytes < 2 ^ 64)

@@ -15,17 +15,11 @@ enum-known-answer c = search answers
 tell-records-requires : tie.Need-tell-records-requires
 tell-records-requires c κs = search answers
 
-turned-requires : tie.Need-turned-requires
-turned-requires c κs = search answers
-
 enum-known-answer-2 : tie.Need-enum-known-answer-2
 enum-known-answer-2 c = search answers
 
 tell-refused-requires : tie.Need-tell-refused-requires
 tell-refused-requires c κs = search answers
-
-turned-requires-2 : tie.Need-turned-requires-2
-turned-requires-2 c κs = search answers
 
 same-length : tie.Need-same-length
 same-length c = search answers
@@ -64,10 +58,8 @@ goes-spec =
     apply-requires
     enum-known-answer
     tell-records-requires
-    turned-requires
     enum-known-answer-2
     tell-refused-requires
-    turned-requires-2
     same-length
     same-length-2
     same-length-3

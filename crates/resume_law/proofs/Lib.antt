@@ -1,0 +1,9 @@
+pub mod Numbers
+pub mod Lines
+pub mod Ones
+pub mod Cuts
+pub mod Finds
+pub mod Apart
+pub mod Steps
+pub mod Replays
+pub mod Lays

@@ -1,0 +1,5 @@
+pub mod Saved
+pub mod Rebuilt
+pub mod Calls
+pub mod Comes
+pub mod code

@@ -1,0 +1,2 @@
+-- What only code needs: a reader of the paper leaves it out.
+pub mod Replaying
