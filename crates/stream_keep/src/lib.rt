@@ -1,9 +1,9 @@
 // stream_keep: a day that is kept in a file. The file's lines bring the day back; then lines are read from a descriptor, and each that the
 // engine accepts is appended to the file, and has reached the disk, before its reports are printed.
-// It may use io, libc, os, descriptors, feed, feed_turns, feed_prints, resume and stream_feed, and what these use. It promises that it is safe
-// and ends; that each line of the file is replayed, and each line of the input is taken, by calls whose contracts are those of resume_law and
-// feed_law; that only the bytes are appended which a turn of feed_law says are to be saved; and that after a failure no line is taken. Which
-// bytes are read and written is up to the C library.
+// It may use io, libc, os, descriptors, feed, feed_turns, feed_prints, resume and stream_feed, and what these use. It is proved that it is safe
+// and ends, and no more: its contracts are bounds. That the file's lines are replayed, that just the bytes are appended which a turn of
+// feed_law says are to be saved, that this is done before printing, and that after a failure no line is taken, is in the code and in no
+// contract; host/killed and host/failures try it.
 
 pub mod back;
 pub mod files;
