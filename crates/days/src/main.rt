@@ -34,7 +34,7 @@ fn ending(told: Finish) -> Ending {
     match told {
         Finish::Same => Ending::Right,
         Finish::Differs => Ending::Wrong,
-        Finish::Unread | Finish::Printed | Finish::Unwritten => Ending::Unread,
+        Finish::Unread | Finish::Printed | Finish::Unsaved | Finish::Unwritten => Ending::Unread,
     }
 }
 

@@ -3,6 +3,7 @@ pub mod Taking
 pub mod Going
 pub mod Ending
 pub mod First
+pub mod Says
 pub mod Pieces
 pub mod Starts
 pub mod Said

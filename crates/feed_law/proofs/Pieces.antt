@@ -15,61 +15,15 @@ use Rattle.feed_law.specs.declared.Stage.{Stage}
 use Rattle.feed_law.specs.declared.Stop.{Stop}
 use Rattle.feed_law.specs.Texts.{endText}
 use Rattle.feed_law.specs.Worlds.{World}
-use Rattle.feed_law.specs.Turns.{Turn, Fed, ends, turnOf, printedIn, printedFrom, stopAt, lastly, ahead, fedIn, finished, endBy, endBehind}
+use Rattle.feed_law.specs.Turns.{Turn, Fed, turnOf, printing, printedFrom, stopAt, lastly, ahead, fedIn, finished, endBy, endBehind}
 use Rattle.feed_law.specs.Pieces.{PiecesPrintTheWhole, EndPrintsTheRest}
-use Rattle.feed_law.proofs.First.{Sort, waiting, ending, going, sort, turn-none, turn-within}
+use Rattle.feed_law.proofs.Says.{printing-quiet, none-said, over-silent, said-last, said-line}
 use Rattle.feed_law.proofs.Going.{fed-by}
 
 not-both : {s : Stop} → s ≡ Stop.Full → s ≡ Stop.Waits → ⊥
 not-both p q = let z : _≡_ {A = ℕ} 0 1 = cc in omega arith
 
 module _ {W : Type 0} (on : World W) where
-  -- ---- what is printed, line by line
-
-  abbrev after : Turn W → List ℕ → List ℕ → List ℕ
-  after t s rest = t .text ++ cond (eqb (t .used) 0) (endText (t .stage) (length s)) rest
-
-  none-printed : (m : ℕ) (stage : Stage) (w : W) (s : List ℕ) → length s ≤ 0 → printedIn on m stage w s ≡ endText stage (length s)
-  unfolding printedIn
-  none-printed zero stage w s h = refl
-  none-printed (suc m) stage w [] h = rw (turn-none on stage w)
-  none-printed (suc m) stage w (x ∷ s) h = absurd (let z : suc (length s) ≤ 0 = h in omega arith)
-
-  -- every n that is at least the number of bytes gives the same text
-  enough : (n m : ℕ) (stage : Stage) (w : W) (s : List ℕ) → length s ≤ n → length s ≤ m → printedIn on n stage w s ≡ printedIn on m stage w s
-  unfolding printedIn
-  enough zero m stage w s h k = sym (none-printed m stage w s h)
-  enough (suc n) zero stage w s h k = none-printed (suc n) stage w s k
-  enough (suc n) (suc m) stage w s h k =
-      let t : Turn W = turnOf on stage w s in
-      cases (eqb (t .used) 0) (λ e. rw e)
-      (λ e.
-      let l = length-drop (t .used) s in
-      let u = eqb-false (t .used) 0 e in
-      let a : length (drop (t .used) s) ≤ n = omega (arith, u) in
-      let b : length (drop (t .used) s) ≤ m = omega (arith, u) in
-      rw e (ap (λ (x : List ℕ). t .text ++ x) (enough n m (t .stage) (t .world) (drop (t .used) s) a b)))
-
-  printed-turn : (stage : Stage) (w : W) (s : List ℕ) →
-      let t : Turn W = turnOf on stage w s in printedFrom on stage w s ≡ after t s (printedFrom on (t .stage) (t .world) (drop (t .used) s))
-  unfolding printedIn
-  printed-turn stage w [] = rw (turn-none on stage w)
-  printed-turn stage w (x ∷ l) =
-      let s : List ℕ = x ∷ l in
-      let t : Turn W = turnOf on stage w s in
-      cases (eqb (t .used) 0) (λ e. rw e)
-      (λ e.
-      let d = length-drop (t .used) s in
-      let u = eqb-false (t .used) 0 e in
-      let a : length (drop (t .used) s) ≤ length l = omega (arith, u) in
-      rw e (ap (λ (y : List ℕ). t .text ++ y) (enough (length l) (length (drop (t .used) s)) (t .stage) (t .world) (drop (t .used) s) a (omega arith))))
-
-  -- after the end of the run nothing is printed
-  over-silent : (w : W) (s : List ℕ) → printedFrom on Stage.Over w s ≡ []
-  over-silent w s = printed-turn Stage.Over w s
-
-  -- ---- what follows
-
   -- what is printed for the whole is what a feed of its first bytes prints, and then what is printed for the bytes that are left
   abbrev Whole : Stage → W → List ℕ → List ℕ → Fed W → Type 0
   Whole stage w xs ys f = printedFrom on stage w (xs ++ ys) ≡ f .text ++ printedFrom on (f .stage) (f .world) (drop (f .used) xs ++ ys)
@@ -78,42 +32,25 @@ module _ {W : Type 0} (on : World W) where
     abbrev t : Turn W
     t = turnOf on stage w xs
 
-    -- a bad line is told, and then nothing is printed
-    bad : (place : ℕ) → t ≡ ends on w place → turnOf on stage w (xs ++ ys) ≡ ends on w place → Whole stage w xs ys (lastly on t)
-    bad place e l =
-        printed-turn stage w (xs ++ ys)
-        ∙ ap (λ (x : Turn W). after x (xs ++ ys) (printedFrom on (x .stage) (x .world) (drop (x .used) (xs ++ ys)))) l
-        ∙ ap (λ (x : List ℕ). ends on w place .text ++ x) (sym (over-silent w (xs ++ ys)))
-        ∙ ap (λ (x : Turn W). x .text ++ printedFrom on (x .stage) (x .world) (xs ++ ys)) (sym e)
-
-    -- a line comes to the same with more bytes behind it
-    on-with : (f : Fed W) → (t .used ≡ 0 → ⊥) → turnOf on stage w (xs ++ ys) ≡ t → Whole (t .stage) (t .world) (drop (t .used) xs) ys f →
-        Whole stage w xs ys (ahead on t f)
-    on-with f u l k =
-        let rest : drop (t .used) (xs ++ ys) ≡ drop (t .used) xs ++ ys = drop-append-le (t .used) xs ys (turn-within on stage w xs) in
-        printed-turn stage w (xs ++ ys)
-        ∙ ap (λ (x : Turn W). after x (xs ++ ys) (printedFrom on (x .stage) (x .world) (drop (x .used) (xs ++ ys)))) l
-        ∙ rw (ne-eqb (t .used) 0 u, rest)
-        (ap (λ (x : List ℕ). t .text ++ x) k
-        ∙ sym (append-assoc (t .text) (f .text) (printedFrom on (f .stage) (f .world) (drop (f .used) (drop (t .used) xs) ++ ys)))
-        ∙ rw (drop-drop (f .used) (t .used) xs))
+    line : printedFrom on stage w (xs ++ ys) ≡ t .text ++ printedFrom on (t .stage) (t .world) (drop (t .used) xs ++ ys)
+    line = said-line on printing printing-quiet stage w xs ys
 
     -- no whole line is left
-    last-by : Sort on stage w xs ys → t .used ≡ 0 → Whole stage w xs ys (lastly on t)
-    last-by (waiting h e) z = ap (λ (x : Turn W). x .text ++ printedFrom on (x .stage) (x .world) (xs ++ ys)) (sym e)
-    last-by (ending place e l) z = bad place e l
-    last-by (going h u l) z = absurd (u z)
+    last-whole : t .used ≡ 0 → Whole stage w xs ys (lastly on t)
+    last-whole z = line ∙ ap (λ (n : ℕ). t .text ++ printedFrom on (t .stage) (t .world) (drop n xs ++ ys)) z
 
-    more-by : (f : Fed W) → (t .used ≡ 0 → ⊥) → Sort on stage w xs ys → Whole (t .stage) (t .world) (drop (t .used) xs) ys f → Whole stage w xs ys (ahead on t f)
-    more-by f u (waiting h e) k = absurd (u (ap (λ (x : Turn W). x .used) e))
-    more-by f u (ending place e l) k = absurd (u (ap (λ (x : Turn W). x .used) e))
-    more-by f u (going h n l) k = on-with f u l k
+    more-whole : (f : Fed W) → Whole (t .stage) (t .world) (drop (t .used) xs) ys f → Whole stage w xs ys (ahead on t f)
+    more-whole f k =
+        line
+        ∙ ap (λ (x : List ℕ). t .text ++ x) k
+        ∙ sym (append-assoc (t .text) (f .text) (printedFrom on (f .stage) (f .world) (drop (f .used) (drop (t .used) xs) ++ ys)))
+        ∙ rw (drop-drop (f .used) (t .used) xs)
 
   pub pieces : PiecesPrintTheWhole on
   pieces left stage w bytes more =
       fed-by on (λ left stage w xs f. Whole stage w xs more f) (λ left stage w xs h. refl) (λ left stage w xs h. refl)
-      (λ left stage w xs h z. last-by stage w xs more (sort on stage w xs more) z)
-      (λ left stage w xs f u k. more-by stage w xs more f u (sort on stage w xs more) k) (length bytes) left stage w bytes (omega arith)
+      (λ left stage w xs h z. last-whole stage w xs more z) (λ left stage w xs f u k. more-whole stage w xs more f k) (length bytes) left stage w bytes
+      (omega arith)
 
   -- ---- the end
 
@@ -125,18 +62,8 @@ module _ {W : Type 0} (on : World W) where
     abbrev t₁ : Turn W
     t₁ = turnOf on stage w xs
 
-    abbrev Ends : Turn W → Type 0
-    Ends x = printedFrom on (x .stage) (x .world) xs ≡ endText (x .stage) (length xs - 0)
-
-    all-left : length xs - 0 ≡ length xs
-    all-left = omega arith
-
-    last-rest : Sort on stage w xs [] → t₁ .used ≡ 0 → Ends t₁
-    last-rest (waiting h e) u =
-        subst Ends (sym e)
-        (rw all-left (printed-turn stage w xs ∙ ap (λ (x : Turn W). after x xs (printedFrom on (x .stage) (x .world) (drop (x .used) xs))) e))
-    last-rest (ending place e l) u = subst Ends (sym e) (over-silent w xs)
-    last-rest (going h n l) u = absurd (n u)
+    last-rest : t₁ .used ≡ 0 → printedFrom on (t₁ .stage) (t₁ .world) xs ≡ endText (t₁ .stage) (length xs - 0)
+    last-rest u = let all : length xs - 0 ≡ length xs = omega arith in rw all (said-last on printing printing-quiet stage w xs u)
 
     ahead-rest : (f : Fed W) → Rest (drop (t₁ .used) xs) f → Rest xs (ahead on t₁ f)
     ahead-rest f k went =
@@ -145,12 +72,12 @@ module _ {W : Type 0} (on : World W) where
         rw (← drop-drop (f .used) (t₁ .used) xs, ← n) (k went)
 
   none-rest : (stage : Stage) (w : W) (xs : List ℕ) → length xs ≤ 0 → printedFrom on stage w xs ≡ endText stage (length xs - 0)
-  none-rest stage w xs h = let n : length xs - 0 ≡ length xs = omega arith in rw n (none-printed (length xs) stage w xs h)
+  none-rest stage w xs h = let n : length xs - 0 ≡ length xs = omega arith in rw n (none-said on printing printing-quiet (length xs) stage w xs h)
 
   pub lines-rest : (left : ℕ) (stage : Stage) (w : W) (xs : List ℕ) → Rest xs (fedIn on (length xs) left stage w xs)
   lines-rest left stage w xs =
       fed-by on (λ left stage w xs f. Rest xs f) (λ left stage w xs h _. none-rest stage w xs h) (λ left stage w xs h went. absurd (went refl))
-      (λ left stage w xs h z _. last-rest stage w xs (sort on stage w xs []) z) (λ left stage w xs f u k. ahead-rest stage w xs f k)
+      (λ left stage w xs h z _. last-rest stage w xs z) (λ left stage w xs f u k. ahead-rest stage w xs f k)
       (length xs) left stage w xs (omega arith)
 
   -- the lines stopped because the room must be emptied, or for the reason that goes with where the run stands
@@ -188,7 +115,7 @@ module _ {W : Type 0} (on : World W) where
 
     told-finished : (f .stop ≡ Stop.Full → ⊥) → Told (finished on (length xs - f .used) f)
     told-finished went =
-        let silent = over-silent (f .world) (drop (f .used) xs) in (
+        let silent = over-silent on printing printing-quiet (f .world) (drop (f .used) xs) in (
           lines
               ∙ ap (λ (x : List ℕ). f .text ++ x) (end went)
               ∙ sym (append-nil (f .text ++ endText (f .stage) (length xs - f .used)))
@@ -203,7 +130,7 @@ module _ {W : Type 0} (on : World W) where
     told-stage : (s : Stage) → f .stage ≡ s → f .stop ≡ stopAt s → Told (ended (stopAt s))
     told-stage Stage.Awaiting e q = told-waits q
     told-stage Stage.Trading e q = told-waits q
-    told-stage Stage.Over e q = (lines, (λ _. (q, rw e (over-silent (f .world) (drop (f .used) xs)))))
+    told-stage Stage.Over e q = (lines, (λ _. (q, rw e (over-silent on printing printing-quiet (f .world) (drop (f .used) xs)))))
 
     told-by : Stopped f → Told (ended (f .stop))
     told-by (full e) = subst (λ (s : Stop). Told (ended s)) (sym e) (lines, (λ went. absurd (went e)))

@@ -2,20 +2,21 @@
 -- input, and where it stands after its lines.
 use Prim.Native.Nat.{ℕ, zero, suc}
 use mathlib.Core.Bool.{cond}
-use mathlib.Core.List.{List, [], _++_}
-use lib.ListN.{take, drop}
+use mathlib.Core.List.{List, []}
+use lib.ListN.{drop}
 use lib.Dec.{eqb}
 use Rattle.feed_law.specs.declared.Stage.{Stage}
 use Rattle.feed_law.specs.Worlds.{World}
-use Rattle.feed_law.specs.Turns.{Turn, turnOf}
+use Rattle.feed_law.specs.Turns.{Turn, turnOf, Says, saidIn}
+
+-- all that is saved; the end of the input saves nothing
+abbrev pub saving : Says ℕ
+saving = record { line = λ saved text. saved; end = λ stage n. [] }
 
 module _ {W : Type 0} (on : World W) where
   -- all that is saved of the bytes that are left, where these hold at most n lines
-  unfoldable pub savedIn : ℕ → Stage → W → List ℕ → List ℕ
-  savedIn zero stage w bytes = []
-  savedIn (suc n) stage w bytes =
-      let t : Turn W = turnOf on stage w bytes in
-      take (t .saves) bytes ++ cond (eqb (t .used) 0) [] (savedIn n (t .stage) (t .world) (drop (t .used) bytes))
+  abbrev pub savedIn : ℕ → Stage → W → List ℕ → List ℕ
+  savedIn n stage w bytes = saidIn on saving n stage w bytes
 
   -- the state after these lines
   unfoldable pub stateIn : ℕ → Stage → W → List ℕ → W

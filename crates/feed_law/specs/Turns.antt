@@ -2,7 +2,7 @@
 use Prim.Native.Nat.{ℕ, zero, suc, _+_, _-_}
 use mathlib.Core.Bool.{cond}
 use mathlib.Core.List.{List, [], _++_}
-use lib.ListN.{length, drop}
+use lib.ListN.{length, take, drop}
 use lib.Dec.{ltb, eqb}
 use Rattle.terms.specs.declared.Event.{Event}
 use Rattle.terms.specs.declared.Settings.{Settings}
@@ -50,6 +50,16 @@ abbrev pub stopAt : Stage → Stop
 stopAt Stage.Awaiting = Stop.Waits
 stopAt Stage.Trading = Stop.Waits
 stopAt Stage.Over = Stop.Over
+
+-- what is said of a line, of which some bytes are saved and some text is printed; and at the end of the input, by where the run stands and how
+-- many bytes stand behind the last line
+pub record Says (A : Type 0) : Type 0 where
+  pub line : List ℕ → List ℕ → List A
+  pub end : Stage → ℕ → List A
+
+-- all that is printed
+abbrev pub printing : Says ℕ
+printing = record { line = λ saved text. text; end = endText }
 
 module _ {W : Type 0} (on : World W) where
   -- ---- one line
@@ -103,17 +113,22 @@ module _ {W : Type 0} (on : World W) where
 
   -- ---- all lines
 
-  -- what is printed for all the bytes that are left, where these hold at most n lines
-  unfoldable pub printedIn : ℕ → Stage → W → List ℕ → List ℕ
-  printedIn zero stage w bytes = endText stage (length bytes)
-  printedIn (suc n) stage w bytes =
-      let t : Turn W = turnOf stage w bytes in
-      t .text
-      ++ cond (eqb (t .used) 0) (endText (t .stage) (length bytes)) (printedIn n (t .stage) (t .world) (drop (t .used) bytes))
+  -- what is said of all the bytes that are left, where these hold at most n lines
+  module _ {A : Type 0} (says : Says A) where
+    unfoldable pub saidIn : ℕ → Stage → W → List ℕ → List A
+    saidIn zero stage w bytes = says .end stage (length bytes)
+    saidIn (suc n) stage w bytes =
+        let t : Turn W = turnOf stage w bytes in
+        says .line (take (t .saves) bytes) (t .text)
+        ++ cond (eqb (t .used) 0) (says .end (t .stage) (length bytes)) (saidIn n (t .stage) (t .world) (drop (t .used) bytes))
 
-  -- the same without n: each line has at least one byte, so there are no more lines than bytes
+    -- the same without n: each line has at least one byte, so there are no more lines than bytes
+    abbrev pub saidFrom : Stage → W → List ℕ → List A
+    saidFrom stage w bytes = saidIn (length bytes) stage w bytes
+
+  -- what is printed for all the bytes that are left
   abbrev pub printedFrom : Stage → W → List ℕ → List ℕ
-  printedFrom stage w bytes = printedIn (length bytes) stage w bytes
+  printedFrom stage w bytes = saidFrom printing stage w bytes
 
   -- ---- as many lines as there is room for: a line is taken only where the most that it can print fits in what is left of the room
 

@@ -1,4 +1,4 @@
-// feed_law: the law of text in and text out: what a line of input comes to, and what a run of bytes prints.
+// feed_law: the law of text in and text out: what a line of input comes to, and what a run of bytes prints and is to be saved of it.
 // It has no code, and may use engine_law, records_law and the laws of lines, and what these use. It promises: in whatever way the input is
 // cut into pieces, what is printed in all is `printed` of the whole.
 

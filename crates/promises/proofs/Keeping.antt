@@ -2,7 +2,7 @@
 -- on which it stands.
 use Prim.Native.Nat.{ℕ, zero, suc}
 use mathlib.Core.Path.{_≡_, refl, sym, ap, _∙_, subst}
-use mathlib.Core.List.{List, [], _∷_, _++_, append-nil}
+use mathlib.Core.List.{List, [], _∷_, _++_, append-nil, append-assoc}
 use lib.ListN.{length, take, drop}
 use borrow.Author.Tests.{ne-eqb}
 use Rattle.terms.specs.declared.Event.{Event}
@@ -12,6 +12,7 @@ use Rattle.terms.specs.declared.Verdict.the-variants.{Fine, Refused}
 use Rattle.terms.specs.Settings.{settingsVerdict}
 use Rattle.lines_text_law.specs.Grammar.{LineAnswer, whole, unfinished, wrong}
 use Rattle.lines_text_law.proofs.Sorts as sorts
+use Rattle.lines_reading_law.specs.Lines.{renderSettings}
 use Rattle.lines_reading_law.specs.Answers.{readEvent, readSettings}
 use Rattle.lines_reading_law.proofs.EventLines.{event-lines}
 use Rattle.lines_reading_law.proofs.SettingsLines.{settings-lines}
@@ -19,23 +20,27 @@ use Rattle.state_law.specs.Opening.{openingOf, openedBy, fixedSession}
 use Rattle.state_law.specs.Day.{Day, opened}
 use Rattle.engine_law.specs.Outcome.{outcome, after}
 use Rattle.engine_law.proofs.Kept.{refused-nothing}
+use Rattle.engine_law.proofs.Joined.{after-append}
 use Rattle.feed_law.specs.declared.Stage.{Stage}
 use Rattle.feed_law.specs.Worlds.{days}
-use Rattle.feed_law.specs.Turns.{Turn, turnOf, eventTurn, settingsTurn, stageBy, savesBy}
+use Rattle.feed_law.specs.Turns.{Turn, turnOf, eventTurn, settingsTurn, stageBy, savesBy, saidIn}
 use Rattle.feed_law.specs.Saving.{savedIn, stateIn}
 use Rattle.resume_law.specs.Saved.{eventLines, saved, anyEvent, AllAccepted}
-use Rattle.resume_law.specs.Rebuilt.{rebuilt}
+use Rattle.resume_law.specs.declared.Comeback.{Comeback}
+use Rattle.resume_law.specs.Rebuilt.{Rebuilt, rebuilt, resumed}
 use Rattle.resume_law.specs.Comes.FoundAs.{comes-back}
 use Rattle.resume_law.proofs.Ones.{one-coming}
-use Rattle.promises.specs.Resumed.{FileHolds, ProgramComesBack}
+use Rattle.resume_law.proofs.Finds.{lines-append}
+use Rattle.promises.specs.Resumed.{FileHolds, ProgramComesBack, savedOn, stateOn, ProgramGoesOn}
 use Rattle.promises.specs.Resumed.FileHolds.{nothing, the-day}
+use Rattle.promises.proofs.Counts.{Counted, counted}
 
 -- ---- one line, by its turn
 
 module _ (n : ℕ) (stage : Stage) (d : Day) (bytes : List ℕ) (t : Turn Day) (turn : turnOf days stage d bytes ≡ t) where
   -- no line is taken
   none-saved : t .used ≡ 0 → t .saves ≡ 0 → savedIn days (suc n) stage d bytes ≡ []
-  unfolding savedIn
+  unfolding saidIn
   none-saved u s = rw (turn, u, s) refl
 
   none-moved : t .used ≡ 0 → stateIn days (suc n) stage d bytes ≡ t .world
@@ -45,7 +50,7 @@ module _ (n : ℕ) (stage : Stage) (d : Day) (bytes : List ℕ) (t : Turn Day) (
   -- a line is taken, and others follow
   module _ (some : t .used ≡ 0 → ⊥) where
     saved-on : savedIn days (suc n) stage d bytes ≡ take (t .saves) bytes ++ savedIn days n (t .stage) (t .world) (drop (t .used) bytes)
-    unfolding savedIn
+    unfolding saidIn
     saved-on = rw (turn, ne-eqb (t .used) 0 some) refl
 
     moved-on : stateIn days (suc n) stage d bytes ≡ stateIn days n (t .stage) (t .world) (drop (t .used) bytes)
@@ -55,7 +60,7 @@ module _ (n : ℕ) (stage : Stage) (d : Day) (bytes : List ℕ) (t : Turn Day) (
 -- ---- once the run is over
 
 over-saved : (n : ℕ) (d : Day) (bytes : List ℕ) → savedIn days n Stage.Over d bytes ≡ []
-unfolding savedIn
+unfolding saidIn
 over-saved zero d bytes = refl
 over-saved (suc n) d bytes = none-saved n Stage.Over d bytes _ refl refl refl
 
@@ -132,7 +137,7 @@ trades-read n again d bytes (wrong m) q =
     still (suc n) d bytes (none-saved n Stage.Trading d bytes _ t refl refl) (none-moved n Stage.Trading d bytes _ t refl)
 
 trades : (n : ℕ) (d : Day) (bytes : List ℕ) → Trades n d bytes
-unfolding savedIn stateIn
+unfolding saidIn stateIn
 trades zero d bytes = still zero d bytes refl refl
 trades (suc n) d bytes = trades-read n (trades n) d bytes (readEvent bytes) refl
 
@@ -186,7 +191,7 @@ begins-read n input unfinished q = unbegun (none-saved n Stage.Awaiting none inp
 begins-read n input (wrong m) q = unbegun (none-saved n Stage.Awaiting none input _ (ap (settingsTurn days none) q) refl refl)
 
 begins : (n : ℕ) (input : List ℕ) → Begins n input
-unfolding savedIn
+unfolding saidIn
 begins zero input = unbegun refl
 begins (suc n) input = begins-read n input (readSettings input) refl
 
@@ -199,3 +204,32 @@ program-comes-back input = go (begins (length input) input)
         the-day g es e v a
         (sym (one-coming _ _ (comes-back g es [] (e ∙ sym (append-nil (saved g es))) v a (event-lines .none)))
         ∙ (λ i. rebuilt (length (sym e i)) (anyEvent es) (sym w i)))
+
+-- ---- killed and brought back
+
+accepted-append : (d : Day) (es more : List Event) → AllAccepted d es → AllAccepted (after d es) more → AllAccepted d (es ++ more)
+unfolding after
+accepted-append d [] more a b = b
+accepted-append d (e ∷ es) more a b = (a .0, accepted-append (outcome d e .day) es more (a .1) b)
+
+saved-append : (g : Settings) (es more : List Event) → saved g es ++ eventLines more ≡ saved g (es ++ more)
+saved-append g es more =
+    append-assoc (renderSettings g) (eventLines es) (eventLines more) ∙ ap (λ (x : List ℕ). renderSettings g ++ x) (sym (lines-append es more))
+
+pub program-goes-on : ProgramGoesOn
+program-goes-on file input n answer =
+    let k : Counted file n = counted file n answer in
+    let d : Day = resumed file .day in
+    let day-is : after (opened (k .g)) (k .es) ≡ d = sym (ap (λ (x : Rebuilt). x .day) (k .comes)) in
+    let t : Trades (length input) d input = trades (length input) d input in
+    let all : List Event = k .es ++ t .events in
+    let bytes : take n file ++ savedOn d input ≡ saved (k .g) all = (λ i. k .lines i ++ t .lines i) ∙ saved-append (k .g) (k .es) (t .events) in
+    let accepted : AllAccepted (opened (k .g)) all =
+    accepted-append (opened (k .g)) (k .es) (t .events) (k .accepted) (subst (λ (x : Day). AllAccepted x (t .events)) (sym day-is) (t .accepted)) in
+    let day : after (opened (k .g)) all ≡ stateOn d input =
+    after-append (opened (k .g)) (k .es) (t .events) ∙ ap (λ (x : Day). after x (t .events)) day-is ∙ sym (t .day) in
+    let comes : resumed (take n file ++ savedOn d input) ≡ rebuilt (length (saved (k .g) all)) (anyEvent all) (after (opened (k .g)) all) =
+    sym (one-coming _ _ (comes-back (k .g) all [] (bytes ∙ sym (append-nil (saved (k .g) all))) (k .settings) accepted (event-lines .none))) in (
+      ap (λ (x : Rebuilt). x .answer) comes ∙ ap (λ (x : List ℕ). Comeback.Counts (length x)) (sym bytes),
+      ap (λ (x : Rebuilt). x .day) comes ∙ day,
+    )

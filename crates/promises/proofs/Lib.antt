@@ -10,5 +10,6 @@ pub mod Calls
 pub mod Seen
 pub mod Determined
 pub mod Printing
+pub mod Counts
 pub mod Resuming
 pub mod Keeping

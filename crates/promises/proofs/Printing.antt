@@ -36,9 +36,9 @@ use Rattle.engine_law.proofs.Left.{sides-few, outcome-day}
 use Rattle.engine_law.proofs.Applies.{called-outcome}
 use Rattle.feed_law.specs.declared.Run.{Run}
 use Rattle.feed_law.specs.declared.Stage.{Stage}
-use Rattle.feed_law.specs.Texts.{eventText, endText}
+use Rattle.feed_law.specs.Texts.{eventText}
 use Rattle.feed_law.specs.Worlds.{Lent, lentOf, days, calls}
-use Rattle.feed_law.specs.Turns.{Turn, Fed, fedIn, endBehind, settingsTurn, eventTurn, turnOf, printedIn, printedFrom, printed}
+use Rattle.feed_law.specs.Turns.{Turn, Fed, fedIn, endBehind, savesBy, settingsTurn, eventTurn, turnOf, Says, printing, saidIn, printedFrom, printed}
 use Rattle.feed_law.specs.Pieces.{fedToEnd}
 use Rattle.feed_law.specs.Feeds.{Feed, TakenAs, feedVerdict, fedBy, fedOf, endedOf}
 use Rattle.feed_law.proofs.Going.{fed-by}
@@ -110,18 +110,19 @@ module _ (l : Lent) (e : Event) (long : Long l) where
 
 -- ---- one line in both worlds
 
-record Same (t : Turn Lent) (u : Turn Day) : Type 0 where
-  stage : t .stage ≡ u .stage
-  day : dayLent (t .world) ≡ u .world
-  used : t .used ≡ u .used
-  text : t .text ≡ u .text
-  long : Long (t .world)
+pub record Same (t : Turn Lent) (u : Turn Day) : Type 0 where
+  pub stage : t .stage ≡ u .stage
+  pub day : dayLent (t .world) ≡ u .world
+  pub used : t .used ≡ u .used
+  pub saves : t .saves ≡ u .saves
+  pub text : t .text ≡ u .text
+  pub long : Long (t .world)
 
 settings-same : (l : Lent) → Long l → (o : LineAnswer Settings) → Same (settingsTurn calls l o) (settingsTurn days (dayLent l) o)
 unfolding calls
-settings-same l h (whole g n) = record { stage = refl; day = opened-day g l; used = refl; text = refl; long = h }
-settings-same l h unfinished = record { stage = refl; day = refl; used = refl; text = refl; long = h }
-settings-same l h (wrong n) = record { stage = refl; day = refl; used = refl; text = refl; long = h }
+settings-same l h (whole g n) = record { stage = refl; day = opened-day g l; used = refl; saves = refl; text = refl; long = h }
+settings-same l h unfinished = record { stage = refl; day = refl; used = refl; saves = refl; text = refl; long = h }
+settings-same l h (wrong n) = record { stage = refl; day = refl; used = refl; saves = refl; text = refl; long = h }
 
 event-same : (l : Lent) → Long l → (o : LineAnswer Event) → Same (eventTurn calls l o) (eventTurn days (dayLent l) o)
 unfolding calls days
@@ -130,30 +131,32 @@ event-same l h (whole e n) =
       stage = refl;
       day = next-day l e h;
       used = refl;
+      saves = ap (λ (x : Outcome). savesBy (x .verdict) n) (comes-to l e h);
       text = ap (λ (x : Outcome). eventText e (x .verdict) (x .reports)) (comes-to l e h);
       long = next-long l e h;
     }
-event-same l h unfinished = record { stage = refl; day = refl; used = refl; text = refl; long = h }
-event-same l h (wrong n) = record { stage = refl; day = refl; used = refl; text = refl; long = h }
+event-same l h unfinished = record { stage = refl; day = refl; used = refl; saves = refl; text = refl; long = h }
+event-same l h (wrong n) = record { stage = refl; day = refl; used = refl; saves = refl; text = refl; long = h }
 
-turn-same : (stage : Stage) (l : Lent) → Long l → (bytes : List ℕ) → Same (turnOf calls stage l bytes) (turnOf days stage (dayLent l) bytes)
+pub turn-same : (stage : Stage) (l : Lent) → Long l → (bytes : List ℕ) → Same (turnOf calls stage l bytes) (turnOf days stage (dayLent l) bytes)
 turn-same Stage.Awaiting l h bytes = settings-same l h (readSettings bytes)
 turn-same Stage.Trading l h bytes = event-same l h (readEvent bytes)
-turn-same Stage.Over l h bytes = record { stage = refl; day = refl; used = refl; text = refl; long = h }
+turn-same Stage.Over l h bytes = record { stage = refl; day = refl; used = refl; saves = refl; text = refl; long = h }
 
 -- ---- all lines in both worlds
 
-pub same-printed : (n : ℕ) (stage : Stage) (l : Lent) (bytes : List ℕ) → Long l → printedIn calls n stage l bytes ≡ printedIn days n stage (dayLent l) bytes
-unfolding printedIn
-same-printed zero stage l bytes h = refl
-same-printed (suc n) stage l bytes h =
+pub same-said : {A : Type 0} (says : Says A) (n : ℕ) (stage : Stage) (l : Lent) (bytes : List ℕ) → Long l →
+    saidIn calls says n stage l bytes ≡ saidIn days says n stage (dayLent l) bytes
+unfolding saidIn
+same-said says zero stage l bytes h = refl
+same-said {A} says (suc n) stage l bytes h =
     let t : Turn Lent = turnOf calls stage l bytes in
     let s : Same t (turnOf days stage (dayLent l) bytes) = turn-same stage l h bytes in
-    ap (λ (x : List ℕ). t .text ++ cond (eqb (t .used) 0) (endText (t .stage) (length bytes)) x)
-    (same-printed n (t .stage) (t .world) (drop (t .used) bytes) (s .long))
+    ap (λ (x : List A). says .line (take (t .saves) bytes) (t .text) ++ cond (eqb (t .used) 0) (says .end (t .stage) (length bytes)) x)
+    (same-said says n (t .stage) (t .world) (drop (t .used) bytes) (s .long))
     ∙ (λ i.
-    s .text i
-    ++ cond (eqb (s .used i) 0) (endText (s .stage i) (length bytes)) (printedIn days n (s .stage i) (s .day i) (drop (s .used i) bytes)))
+    says .line (take (s .saves i) bytes) (s .text i)
+    ++ cond (eqb (s .used i) 0) (says .end (s .stage i) (length bytes)) (saidIn days says n (s .stage i) (s .day i) (drop (s .used i) bytes)))
 
 pub fed-long : (left : ℕ) (stage : Stage) (l : Lent) (bytes : List ℕ) → Long l → Long (fedIn calls (length bytes) left stage l bytes .world)
 fed-long left stage l bytes =
@@ -203,7 +206,7 @@ module _ (of : Feed) (h h′ : Holding) (p : Piece) (text : List ℕ) (k : Piece
       let world : dayLent (f .world) ≡ dayOn h′ = ap dayLent (sym (as-fed .world)) ∙ ap (λ (x : Run). dayIn (x .session) (h′ .buys) (h′ .sells)) (sym (k .run)) in
       let kept : drop (f .used) (h .kept ++ p .bytes) ≡ h′ .kept = sym (k .kept ∙ ap (λ (n : ℕ). drop n (h .kept ++ p .bytes)) (as-fed .used)) in
       let bytes : List ℕ = drop (f .used) (h .kept ++ p .bytes) ++ more in
-      same-printed (length bytes) (f .stage) (f .world) bytes long ∙ (λ i. printedFrom days (stage i) (world i) (kept i ++ more))
+      same-said printing (length bytes) (f .stage) (f .world) bytes long ∙ (λ i. printedFrom days (stage i) (world i) (kept i ++ more))
 
 -- what was to be printed of these bytes before the call, in terms of days
 beforehand : (h : Holding) (p : Piece) → feedVerdict (h .buys) (h .sells) (p .room) ≡ Fine → (more : List ℕ) →
@@ -211,7 +214,7 @@ beforehand : (h : Holding) (p : Piece) → feedVerdict (h .buys) (h .sells) (p .
 beforehand h p v more =
     let l : Lent = lentOf (h .run .session) (h .buys) (h .sells) (p .room) in
     let long : Long l = fine-long (h .run) (h .buys) (h .sells) (p .room) [] [] v in
-    same-printed (length ((h .kept ++ p .bytes) ++ more)) (h .run .stage) l ((h .kept ++ p .bytes) ++ more) long
+    same-said printing (length ((h .kept ++ p .bytes) ++ more)) (h .run .stage) l ((h .kept ++ p .bytes) ++ more) long
     ∙ ap (printedFrom days (h .run .stage) (dayOn h)) (append-assoc (h .kept) (p .bytes) more)
 
 handed-prints : (h h′ : Holding) (p : Piece) (text : List ℕ) → PieceFed fedOf h p text h′ → (more : List ℕ) → toPrint h (p .bytes ++ more) ≡ text ++ toPrint h′ more

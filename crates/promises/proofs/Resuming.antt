@@ -5,7 +5,6 @@ use mathlib.Core.Path.{_≡_, refl, sym, ap, _∙_, subst}
 use mathlib.Core.Bool.{Bool, true, false}
 use mathlib.Core.List.{List, [], _∷_, _++_, append-assoc}
 use lib.ListN.{length, take, replicate, length-replicate}
-use lib.Seq.{take-at}
 use borrow.Author.Tests.{le-leb, leb-true}
 use Rattle.terms.specs.declared.Settings.{Settings}
 use Rattle.terms.specs.declared.Event.{Event}
@@ -35,8 +34,6 @@ use Rattle.engine_law.proofs.Left.{sides-few}
 use Rattle.resume_law.specs.declared.Comeback.{Comeback}
 use Rattle.resume_law.specs.Saved.{saved, anyEvent, AllAccepted, acceptedOf, wholeIn}
 use Rattle.resume_law.specs.Rebuilt.{Rebuilt, rebuilt, resumed}
-use Rattle.resume_law.specs.Comes.{FoundAs}
-use Rattle.resume_law.specs.Comes.FoundAs.{settings-unfinished, settings-wrong, settings-refused, comes-back, line-wrong, line-refused}
 use Rattle.resume_law.specs.Calls.{tableAfter, tablesLong, resumedOn}
 use Rattle.resume_law.proofs.Cuts.{cut-comes-back, wholes-are-whole}
 use Rattle.resume_law.proofs.Finds.{any-bytes-found, refusal-keeps, saved-replays}
@@ -49,6 +46,7 @@ use Rattle.promises.proofs.Runs.{asked-append}
 use Rattle.promises.proofs.Tables.{first-records, Left, by-room, held-outcome, run-follows, run-asks}
 use Rattle.promises.proofs.Openings.{opening-held, run-from}
 use Rattle.promises.proofs.Calls.{calls-keep-lots, calls-keep-orders}
+use Rattle.promises.proofs.Counts.{counted}
 
 -- ---- what a run leaves in the tables
 
@@ -301,30 +299,16 @@ module _ (bytes buys sells : List ℕ) (n : ℕ) (h : Held) (c : Came bytes buys
         sold = c .contract .sold ∙ ap (λ (y : Rebuilt). tableAfter (y .moved) (y .day .sells) sells) e;
       }
 
-  counts-are : {m : ℕ} → Comeback.Counts m ≡ Comeback.Counts n → n ≡ m
-  counts-are q = cc
-
-  refusing : {r : Refusal} {m : ℕ} → Comeback.Refused r m ≡ Comeback.Counts n → ⊥
-  refusing p = let z : _≡_ {A = ℕ} 0 1 = cc in omega arith
-
-  back-by : (y : Rebuilt) → FoundAs bytes y → x ≡ y → Back bytes buys sells n h
-  back-by y (settings-unfinished q) e = absurd (refusing (ap (λ (z : Rebuilt). z .answer) (sym e) ∙ answer-is))
-  back-by y (settings-wrong m q) e = absurd (refusing (ap (λ (z : Rebuilt). z .answer) (sym e) ∙ answer-is))
-  back-by y (settings-refused g line rest r q l v) e = absurd (refusing (ap (λ (z : Rebuilt). z .answer) (sym e) ∙ answer-is))
-  back-by y (comes-back g es tail q v a u) e =
-      let m : n ≡ length (saved g es) = counts-are (ap (λ (z : Rebuilt). z .answer) (sym e) ∙ answer-is) in
-      record {
-        g = g;
-        es = es;
-        long = long-is;
-        lines = record { settings = v; accepted = a; lines = ap (take n) q ∙ take-at (saved g es) tail n (sym m) };
-        exactly = by-x g es e;
-      }
-  back-by y (line-wrong g es tail m q v a u) e = absurd (refusing (ap (λ (z : Rebuilt). z .answer) (sym e) ∙ answer-is))
-  back-by y (line-refused g es f line tail r q l v a u) e = absurd (refusing (ap (λ (z : Rebuilt). z .answer) (sym e) ∙ answer-is))
-
   back : Back bytes buys sells n h
-  back = back-by (resumed bytes) (any-bytes-found bytes) x-is
+  back =
+      let k = counted bytes n (ap (λ (z : Rebuilt). z .answer) (sym x-is) ∙ answer-is) in
+      record {
+        g = k .g;
+        es = k .es;
+        long = long-is;
+        lines = record { settings = k .settings; accepted = k .accepted; lines = k .lines };
+        exactly = by-x (k .g) (k .es) (x-is ∙ k .comes);
+      }
 
   tables-long : LongTables buys sells
   unfolding tablesLong

@@ -12,7 +12,7 @@ use Rattle.feed_law.specs.declared.Run.{Run}
 use Rattle.feed_law.specs.declared.Stop.{Stop}
 use Rattle.feed_law.specs.declared.Taken.{Taken}
 use Rattle.feed_law.specs.Worlds.{Lent, days}
-use Rattle.feed_law.specs.Turns.{Fed, printedFrom, printed}
+use Rattle.feed_law.specs.Turns.{Fed, Says, printing, saidFrom, printed}
 use Rattle.feed_law.specs.Feeds.{Feed, freshRun, feedVerdict, fedOf, endedOf, TakenBy}
 
 -- ---- what a caller holds between calls: the run, both tables, and the bytes that were not taken
@@ -56,9 +56,12 @@ pub data Feeding : Holding → List ℕ → List ℕ → Holding → Type 0 wher
   feeds : (h h′ h″ : Holding) (p : Piece) (input text more : List ℕ) → PieceFed fedOf h p text h′ → Feeding h′ input more h″ →
       Feeding h (p .bytes ++ input) (text ++ more) h″
 
--- what is still to be printed for the bytes that are held and others behind them
+-- what is still to be said of the bytes that are held and others behind them; what is still to be printed
+abbrev pub toSay : {A : Type 0} → Says A → Holding → List ℕ → List A
+toSay says h more = saidFrom days says (h .run .stage) (dayOn h) (h .kept ++ more)
+
 abbrev pub toPrint : Holding → List ℕ → List ℕ
-toPrint h more = printedFrom days (h .run .stage) (dayOn h) (h .kept ++ more)
+toPrint h more = toSay printing h more
 
 -- HOWEVER THE INPUT IS CUT: what was printed, and what is still to be printed for the bytes that are held, is `printed` of the whole input
 abbrev pub FeedingPrints : Type 0

@@ -138,6 +138,22 @@ pub data FileHolds (input : List ℕ) : Type 0 where
 abbrev pub ProgramComesBack : Type 0
 ProgramComesBack = (input : List ℕ) → FileHolds input
 
+-- what it saves of its input and where it stands then, from a day that came back on
+abbrev pub savedOn : Day → List ℕ → List ℕ
+savedOn d input = savedIn days (length input) Stage.Trading d input
+
+abbrev pub stateOn : Day → List ℕ → Day
+stateOn d input = stateIn days (length input) Stage.Trading d input
+
+-- however often it is killed: where a file comes back, the bytes of it that count and what is saved behind them come back in turn, all of them,
+-- as the day on which the program stands
+abbrev pub ProgramGoesOn : Type 0
+ProgramGoesOn =
+    (file input : List ℕ) (n : ℕ) → resumed file .answer ≡ Comeback.Counts n →
+    let d : Day = resumed file .day in
+    let kept : List ℕ = take n file ++ savedOn d input in
+    (resumed kept .answer ≡ Comeback.Counts (length kept)) × (resumed kept .day ≡ stateOn d input)
+
 -- ---- refusals
 
 -- "1 for tables, first; then by the first bad line"

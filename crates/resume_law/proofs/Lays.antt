@@ -121,7 +121,7 @@ turned-down {x} {buys} {sells} {y} e q =
 -- ---- the settings
 
 module _ (g : Settings) (o : Opened) (begun : o ≡ openingOf g) where
-  judged : (v : Verdict) → o .verdict ≡ v → settingsVerdict g ≡ v
+  pub judged : (v : Verdict) → o .verdict ≡ v → settingsVerdict g ≡ v
   unfolding openingOf
   judged v e = by-verdict (settingsVerdict g) ∙ ap (λ (x : Opened). x .verdict) (sym begun) ∙ e
     where
@@ -129,7 +129,7 @@ module _ (g : Settings) (o : Opened) (begun : o ≡ openingOf g) where
       by-verdict Fine = refl
       by-verdict (Refused r) = refl
 
-  session-is : o .verdict ≡ Fine → o .session ≡ openedSession g
+  pub session-is : o .verdict ≡ Fine → o .session ≡ openedSession g
   unfolding openingOf
   session-is e = ap (λ (x : Opened). x .session) begun ∙ ap (λ (x : Verdict). openedBy g x .session) (judged Fine e)
 

@@ -7,3 +7,6 @@ pub mod Apart
 pub mod Steps
 pub mod Replays
 pub mod Lays
+pub mod Longer
+pub mod Standings
+pub mod Fronts

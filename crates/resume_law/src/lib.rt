@@ -1,6 +1,7 @@
 // resume_law: the law of coming back: what saved bytes are rebuilt to, and what a call that resumes leaves.
 // It has no code, and may use engine_law and the laws of lines, and what these use. It promises: the saved lines of an accepted run, cut
-// after any byte, come back as the settings and all whole events; any bytes are answered in exactly one way, by their first bad line.
+// after any byte, come back as the settings and all whole events; any bytes are answered in exactly one way, by their first bad line; and in
+// whatever pieces a file is read, the same comes back.
 
 use state_law::Session;
 use terms::Refusal;
@@ -46,4 +47,30 @@ pub struct Replayed {
     pub answer: Comeback,
     pub session: Session,
     pub moved: bool,
+}
+
+// ---- a file that is read in pieces
+
+// What a file brought back: the answer and the session, and whether all could be read.
+pub struct Back {
+    pub answer: Comeback,
+    pub session: Session,
+    pub read: bool,
+}
+
+// What the lines of a piece came to: how many of its bytes were taken, how many of all, what came back, and whether more may follow.
+pub struct Passed {
+    pub used: usize,
+    pub before: usize,
+    pub back: Back,
+    pub more: bool,
+}
+
+// What is kept from piece to piece: how many bytes stand at the buffer's front, how many were taken before them, what came back, and whether
+// to go on.
+pub struct Coming {
+    pub have: usize,
+    pub before: usize,
+    pub back: Back,
+    pub more: bool,
 }

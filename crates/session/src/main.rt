@@ -1,16 +1,17 @@
 // session: reads a day's lines from standard input and prints its report lines to standard output. With `--resume FILE` the day is kept in a
 // file: its lines bring the day back, and each accepted line is appended to it before its reports are printed. Where reading, saving or
 // printing fails the program stops, says so on standard error in one line, and prints nothing more.
-use stream_keep::Kept;
 use stream_law::Finish;
+use stream_law::Kept;
 
-// A day from its lines, kept nowhere.
-fn play() {
-    match stream::print(libc::STDIN_FILENO) {
+// Says how a run ended, where it failed.
+fn tell(finish: Finish) {
+    match finish {
         Finish::Printed => {}
         Finish::Same => {}
         Finish::Differs => {}
         Finish::Unread => os::fail(b"session: standard input cannot be read"),
+        Finish::Unsaved => os::fail(b"session: the file cannot be written"),
         Finish::Unwritten => os::fail(b"session: standard output cannot be written"),
     }
 }
@@ -18,12 +19,9 @@ fn play() {
 // A day that is kept in the file that a path names.
 fn keep(path: &[u8]) {
     match stream_keep::keep(libc::STDIN_FILENO, path) {
-        Kept::Whole => {}
         Kept::NotOpened => os::fail(b"session: the file cannot be opened"),
         Kept::NotRead => os::fail(b"session: the file cannot be read"),
-        Kept::NotSaved => os::fail(b"session: the file cannot be written"),
-        Kept::Unread => os::fail(b"session: standard input cannot be read"),
-        Kept::Unwritten => os::fail(b"session: standard output cannot be written"),
+        Kept::Ran(finish) => tell(finish),
     }
 }
 
@@ -58,7 +56,7 @@ fn keep_named() -> bool {
 fn main() {
     let given = os::arg_count();
     if given < 2 {
-        play();
+        tell(stream::print(libc::STDIN_FILENO));
         return;
     }
     if given == 3 {

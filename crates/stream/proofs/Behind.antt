@@ -11,6 +11,7 @@ use mir.Val.{Fits}
 use Rattle.descriptors.specs.declared.Got.{Got}
 use Rattle.descriptors.specs.Counted.{GotWithin}
 use Rattle.descriptors.proofs.Parts.{got-within}
+use Rattle.feed_law.specs.Turns.{Says}
 use Rattle.stream_law.specs.declared.Buffered.{Buffered}
 use Rattle.stream_law.specs.declared.Reading.{Reading}
 use Rattle.stream_law.specs.Streams.{heldAs, TakesIn, HearsOn}
@@ -19,32 +20,32 @@ use Rattle.stream_law.proofs.Hearing.{front-kept, hears-none, hears-some, off-d
 use Rattle.stream.specs.Front.{ReadBehind}
 
 -- a read into the rest of a buffer keeps the front, and gives no more bytes than there is room for
-pub read-behind : {have : ℕ} {buf : List ℕ} (part′ : List ℕ) {r : Got} → have < length buf → GotWithin (length (take (length buf - have) (drop have buf))) r →
-    length part′ ≡ length (take (length buf - have) (drop have buf)) → ReadBehind have buf (putMid have (length buf - have) buf part′) r
-read-behind {have} {buf} part′ {r} h k e =
+pub read-behind : {have : ℕ} {buf : List ℕ} (part′ : List ℕ) {r : Got} → have < length buf → length buf < 2 ^ 64 →
+    GotWithin (length (take (length buf - have) (drop have buf))) r → length part′ ≡ length (take (length buf - have) (drop have buf)) →
+    ReadBehind have buf (putMid have (length buf - have) buf part′) r
+read-behind {have} {buf} part′ {r} h w k e =
+    let got : GotWithin (length buf - have) r = subst (λ (n : ℕ). GotWithin n r) (ap length (rest-is buf have) ∙ length-drop have buf) k in
     record {
       kept = record { same = same-len-mid have (length buf - have) buf part′ e; front = front-kept buf _ have (le-of-lt h) };
-      got = subst (λ (n : ℕ). GotWithin n r) (ap length (rest-is buf have) ∙ length-drop have buf) k;
+      got = got;
+      within = record { ends = λ n some. let l = got-within got some in omega arith };
     }
 
-module _ {have n : ℕ} {buf buf₁ : List ℕ} {g : Got} (b : ReadBehind have buf buf₁ g) (some : g ≡ Got.Bytes n) (h : have < length buf) where
+module _ {have n : ℕ} {buf buf₁ : List ℕ} {g : Got} (b : ReadBehind have buf buf₁ g) (some : g ≡ Got.Bytes n) where
   -- the n bytes that came end within the buffer
-  end-there : have + n ≤ length buf
-  end-there = let l = got-within (b .got) some in omega arith
+  pub end-within : have < length buf → have + n ≤ length buf₁
+  end-within h = let l = got-within (b .got) some in let s = b .kept .same in omega arith
 
-  pub end-within : have + n ≤ length buf₁
-  end-within = let l = end-there in let s = b .kept .same in omega arith
+  pub end-fits : Fits w64 (have + n)
+  end-fits = record { fits = b .within .ends n some }
 
-  pub end-fits : length buf < 2 ^ 64 → Fits w64 (have + n)
-  end-fits w = record { fits = let l = end-there in omega arith }
-
-module _ {expected buys sells : List ℕ} {h r : Buffered} {buf buf₁ : List ℕ} {g : Got} (b : ReadBehind (h .have) buf buf₁ g) where
-  pub came-some : {n : ℕ} {buf′ buys′ sells′ : List ℕ} → g ≡ Got.Bytes n → TakesIn expected (h .run) buf₁ (h .have + n) buys sells (h .to) buf′ buys′ sells′ r →
-      HearsOn expected h buf buys sells buf′ buys′ sells′ r
+module _ {says : Says ℕ} {expected buys sells : List ℕ} {h r : Buffered} {buf buf₁ : List ℕ} {g : Got} (b : ReadBehind (h .have) buf buf₁ g) where
+  pub came-some : {n : ℕ} {buf′ buys′ sells′ : List ℕ} → g ≡ Got.Bytes n → TakesIn says expected (h .run) buf₁ (h .have + n) buys sells (h .to) buf′ buys′ sells′ r →
+      HearsOn says expected h buf buys sells buf′ buys′ sells′ r
   came-some {n} e k = hears-some (b .kept) n k
 
-  pub came-none : h .have < length buf → r ≡ heldAs (h .run) (h .have) (h .to) Reading.Done → HearsOn expected h buf buys sells buf₁ buys sells r
+  pub came-none : h .have < length buf → r ≡ heldAs (h .run) (h .have) (h .to) Reading.Done → HearsOn says expected h buf buys sells buf₁ buys sells r
   came-none k e = hears-none (b .kept) off-done k e
 
-  pub came-failed : h .have < length buf → r ≡ heldAs (h .run) (h .have) (h .to) Reading.Failed → HearsOn expected h buf buys sells buf₁ buys sells r
+  pub came-failed : h .have < length buf → r ≡ heldAs (h .run) (h .have) (h .to) Reading.Failed → HearsOn says expected h buf buys sells buf₁ buys sells r
   came-failed k e = hears-none (b .kept) off-failed k e

@@ -1,39 +1,42 @@
 // stream_keep: a day that is kept in a file. The file's lines bring the day back; then lines are read from a descriptor, and each that the
 // engine accepts is appended to the file, and has reached the disk, before its reports are printed.
-// It may use io, libc, os, descriptors, feed, feed_turns, feed_prints, resume and stream_feed, and what these use. It is proved that it is safe
-// and ends, and no more: its contracts are bounds. That the file's lines are replayed, that just the bytes are appended which a turn of
-// feed_law says are to be saved, that this is done before printing, and that after a failure no line is taken, is in the code and in no
-// contract; host/killed and host/failures try it.
+// It may use libc, os, feed, feed_prints, stream, stream_back and stream_sink, and what these use. It promises that it is safe and ends; and
+// that the file could not be opened or read, or that there are bytes, of the file and of the input (the proof takes those that were read), for
+// which this holds: the day that goes on is what the file's bytes come back as, the file is cut to those that count, and then the file and the
+// output are handed what stream_law says, in its order, until something fails. What the kernel does with what it is handed is on trust.
 
-pub mod back;
-pub mod files;
-pub mod lines;
+mod files;
 
-use back::Came;
-use descriptors::writing;
 use feed_law::Run;
 use feed_law::Stage;
 use feed_prints::printing;
+use resume_law::Back;
 use resume_law::Comeback;
 use state_law::Session;
+use stream_law::Finish;
+use stream_law::Kept;
+use stream_law::Mode;
+use stream_law::Sink;
 use tables::lengths;
 use terms::Refusal;
+use terms::numbers;
 use terms::sizes;
-ghost use Rattle.engine_law.specs.Calls.{LongEnough};
+ghost use Prim.Native.Nat.{_≤_};
+ghost use mathlib.Core.Path.{_≡_};
+ghost use mathlib.Core.List.{[]};
+ghost use lib.ListN.{length};
+ghost use Rattle.terms.specs.Sizes.{lineRoom};
+ghost use Rattle.engine_law.specs.Calls.{LongTables, LongEnough};
+ghost use Rattle.stream_law.specs.declared.Sink.{Sink};
+ghost use Rattle.stream_law.specs.Streams.{holding};
+ghost use Rattle.stream_law.specs.Keeping.{OnAs, tradingRun, isUnbegun, RefusedAs, BadLaid, BadTold, BegunAs, KeptAs};
 
-// How a day that is kept ended: all was read, saved and printed; or the file could not be opened, read or written; or the input could not be
-// read, or the output printed.
-pub enum Kept {
-    Whole,
-    NotOpened,
-    NotRead,
-    NotSaved,
-    Unread,
-    Unwritten,
-}
+// ---- a day goes on
 
 // The run of a session that came back.
-fn trading(session: Session) -> Run {
+fn trading(session: Session) -> Run
+    ensures { λ r. ⌜ r ≡ tradingRun session ⌝ }
+{
     Run {
         stage: Stage::Trading,
         session: session,
@@ -44,86 +47,178 @@ fn trading(session: Session) -> Run {
 fn go_on(
     input: i32,
     file: i32,
+    to: Sink,
+    expected: &[u8],
     count: usize,
     run: Run,
     buys: &mut [u64],
     sells: &mut [u64],
-    room: &mut [u64],
-) -> Kept {
-    if !files::cut(file, count) {
-        return Kept::NotSaved;
+) -> Finish
+    requires { ⌜ LongTables (now buys) (now sells) ⌝ }
+    ensures { λ r. ⌜ OnAs (now (expected .entry)) to count (holding run (now (buys .entry)) (now (sells .entry)) []) r ⌝ }
+{
+    let cut = stream_sink::cut(to, expected, file, count);
+    if !stream_sink::is_open(cut) {
+        return stream_sink::finish(cut, expected);
     }
-    lines::keep_all(input, file, run, buys, sells, room)
+    stream::go_on(input, Mode::Keeping(file), cut, expected, run, buys, sells)
 }
 
-// Tells of the file's first bad line: nothing comes back, and nothing is read.
-fn tell_bad(refusal: Refusal, place: usize) -> Kept {
+// ---- nothing came back
+
+// The line that tells of a bad line.
+fn bad_line(refusal: Refusal, place: usize, out: &mut [u8]) -> usize
+    requires { ⌜ lineRoom ≤ length (now out) ⌝ }
+    ensures { λ r. ⌜ BadLaid refusal place (now (out .entry)) r (now (out .exit)) ⌝ }
+{
+    printing::tell_bad(refusal, place, out)
+}
+
+// Tells of a bad line of the file, with a room for what is told.
+fn tell_in(to: Sink, expected: &[u8], refusal: Refusal, place: usize, out: &mut [u8]) -> Finish
+    requires { ⌜ lineRoom ≤ length (now out) ⌝ }
+    ensures { λ r. ⌜ BadTold (now (expected .entry)) to refusal place r ⌝ }
+{
+    let n = bad_line(refusal, place, out);
+    let shown = stream_sink::show(to, expected, &out[0..n]);
+    stream_sink::finish(shown, expected)
+}
+
+// Tells of the file's first bad line.
+fn tell_bad(to: Sink, expected: &[u8], refusal: Refusal, place: usize) -> Finish
+    ensures { λ r. ⌜ BadTold (now (expected .entry)) to refusal place r ⌝ }
+{
     let mut line = [0u8; sizes::LINE];
-    let n = lines::told_bad(refusal, place, &mut line);
-    if writing::write_whole(libc::STDOUT_FILENO, &line[0..n]) {
-        return Kept::Whole;
-    }
-    Kept::Unwritten
+    tell_in(to, expected, refusal, place, &mut line)
 }
 
 // Whether not even the settings line is whole, so that no day has begun.
-fn is_unbegun(refusal: Refusal) -> bool {
-    match refusal {
-        Refusal::LineUnfinished => true,
-        _ => false,
-    }
+fn is_unbegun(refusal: Refusal) -> bool
+    ensures { λ r. ⌜ r ≡ isUnbegun refusal ⌝ }
+{
+    numbers::of_refusal(refusal) == 14
 }
 
-// By what the file's lines say: the day that comes back goes on; where none has begun the file is emptied, and the settings come from the
-// input; a bad line is told.
+// Where no day has begun the file is emptied, and the settings come from the input; another bad line is told, and nothing is read.
+fn not_back(
+    input: i32,
+    file: i32,
+    to: Sink,
+    expected: &[u8],
+    refusal: Refusal,
+    place: usize,
+    buys: &mut [u64],
+    sells: &mut [u64],
+) -> Finish
+    requires { ⌜ LongTables (now buys) (now sells) ⌝ }
+    ensures { λ r. ⌜ RefusedAs (now (expected .entry)) to refusal place r ⌝ }
+{
+    if is_unbegun(refusal) {
+        let fresh = feed::start();
+        return go_on(input, file, to, expected, 0, fresh, buys, sells);
+    }
+    tell_bad(to, expected, refusal, place)
+}
+
+// ---- a whole day
+
+// By what the file brought back: the day goes on, or nothing came back.
 fn begin(
     input: i32,
     file: i32,
-    came: Came,
+    to: Sink,
+    expected: &[u8],
+    back: Back,
     buys: &mut [u64],
     sells: &mut [u64],
-    room: &mut [u64],
-) -> Kept {
-    let answer = came.answer;
-    let session = came.session;
+) -> Finish
+    requires { ⌜ LongTables (now buys) (now sells) ⌝ }
+    ensures { λ r. ⌜ BegunAs (now (expected .entry)) to back (now (buys .entry)) (now (sells .entry)) r ⌝ }
+{
+    let answer = back.answer;
+    let session = back.session;
     match answer {
-        Comeback::Counts(count) => go_on(input, file, count, trading(session), buys, sells, room),
+        Comeback::Counts(count) => {
+            let run = trading(session);
+            go_on(input, file, to, expected, count, run, buys, sells)
+        }
         Comeback::Refused(refusal, place) => {
-            if is_unbegun(refusal) {
-                return go_on(input, file, 0, feed::start(), buys, sells, room);
-            }
-            tell_bad(refusal, place)
+            not_back(input, file, to, expected, refusal, place, buys, sells)
         }
     }
 }
 
-// Brings the day of a file back and goes on, with the tables and the room that are lent.
-fn keep_in(input: i32, path: &[u8], buys: &mut [u64], sells: &mut [u64], room: &mut [u64]) -> Kept
+// Brings back the day of a file that is open, and goes on, with the tables and the room that are lent.
+fn keep_from(
+    input: i32,
+    saved: i32,
+    file: i32,
+    to: Sink,
+    expected: &[u8],
+    buys: &mut [u64],
+    sells: &mut [u64],
+    room: &mut [u64],
+) -> Kept
     requires { ⌜ LongEnough (now buys) (now sells) (now room) ⌝ }
+    ensures { λ r. ⌜ KeptAs (now (expected .entry)) to r ⌝ }
 {
-    let saved = files::open_or_make(path);
-    if saved < 0 {
-        return Kept::NotOpened;
-    }
-    let came = back::come_back(saved, buys, sells, room);
-    libc::close(saved);
-    let read = came.read;
+    let back = stream_back::come_back(saved, buys, sells, room);
+    let read = back.read;
     if !read {
         return Kept::NotRead;
     }
-    let file = os::open_append(path);
-    if file < 0 {
-        return Kept::NotOpened;
-    }
-    let kept = begin(input, file, came, buys, sells, room);
+    let ran = begin(input, file, to, expected, back, buys, sells);
+    Kept::Ran(ran)
+}
+
+// The same, with tables and a room of its own.
+fn keep_open(input: i32, saved: i32, file: i32, to: Sink, expected: &[u8]) -> Kept
+    ensures { λ r. ⌜ KeptAs (now (expected .entry)) to r ⌝ }
+{
+    let mut buys = [0u64; lengths::TABLE];
+    let mut sells = [0u64; lengths::TABLE];
+    let mut room = [0u64; lengths::ROOM];
+    keep_from(
+        input,
+        saved,
+        file,
+        to,
+        expected,
+        &mut buys,
+        &mut sells,
+        &mut room,
+    )
+}
+
+// Keeps the day of a file that is open to be read and to be appended to, and closes both.
+fn keep_both(input: i32, saved: i32, file: i32) -> Kept
+    ensures { λ r. ⌜ KeptAs [] Sink.Print r ⌝ }
+{
+    let none = [0u8; 1];
+    let kept = keep_open(input, saved, file, Sink::Print, &none[0..0]);
+    libc::close(saved);
     libc::close(file);
     kept
 }
 
 // Keeps the day of the file that a path names: brings it back, and goes on with the lines of a descriptor.
-pub fn keep(input: i32, path: &[u8]) -> Kept {
-    let mut buys = [0u64; lengths::TABLE];
-    let mut sells = [0u64; lengths::TABLE];
-    let mut room = [0u64; lengths::ROOM];
-    keep_in(input, path, &mut buys, &mut sells, &mut room)
+pub fn keep(input: i32, path: &[u8]) -> Kept
+    ensures { λ r. ⌜ KeptAs [] Sink.Print r ⌝ }
+{
+    let saved = files::open_or_make(path);
+    if saved < 0 {
+        return Kept::NotOpened;
+    }
+    let file = os::open_append(path);
+    if file < 0 {
+        return Kept::NotOpened;
+    }
+    keep_both(input, saved, file)
+}
+
+// Holds all that keeping a day would hand on, to its file and to the output, against an expected log; nothing is written.
+pub fn compare(input: i32, saved: i32, expected: &[u8]) -> Kept
+    ensures { λ r. ⌜ KeptAs (now (expected .entry)) (Sink.Match 0) r ⌝ }
+{
+    keep_open(input, saved, -1, Sink::Match(0), expected)
 }

@@ -1,5 +1,5 @@
 -- What it means that some bytes are the first bytes of others.
-use Prim.Native.Nat.{ℕ, suc, _+_, _-_, _≤_, _<_}
+use Prim.Native.Nat.{ℕ, zero, suc, _+_, _-_, _≤_, _<_}
 use native.Mathlib.Omega.{arith}
 use native.Mathlib.Nat.{le-of-eq, le-of-lt}
 use native.Mathlib.Numerals.{add-one}
@@ -31,6 +31,12 @@ pub begins-self : (xs : List ℕ) → begins xs xs ≡ true
 unfolding begins
 begins-self [] = refl
 begins-self (x ∷ xs) = rw (eq-eqb x x refl) (begins-self xs)
+
+pub begins-take : (n : ℕ) (xs : List ℕ) → begins (take n xs) xs ≡ true
+unfolding begins
+begins-take zero xs = refl
+begins-take (suc n) [] = refl
+begins-take (suc n) (x ∷ xs) = rw (eq-eqb x x refl) (begins-take n xs)
 
 -- ---- one text behind another
 
@@ -113,8 +119,24 @@ pub begins-there : (xs ys : List ℕ) (at : ℕ) {found : Bool} → found ≡ be
 begins-there xs ys at e = e ∙ ap (begins xs) (rest-is ys at)
 
 -- Bytes that agree from a place on end within the expected output, or there are none: so the next place fits a machine number too.
-pub place-fits : (xs ys : List ℕ) (at most : ℕ) → begins xs (drop at ys) ≡ true → at < most → length ys < most → at + length xs < most
-place-fits xs ys at most e h k =
-    let l = ap length (begins-is xs (drop at ys) e) ∙ length-drop at ys in
+pub next-fits : (xs ys : List ℕ) (at most : ℕ) {found : Bool} → found ≡ begins xs (drop at ys) → found ≡ true → at < most → length ys < most →
+    at + length xs < most
+next-fits xs ys at most e t h k =
+    let l = ap length (begins-is xs (drop at ys) (sym e ∙ t)) ∙ length-drop at ys in
     let m = length-append xs (drop (length xs) (drop at ys)) in
     omega arith
+
+pub mark-fits : (mark : ℕ) (ys : List ℕ) (at most : ℕ) {found : Bool} → found ≡ begins (mark ∷ []) (drop at ys) → found ≡ true → at < most →
+    length ys < most → at + 1 < most
+mark-fits mark = next-fits (mark ∷ [])
+
+-- ---- how many bytes of the expected output are left
+
+pub left-none : (ys : List ℕ) (at : ℕ) → length ys < at → 0 ≡ length (drop at ys)
+left-none ys at h = let l = length-drop at ys in omega arith
+
+pub left-some : (ys : List ℕ) (at : ℕ) → length ys - at ≡ length (drop at ys)
+left-some ys at = sym (length-drop at ys)
+
+pub pass-fits : (ys : List ℕ) (at n most : ℕ) {left : ℕ} → left ≡ length (drop at ys) → n ≤ left → at < most → length ys < most → at + n < most
+pass-fits ys at n most e h k m = let l = e ∙ length-drop at ys in omega arith

@@ -1,8 +1,11 @@
 pub mod Beginnings
 pub mod Sends
 pub mod Goes
+pub mod Calls
+pub mod Lines
 pub mod Handing
 pub mod Front
 pub mod Hearing
 pub mod Ending
 pub mod Through
+pub mod Keeping

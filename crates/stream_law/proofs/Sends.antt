@@ -1,19 +1,78 @@
--- A sink stands the same after a text that is sent in parts as after the whole text.
-use Prim.Native.Nat.{ℕ, _+_}
+-- A sink stands the same after a text that is sent in parts as after the whole text, and after a cut as after the bytes that stay.
+use Prim.Native.Nat.{ℕ, suc, _+_, _≤_, _<_}
 use native.Mathlib.Omega.{arith}
 use native.Mathlib.Nat.{zero-add, add-assoc}
 use mathlib.Core.Path.{_≡_, refl, sym, ap, _∙_, subst}
-use mathlib.Core.Bool.{Bool, true, false, false≢true}
-use mathlib.Core.List.{List, [], _++_, append-nil}
-use lib.ListN.{length, drop, length-append}
-use lib.Seq.{drop-drop, drop-length}
+use mathlib.Core.Bool.{Bool, true, false, false≢true, true≢false}
+use mathlib.Core.List.{List, [], _∷_, _++_, append-nil}
+use lib.ListN.{length, getD, take, drop, length-append}
+use lib.Seq.{drop-drop, drop-length, length-take-le}
 use lib.Dec.{eqb}
-use borrow.Author.Tests.{eqb-true, eqb-false}
+use borrow.Author.Tests.{eqb-true, eqb-false, le-leb, lt-leb}
 use Rattle.stream_law.specs.declared.Sink.{Sink}
 use Rattle.stream_law.specs.declared.Finish.{Finish}
-use Rattle.stream_law.specs.Sinks.{begins, matchedBy, matched, Takes, StandsAs, SentAs, comparedBy, finishOf}
+use Rattle.stream_law.specs.Sinks.{begins, matchedBy, matched, Takes, keptBy, StepsBy, StandsAs, SentAs, saveMark, showMark, marked, passed, CutAs, isOpen, comparedBy, finishOf}
 use Rattle.stream_law.specs.Streams.{Tells, Finished, PrintedAs}
-use Rattle.stream_law.proofs.Beginnings.{begins-is, begins-self, begins-append}
+use Rattle.stream_law.proofs.Beginnings.{begins-is, begins-self, begins-append, begins-take}
+
+-- ---- the marks
+
+-- what is saved is not taken for what is shown, but where there are no bytes
+pub told-apart : (xs ys : List ℕ) → marked saveMark xs ≡ marked showMark ys → (xs ≡ []) × (ys ≡ [])
+told-apart [] [] e = (refl, refl)
+told-apart [] (y ∷ ys) e = absurd (let z : 0 ≡ suc (suc (length ys)) = ap length e in omega arith)
+told-apart (x ∷ xs) [] e = absurd (let z : suc (suc (length xs)) ≡ 0 = ap length e in omega arith)
+told-apart (x ∷ xs) (y ∷ ys) e = absurd (let z : saveMark ≡ showMark = ap (λ (l : List ℕ). getD l 0 0) e in omega arith)
+
+-- ---- what a step answers, sink by sink
+
+module _ (next : ℕ → Sink) where
+  steps-print : (to r : Sink) → to ≡ Sink.Print → Takes r → StepsBy next to r
+  steps-print to r e h = rw e h
+
+  steps-match : (to r : Sink) (at : ℕ) → to ≡ Sink.Match at → r ≡ next at → StepsBy next to r
+  steps-match to r at e h = rw e h
+
+  stays : (to : Sink) → isOpen to ≡ false → StepsBy next to to
+  stays Sink.Print e = absurd (true≢false e)
+  stays (Sink.Match at) e = absurd (true≢false e)
+  stays Sink.Differs e = refl
+  stays Sink.Unsaved e = refl
+  stays Sink.Lost e = refl
+
+  steps-shut : (to r : Sink) → to ≡ r → isOpen r ≡ false → StepsBy next to r
+  steps-shut to r e h = subst (λ (s : Sink). StepsBy next s r) (sym e) (stays r h)
+
+kept-takes : (done : Bool) → Takes (keptBy done)
+kept-takes true = tt
+kept-takes false = tt
+
+module _ (expected text : List ℕ) (to r : Sink) where
+  pub sent-print : to ≡ Sink.Print → Takes r → SentAs expected to text r
+  sent-print e h = record { stands = steps-print (λ at. matched expected at text) to r e h }
+
+  pub sent-kept : (done : Bool) → to ≡ Sink.Print → r ≡ keptBy done → SentAs expected to text r
+  sent-kept done e h = sent-print e (subst Takes (sym h) (kept-takes done))
+
+  pub sent-match : {at : ℕ} → to ≡ Sink.Match at → r ≡ matched expected at text → SentAs expected to text r
+  sent-match {at} e h = record { stands = steps-match (λ at. matched expected at text) to r at e h }
+
+  pub sent-shut : to ≡ r → isOpen r ≡ false → SentAs expected to text r
+  sent-shut e h = record { stands = steps-shut (λ at. matched expected at text) to r e h }
+
+module _ (expected : List ℕ) (n : ℕ) (to r : Sink) where
+  pub cut-kept : (done : Bool) → to ≡ Sink.Print → r ≡ keptBy done → CutAs expected to n r
+  cut-kept done e h = record { stands = steps-print (λ at. passed expected at n) to r e (subst Takes (sym h) (kept-takes done)) }
+
+  pub cut-match : {at : ℕ} → to ≡ Sink.Match at → r ≡ passed expected at n → CutAs expected to n r
+  cut-match {at} e h = record { stands = steps-match (λ at. passed expected at n) to r at e h }
+
+  pub cut-shut : to ≡ r → isOpen r ≡ false → CutAs expected to n r
+  cut-shut e h = record { stands = steps-shut (λ at. passed expected at n) to r e h }
+
+pub ruleset sending = (sent-print, sent-kept, sent-match, sent-shut)
+
+pub ruleset cutting = (cut-kept, cut-match, cut-shut)
 
 module _ (expected : List ℕ) where
   -- ---- a comparison
@@ -26,21 +85,6 @@ module _ (expected : List ℕ) where
       Sink.Differs ≡ matched expected at text
   matched-not at text e h = ap (λ (b : Bool). matchedBy b (at + length text)) (sym h ∙ e)
 
-  -- ---- what `send` answers, sink by sink
-
-  module _ {text : List ℕ} {to r : Sink} where
-    pub sent-print : to ≡ Sink.Print → Takes r → SentAs expected to text r
-    sent-print e h = record { stands = rw e h }
-
-    pub sent-match : {at : ℕ} → to ≡ Sink.Match at → r ≡ matched expected at text → SentAs expected to text r
-    sent-match e h = record { stands = rw e h }
-
-  pub sent-differs : {text : List ℕ} {to : Sink} → to ≡ Sink.Differs → SentAs expected to text Sink.Differs
-  sent-differs e = record { stands = rw e refl }
-
-  pub sent-lost : {text : List ℕ} {to : Sink} → to ≡ Sink.Lost → SentAs expected to text Sink.Lost
-  sent-lost e = record { stands = rw e refl }
-
   pub finish-matched : (at : ℕ) {to : Sink} {same : Bool} {r : Finish} → to ≡ Sink.Match at → same ≡ eqb at (length expected) → r ≡ comparedBy same →
       r ≡ finishOf expected to
   finish-matched at e h k = k ∙ ap comparedBy h ∙ ap (finishOf expected) (sym e)
@@ -52,6 +96,7 @@ module _ (expected : List ℕ) where
   stands-none Sink.Print = tt
   stands-none (Sink.Match at) = ap Sink.Match (omega arith)
   stands-none Sink.Differs = refl
+  stands-none Sink.Unsaved = refl
   stands-none Sink.Lost = refl
 
   pub sent-none : (to : Sink) → SentAs expected to [] to
@@ -64,6 +109,7 @@ module _ (expected : List ℕ) where
     print-then Sink.Print r h k = k
     print-then (Sink.Match at) r h k = absurd h
     print-then Sink.Differs r h k = absurd h
+    print-then Sink.Unsaved r h k = subst Takes (sym k) tt
     print-then Sink.Lost r h k = subst Takes (sym k) tt
 
     matched-then : (at : ℕ) (b : Bool) (s r : Sink) → begins xs (drop at expected) ≡ b → s ≡ matchedBy b (at + length xs) →
@@ -80,10 +126,47 @@ module _ (expected : List ℕ) where
     stands-then Sink.Print s r h k = print-then s r h k
     stands-then (Sink.Match at) s r h k = matched-then at (begins xs (drop at expected)) s r refl h k
     stands-then Sink.Differs s r h k = subst (λ (x : Sink). StandsAs expected x ys r) h k
+    stands-then Sink.Unsaved s r h k = subst (λ (x : Sink). StandsAs expected x ys r) h k
     stands-then Sink.Lost s r h k = subst (λ (x : Sink). StandsAs expected x ys r) h k
 
     pub sent-then : (to s r : Sink) → SentAs expected to xs s → SentAs expected s ys r → SentAs expected to (xs ++ ys) r
     sent-then to s r h k = record { stands = stands-then to s r (h .stands) (k .stands) }
+
+  -- ---- a text behind its mark
+
+  pub marked-none : (at mark : ℕ) (bytes : List ℕ) → length bytes ≡ 0 → Sink.Match at ≡ matched expected at (marked mark bytes)
+  unfolding begins
+  marked-none at mark [] e = ap Sink.Match (omega arith)
+  marked-none at mark (x ∷ xs) e = absurd (let z : suc (length xs) ≡ 0 = e in omega arith)
+
+  module _ (at mark : ℕ) {found : Bool} (e : found ≡ begins (mark ∷ []) (drop at expected)) where
+    pub marked-next : (bytes : List ℕ) {r : Sink} → (length bytes ≡ 0 → ⊥) → found ≡ true → r ≡ matched expected (at + 1) bytes →
+        r ≡ matched expected at (marked mark bytes)
+    marked-next [] n h k = absurd (n refl)
+    marked-next (x ∷ xs) {r} n h k = matched-then (mark ∷ []) (x ∷ xs) at true (Sink.Match (at + 1)) r (sym e ∙ h) refl k
+
+    pub marked-not : (bytes : List ℕ) → (length bytes ≡ 0 → ⊥) → found ≡ false → Sink.Differs ≡ matched expected at (marked mark bytes)
+    marked-not [] n h = absurd (n refl)
+    marked-not (x ∷ xs) n h = matched-then (mark ∷ []) (x ∷ xs) at false Sink.Differs Sink.Differs (sym e ∙ h) refl refl
+
+  -- ---- a cut
+
+  module _ (at n : ℕ) {left : ℕ} (e : left ≡ length (drop at expected)) where
+    pub passed-on : n ≤ left → Sink.Match (at + n) ≡ passed expected at n
+    passed-on h = ap (λ (b : Bool). matchedBy b (at + n)) (sym (le-leb n (length (drop at expected)) (subst (λ (m : ℕ). n ≤ m) e h)))
+
+    pub passed-not : left < n → Sink.Differs ≡ passed expected at n
+    passed-not h = ap (λ (b : Bool). matchedBy b (at + n)) (sym (lt-leb n (length (drop at expected)) (subst (λ (m : ℕ). m < n) e h)))
+
+  -- what a cut passes over is held against itself: a comparison stands as if those bytes had been sent
+  pub cut-sends : (at n : ℕ) (r : Sink) → n ≤ length (drop at expected) → CutAs expected (Sink.Match at) n r →
+      SentAs expected (Sink.Match at) (take n (drop at expected)) r
+  cut-sends at n r h k =
+      record {
+        stands =
+            k .stands
+            ∙ rw (le-leb n (length (drop at expected)) h, begins-take n (drop at expected), length-take-le n (drop at expected) h);
+      }
 
   -- ---- the end
 
@@ -111,6 +194,7 @@ module _ (expected : List ℕ) where
     takes-printed Sink.Print h = tt
     takes-printed (Sink.Match at) h = absurd h
     takes-printed Sink.Differs h = absurd h
+    takes-printed Sink.Unsaved h = tt
     takes-printed Sink.Lost h = tt
 
     pub finish-printed : (r : Finish) → Finished expected Sink.Print text r → PrintedAs r

@@ -1,2 +1,3 @@
 pub mod Sinks
 pub mod Streams
+pub mod Keeping

@@ -1,25 +1,39 @@
 -- A run whose input is read in pieces and whose output is sent on.
-use Prim.Native.Nat.{ℕ, _+_, _-_, _*_, _≤_}
+use Prim.Native.Nat.{ℕ, _-_, _*_, _≤_, _<_}
 use mathlib.Core.Path.{_≡_}
-use mathlib.Core.Bool.{Bool, true, false, cond, _&&_}
+use mathlib.Core.Bool.{Bool, true, false, not, cond, _&&_}
 use mathlib.Core.List.{List, [], _++_}
 use lib.ListN.{length, take, drop, replicate}
+use lib.Dec.{eqb}
 use Rattle.terms.specs.Sizes.{lineRoom}
-use Rattle.tables.specs.Lengths.{roomLength}
+use Rattle.engine_law.specs.Calls.{LongEnough}
 use Rattle.feed_law.specs.declared.Run.{Run}
 use Rattle.feed_law.specs.declared.Stage.{Stage}
 use Rattle.feed_law.specs.declared.Stop.{Stop}
+use Rattle.feed_law.specs.declared.Turned.{Turned}
 use Rattle.feed_law.specs.Texts.{textMost, endText}
-use Rattle.feed_law.specs.Worlds.{Lent}
-use Rattle.feed_law.specs.Turns.{Fed, printed}
-use Rattle.feed_law.specs.Feeds.{fedOf}
-use Rattle.promises.specs.Printed.{Holding, toPrint}
+use Rattle.feed_law.specs.Turns.{Says, printing, printed}
+use Rattle.feed_law.specs.Feeds.{freshRun, TurnTaken}
+use Rattle.promises.specs.Printed.{Holding, toSay}
 use Rattle.stream_law.specs.declared.Sink.{Sink}
 use Rattle.stream_law.specs.declared.Finish.{Finish}
 use Rattle.stream_law.specs.declared.Handed.{Handed}
 use Rattle.stream_law.specs.declared.Buffered.{Buffered}
 use Rattle.stream_law.specs.declared.Reading.{Reading}
-use Rattle.stream_law.specs.Sinks.{SentAs, isOpen, finishOf}
+use Rattle.stream_law.specs.declared.Mode.{Mode}
+use Rattle.stream_law.specs.Sinks.{SentAs, isOpen, finishOf, saveMark, showMark, marked}
+
+-- ---- what a program hands on
+
+-- a program that keeps its day in a file: of each line first the bytes that are to be saved, and only then its text; and at the end, the end's
+-- text
+abbrev pub logging : Says ℕ
+logging = record { line = λ saved text. marked saveMark saved ++ marked showMark text; end = λ stage n. marked showMark (endText stage n) }
+
+-- by whether the day is kept: if not, just what is printed
+abbrev pub saysOf : Mode → Says ℕ
+saysOf Mode.Bare = printing
+saysOf (Mode.Keeping file) = logging
 
 -- ---- one call of feed
 
@@ -29,10 +43,6 @@ outRoom = textMost * 2
 
 abbrev pub zeros : ℕ → List ℕ
 zeros n = replicate n 0
-
--- what `feed::lines::take_lines` comes to in the program's rooms, in which all is zero before the call
-abbrev pub fedHere : Run → List ℕ → List ℕ → List ℕ → Fed Lent
-fedHere run buys sells bytes = fedOf run buys sells (zeros roomLength) bytes (zeros outRoom)
 
 abbrev pub isFull : Stop → Bool
 isFull Stop.Waits = false
@@ -44,24 +54,10 @@ isFull (Stop.Refused r) = false
 abbrev pub moreAfter : Stop → Sink → Bool
 moreAfter stop to = isFull stop && isOpen to
 
--- THE CONTRACT of a call of feed whose output is sent on: each answer and each lent number by an equation
-pub record HandedAs (f : Fed Lent) (expected : List ℕ) (to : Sink) (buys′ sells′ : List ℕ) (r : Handed) : Type 0 where
-  pub stage : r .run .stage ≡ f .stage
-  pub session : r .run .session ≡ f .world .session
-  pub buys : buys′ ≡ f .world .buys
-  pub sells : sells′ ≡ f .world .sells
-  pub used : r .used ≡ f .used
-  pub sent : SentAs expected to (f .text) (r .to)
-  pub more : r .more ≡ moreAfter (f .stop) (r .to)
-
--- THE CONTRACTS of a call of feed in lent rooms, and of one in the program's rooms on the bytes from a place on
-pub record HandedIn (run : Run) (buys sells room bytes out expected : List ℕ) (to : Sink) (buys′ sells′ : List ℕ) (r : Handed) : Type 0 where
-  pub handed : HandedAs (fedOf run buys sells room bytes out) expected to buys′ sells′ r
-  pub within : r .used ≤ length bytes
-
-pub record HandedFrom (run : Run) (buys sells bytes : List ℕ) (at : ℕ) (expected : List ℕ) (to : Sink) (buys′ sells′ : List ℕ) (r : Handed) : Type 0 where
-  pub handed : HandedAs (fedHere run buys sells (drop at bytes)) expected to buys′ sells′ r
-  pub within : at + r .used ≤ length bytes
+-- THE CONTRACT of a line's turn on tables and in rooms that are long enough
+pub record TurnLong (run : Run) (buys sells room bytes out buys′ sells′ room′ out′ : List ℕ) (r : Turned) : Type 0 where
+  pub long : LongEnough buys sells room
+  pub taken : TurnTaken run buys sells room bytes out buys′ sells′ room′ out′ r
 
 -- ---- many calls, and reads between them
 
@@ -69,16 +65,20 @@ abbrev pub holding : Run → List ℕ → List ℕ → List ℕ → Holding
 holding run buys sells kept = record { run = run; buys = buys; sells = sells; kept = kept }
 
 -- A run goes from one standing to another: some bytes were read and some text was sent. Whatever bytes follow, this text and what is then
--- still to be printed are what was to be printed before.
-pub record Goes (expected : List ℕ) (a : Holding) (to : Sink) (got : List ℕ) (b : Holding) (to′ : Sink) : Type 0 where
+-- still to be said are what was to be said before.
+pub record Goes (says : Says ℕ) (expected : List ℕ) (a : Holding) (to : Sink) (got : List ℕ) (b : Holding) (to′ : Sink) : Type 0 where
   pub text : List ℕ
-  pub prints : (more : List ℕ) → toPrint a (got ++ more) ≡ text ++ toPrint b more
+  pub said : (more : List ℕ) → toSay says a (got ++ more) ≡ text ++ toSay says b more
   pub sent : SentAs expected to text to′
 
--- no whole line is left: what is still to be printed is what the end prints, and what is kept is the start of a line
-pub record NoLine (h : Holding) : Type 0 where
-  pub end : toPrint h [] ≡ endText (h .run .stage) (length (h .kept))
+-- no whole line is left: what is still to be said is what the end says, and what is kept is the start of a line
+pub record NoLine (says : Says ℕ) (h : Holding) : Type 0 where
+  pub end : toSay says h [] ≡ says .end (h .run .stage) (length (h .kept))
   pub short : (h .run .stage ≡ Stage.Over → ⊥) → length (h .kept) ≤ lineRoom
+
+-- more lines are to be taken behind a line: it was whole, and more may be sent
+abbrev pub goesOn : ℕ → Sink → Bool
+goesOn used to = not (eqb used 0) && isOpen to
 
 abbrev pub handedTo : Run → ℕ → Sink → Handed
 handedTo run used to = record { run = run; used = used; to = to; more = false }
@@ -87,11 +87,20 @@ handedTo run used to = record { run = run; used = used; to = to; more = false }
 abbrev pub handedOn : Holding → List ℕ → List ℕ → Handed → Holding
 handedOn a buys′ sells′ r = holding (r .run) buys′ sells′ (drop (r .used) (a .kept))
 
--- THE CONTRACT of `hand_over`: all whole lines are taken, unless the sink was shut before
-pub record OverAs (expected : List ℕ) (a : Holding) (to : Sink) (buys′ sells′ : List ℕ) (r : Handed) : Type 0 where
+-- THE CONTRACT of a step, which hands on one line or many: where more lines are to be taken, some were; where the sink is shut, no more are;
+-- and where it is open and no more are, no whole line is left
+pub record HandsOn (says : Says ℕ) (expected : List ℕ) (a : Holding) (to : Sink) (buys′ sells′ : List ℕ) (r : Handed) : Type 0 where
   pub within : r .used ≤ length (a .kept)
-  pub goes : Goes expected a to [] (handedOn a buys′ sells′ r) (r .to)
-  pub lines : isOpen (r .to) ≡ true → NoLine (handedOn a buys′ sells′ r)
+  pub goes : Goes says expected a to [] (handedOn a buys′ sells′ r) (r .to)
+  pub some : r .more ≡ true → 0 < r .used
+  pub shut : isOpen (r .to) ≡ false → r .more ≡ false
+  pub none : isOpen (r .to) ≡ true → r .more ≡ false → NoLine says (handedOn a buys′ sells′ r)
+
+-- THE CONTRACT of `hand_over`: all whole lines are taken, unless the sink was shut before
+pub record OverAs (says : Says ℕ) (expected : List ℕ) (a : Holding) (to : Sink) (buys′ sells′ : List ℕ) (r : Handed) : Type 0 where
+  pub within : r .used ≤ length (a .kept)
+  pub goes : Goes says expected a to [] (handedOn a buys′ sells′ r) (r .to)
+  pub lines : isOpen (r .to) ≡ true → NoLine says (handedOn a buys′ sells′ r)
 
 -- ---- reads
 
@@ -124,9 +133,9 @@ pub record ToFront (buf : List ℕ) (start end : ℕ) (buf′ : List ℕ) : Type
   pub front : take (end - start) buf′ ≡ drop start (take end buf)
 
 -- THE CONTRACT of `take_in`: the bytes in the buffer are handed over, and those that are left are moved to its front
-pub record TakesIn (expected : List ℕ) (run : Run) (buf : List ℕ) (end : ℕ) (buys sells : List ℕ) (to : Sink) (buf′ buys′ sells′ : List ℕ) (r : Buffered) : Type 0 where
+pub record TakesIn (says : Says ℕ) (expected : List ℕ) (run : Run) (buf : List ℕ) (end : ℕ) (buys sells : List ℕ) (to : Sink) (buf′ buys′ sells′ : List ℕ) (r : Buffered) : Type 0 where
   pub room : BufferRoom buf′ r
-  pub goes : Goes expected (holding run buys sells (take end buf)) to [] (heldOn buf′ buys′ sells′ r) (r .to)
+  pub goes : Goes says expected (holding run buys sells (take end buf)) to [] (heldOn buf′ buys′ sells′ r) (r .to)
   pub reading : r .reading ≡ readingAfter (r .run .stage) (r .to)
 
 -- a read behind what is kept leaves that as it was
@@ -134,21 +143,26 @@ pub record FrontKept (have : ℕ) (buf buf′ : List ℕ) : Type 0 where
   pub same : length buf′ ≡ length buf
   pub front : take have buf′ ≡ take have buf
 
--- THE CONTRACT of a read, and of many: there are bytes that came, and what they come to was sent or is still to be printed
-pub record Hears (expected : List ℕ) (a : Holding) (to : Sink) (buf′ buys′ sells′ : List ℕ) (r : Buffered) : Type 0 where
+-- THE CONTRACT of a read, and of many: there are bytes that came, and what they come to was sent or is still to be said
+pub record Hears (says : Says ℕ) (expected : List ℕ) (a : Holding) (to : Sink) (buf′ buys′ sells′ : List ℕ) (r : Buffered) : Type 0 where
   pub room : BufferRoom buf′ r
   pub got : List ℕ
-  pub goes : Goes expected a to got (heldOn buf′ buys′ sells′ r) (r .to)
+  pub goes : Goes says expected a to got (heldOn buf′ buys′ sells′ r) (r .to)
 
 -- the same, for a run that holds an unfinished line at the front of a buffer
-pub record HearsOn (expected : List ℕ) (h : Buffered) (buf buys sells buf′ buys′ sells′ : List ℕ) (r : Buffered) : Type 0 where
-  pub hears : Hears expected (heldOn buf buys sells h) (h .to) buf′ buys′ sells′ r
+pub record HearsOn (says : Says ℕ) (expected : List ℕ) (h : Buffered) (buf buys sells buf′ buys′ sells′ : List ℕ) (r : Buffered) : Type 0 where
+  pub hears : Hears says expected (heldOn buf buys sells h) (h .to) buf′ buys′ sells′ r
 
 -- ---- the end
 
--- THE CONTRACT of the end: all that is printed for the bytes that are left is sent
-pub record EndsAs (expected : List ℕ) (a : Holding) (to r : Sink) : Type 0 where
-  pub sent : SentAs expected to (toPrint a []) r
+-- what the end prints, as it is sent
+abbrev pub endBy : Mode → List ℕ → List ℕ
+endBy Mode.Bare text = text
+endBy (Mode.Keeping file) text = marked showMark text
+
+-- THE CONTRACT of the end: all that is said of the bytes that are left is sent
+pub record EndsAs (says : Says ℕ) (expected : List ℕ) (a : Holding) (to r : Sink) : Type 0 where
+  pub sent : SentAs expected to (toSay says a []) r
 
 -- ---- a whole run
 
@@ -164,10 +178,17 @@ pub record Finished (expected : List ℕ) (to : Sink) (text : List ℕ) (r : Fin
   pub sent : SentAs expected to text sink
   pub finish : r ≡ finishOf expected sink
 
--- THE CONTRACT of `through`: not all could be read; or there are bytes for which all that THE PROGRAM prints was sent
-pub data ThroughAs (expected : List ℕ) (to : Sink) (r : Finish) : Type 0 where
-  unread : r ≡ Finish.Unread → ThroughAs expected to r
-  whole : (input : List ℕ) → Finished expected to (printed input) r → ThroughAs expected to r
+-- THE CONTRACT of a whole run from a standing on: there are bytes, those that came, and a read failed behind them, when what they come to was
+-- sent or was still to be said; or all was sent that is said of them and of the end
+pub data ThroughAs (says : Says ℕ) (expected : List ℕ) (a : Holding) (to : Sink) (r : Finish) : Type 0 where
+  unread : (input : List ℕ) (b : Holding) (to′ : Sink) → Goes says expected a to input b to′ → r ≡ Finish.Unread → ThroughAs says expected a to r
+  whole : (input : List ℕ) → Finished expected to (toSay says a input) r → ThroughAs says expected a to r
+
+-- THE CONTRACT of `through`: a day from its first line on, of which only what THE PROGRAM prints is sent; the tables may hold anything
+pub record FreshThrough (expected : List ℕ) (to : Sink) (r : Finish) : Type 0 where
+  pub buys : List ℕ
+  pub sells : List ℕ
+  pub run : ThroughAs printing expected (holding freshRun buys sells []) to r
 
 -- what the answer of a comparison says of the text that was sent
 abbrev pub Tells : List ℕ → List ℕ → Finish → Type 0
@@ -175,6 +196,7 @@ Tells text expected Finish.Printed = ⊥
 Tells text expected Finish.Same = text ≡ expected
 Tells text expected Finish.Differs = text ≡ expected → ⊥
 Tells text expected Finish.Unread = Unit {0}
+Tells text expected Finish.Unsaved = ⊥
 Tells text expected Finish.Unwritten = ⊥
 
 -- THE CONTRACT of `compare`: there are bytes, and the answer is right for all that THE PROGRAM prints for them
@@ -188,4 +210,5 @@ PrintedAs Finish.Printed = Unit {0}
 PrintedAs Finish.Same = ⊥
 PrintedAs Finish.Differs = ⊥
 PrintedAs Finish.Unread = Unit {0}
+PrintedAs Finish.Unsaved = Unit {0}
 PrintedAs Finish.Unwritten = Unit {0}

@@ -1,26 +1,36 @@
-// stream_law: what a run comes to that reads its input in pieces and prints its output, or holds it against an expected one.
-// It has no code, and may use feed_law and promises, and what these use. It promises: in whatever pieces some bytes come, all is sent that
-// `printed` says of them, and a comparison answers "same" just where that is what was expected.
+// stream_law: what a run comes to that reads its input in pieces and prints what it comes to, or saves each line in a file before it shows its
+// text; or that holds all of it against an expected text.
+// It has no code, and may use feed_law, resume_law and promises, and what these use. It promises: in whatever pieces some bytes come, all is
+// sent that the program says of them, and a comparison answers "same" just where that is what was expected; and of a day that is kept, all that
+// is saved and all that is shown is what feed_law says.
 
 use feed_law::Run;
 
-// Where printed bytes go, and how they fared: all went to standard output; or they are held against an expected output, and are its first so
-// many bytes; or they are not what was expected; or some could not be printed.
+// Where a run's bytes go, and how they fared: all that was handed went to the file and to standard output; or is held against an expected
+// text, and is its first so many bytes; or is not what was expected; or some could not be saved, or not be printed.
 pub enum Sink {
     Print,
     Match(usize),
     Differs,
+    Unsaved,
     Lost,
 }
 
-// How a run ended: all was printed; what it printed is what was expected, or is not; its input could not be read; its output could not
-// be printed.
+// How a run ended: all was printed; what it printed is what was expected, or is not; its input could not be read; some of it
+// could not be saved, or not be printed.
 pub enum Finish {
     Printed,
     Same,
     Differs,
     Unread,
+    Unsaved,
     Unwritten,
+}
+
+// Whether a day is kept: only printed; or kept in the file of a descriptor, so that each line is saved before its text is shown.
+pub enum Mode {
+    Bare,
+    Keeping(i32),
 }
 
 // What a call of feed came to: where the run stands, how many bytes were taken, where its output went, whether there are more lines to take.
@@ -45,4 +55,11 @@ pub struct Buffered {
     pub have: usize,
     pub to: Sink,
     pub reading: Reading,
+}
+
+// How a day that is kept ended: its file could not be opened, or not be read; or it ran, and how that ended.
+pub enum Kept {
+    NotOpened,
+    NotRead,
+    Ran(Finish),
 }

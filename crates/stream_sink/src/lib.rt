@@ -1,53 +1,26 @@
-// stream_sink: where printed bytes go: to standard output, or against an expected output that is lent.
-// It may use libc, descriptors and the definitions of stream_law. It promises, of any bytes: a comparison answers what stream_law says; and
-// after a difference, or after a write that failed, nothing is compared or printed any more.
+// stream_sink: where a run's bytes go: to the file of a day and to standard output, or against an expected text that is lent.
+// It may use libc, descriptors and the definitions of stream_law. It promises, of any bytes: a comparison answers what stream_law says, where
+// what is saved and what is shown are held in the order in which they come, each behind its mark; and a sink that met a difference, or a save
+// or a print that failed, stays as it is. Which bytes reach the file and standard output is up to the C library, and no contract says it.
+
+mod comparing;
+mod files;
 
 use descriptors::writing;
 use stream_law::Finish;
 use stream_law::Sink;
 ghost use mathlib.Core.Path.{_≡_};
-ghost use lib.ListN.{length, drop};
+ghost use lib.ListN.{length};
 ghost use lib.Dec.{eqb};
-ghost use Rattle.stream_law.specs.Sinks.{begins, matched, Takes, SentAs, isOpen, comparedBy, finishOf};
+ghost use Rattle.stream_law.specs.Sinks.{Takes, keptBy, SentAs, saveMark, showMark, marked, CutAs, isOpen, comparedBy, finishOf};
 
-// Whether some bytes are the first bytes of others.
-fn begins(bytes: &[u8], all: &[u8]) -> bool
-    ensures { λ r. ⌜ r ≡ begins (now (bytes .entry)) (now (all .entry)) ⌝ }
-{
-    if all.len() < bytes.len() {
-        return false;
-    }
-    let mut i: usize = 0;
-    while i < bytes.len() {
-        if bytes[i] != all[i] {
-            return false;
-        }
-        i += 1;
-    }
-    true
-}
+// The mark of what is saved.
+const SAVED: u8 = b'>';
 
-// Whether some bytes come next in an expected output, of which the first `at` bytes were printed.
-fn is_next(expected: &[u8], at: usize, bytes: &[u8]) -> bool
-    ensures { λ r. ⌜ r ≡ begins (now (bytes .entry)) (drop at (now (expected .entry))) ⌝ }
-{
-    if expected.len() < at {
-        return bytes.len() == 0;
-    }
-    begins(bytes, &expected[at..])
-}
+// The mark of what is shown.
+const SHOWN: u8 = b'<';
 
-// Holds some bytes against an expected output, of which the first `at` bytes were printed.
-fn hold(expected: &[u8], at: usize, bytes: &[u8]) -> Sink
-    ensures { λ r. ⌜ r ≡ matched (now (expected .entry)) at (now (bytes .entry)) ⌝ }
-{
-    if is_next(expected, at, bytes) {
-        let next = at + bytes.len();
-        return Sink::Match(next);
-    }
-    Sink::Differs
-}
-
+// Prints some bytes on standard output.
 fn print(bytes: &[u8]) -> Sink
     ensures { λ r. ⌜ Takes r ⌝ }
 {
@@ -57,14 +30,65 @@ fn print(bytes: &[u8]) -> Sink
     Sink::Lost
 }
 
+// How the sink stands after the file was written or cut, or could not be.
+fn kept(done: bool) -> Sink
+    ensures { λ r. ⌜ r ≡ keptBy done ⌝ }
+{
+    if done {
+        return Sink::Print;
+    }
+    Sink::Unsaved
+}
+
 // Sends some bytes, and answers how the sink stands then.
 pub fn send(to: Sink, expected: &[u8], bytes: &[u8]) -> Sink
     ensures { λ r. ⌜ SentAs (now (expected .entry)) to (now (bytes .entry)) r ⌝ }
 {
     match to {
         Sink::Print => print(bytes),
-        Sink::Match(at) => hold(expected, at, bytes),
+        Sink::Match(at) => comparing::hold(expected, at, bytes),
         Sink::Differs => Sink::Differs,
+        Sink::Unsaved => Sink::Unsaved,
+        Sink::Lost => Sink::Lost,
+    }
+}
+
+// Saves some bytes: appends them to the file and waits until they have reached the disk; or holds them, behind their mark, against what is
+// expected.
+pub fn save(to: Sink, expected: &[u8], file: i32, bytes: &[u8]) -> Sink
+    ensures { λ r. ⌜ SentAs (now (expected .entry)) to (marked saveMark (now (bytes .entry))) r ⌝ }
+{
+    match to {
+        Sink::Print => kept(files::append(file, bytes)),
+        Sink::Match(at) => comparing::hold_marked(expected, at, SAVED, bytes),
+        Sink::Differs => Sink::Differs,
+        Sink::Unsaved => Sink::Unsaved,
+        Sink::Lost => Sink::Lost,
+    }
+}
+
+// Shows some bytes: prints them on standard output; or holds them, behind their mark, against what is expected.
+pub fn show(to: Sink, expected: &[u8], bytes: &[u8]) -> Sink
+    ensures { λ r. ⌜ SentAs (now (expected .entry)) to (marked showMark (now (bytes .entry))) r ⌝ }
+{
+    match to {
+        Sink::Print => print(bytes),
+        Sink::Match(at) => comparing::hold_marked(expected, at, SHOWN, bytes),
+        Sink::Differs => Sink::Differs,
+        Sink::Unsaved => Sink::Unsaved, // what could not be saved is not shown
+        Sink::Lost => Sink::Lost,
+    }
+}
+
+// Cuts the file to its first bytes, and waits until that has reached the disk; a comparison passes over as many bytes.
+pub fn cut(to: Sink, expected: &[u8], file: i32, count: usize) -> Sink
+    ensures { λ r. ⌜ CutAs (now (expected .entry)) to count r ⌝ }
+{
+    match to {
+        Sink::Print => kept(files::cut(file, count)),
+        Sink::Match(at) => comparing::pass(expected, at, count),
+        Sink::Differs => Sink::Differs,
+        Sink::Unsaved => Sink::Unsaved,
         Sink::Lost => Sink::Lost,
     }
 }
@@ -77,17 +101,19 @@ pub fn is_open(to: Sink) -> bool
         Sink::Print => true,
         Sink::Match(_) => true,
         Sink::Differs => false,
+        Sink::Unsaved => false,
         Sink::Lost => false,
     }
 }
 
-// Whether all of an expected output was printed.
+// Whether all of an expected text was met.
 fn is_done(expected: &[u8], at: usize) -> bool
     ensures { λ r. ⌜ r ≡ eqb at (length (now (expected .entry))) ⌝ }
 {
     at == expected.len()
 }
 
+// The end of a comparison.
 fn compared(same: bool) -> Finish
     ensures { λ r. ⌜ r ≡ comparedBy same ⌝ }
 {
@@ -105,6 +131,7 @@ pub fn finish(to: Sink, expected: &[u8]) -> Finish
         Sink::Print => Finish::Printed,
         Sink::Match(at) => compared(is_done(expected, at)),
         Sink::Differs => Finish::Differs,
+        Sink::Unsaved => Finish::Unsaved,
         Sink::Lost => Finish::Unwritten,
     }
 }

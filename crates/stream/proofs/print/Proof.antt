@@ -17,7 +17,7 @@ through-requires : tie.Need-through-requires
 through-requires c κs = search needs
 
 returns : tie.Need-returns
-returns c = through-prints _ (c .through .result) (c .through .ensures)
+returns c = through-prints (c .through .ensures)
 
 pub print-spec : {M : Type 1} → statement M
 print-spec =

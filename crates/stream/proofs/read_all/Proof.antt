@@ -4,7 +4,7 @@ use mathlib.Core.Path.{_≡_}
 use lib.ListN.{length}
 use Rattle.terms.specs.Sizes.{lineRoom}
 use Rattle.engine_law.specs.Calls.{LongTables}
-use Rattle.stream_law.specs.Streams.{HearsOn}
+use Rattle.stream_law.specs.Streams.{saysOf, HearsOn}
 use Rattle.stream_law.proofs.Hearing.{hears-start, start-short, hears-then, hears-first, hears-last, hears-on}
 use borrow.Author.Needs.{needs}
 use Rattle.stream.proofs.read_all.Statement.{statement}
@@ -13,13 +13,10 @@ use Rattle.stream.proofs.read_all.Tie as tie
 ruleset answers = (needs, hears-start, start-short, hears-then, hears-first, hears-last, hears-on)
 
 abbrev Inv-loop : tie.InvT-loop
-Inv-loop fd expected buf₀ buys₀ sells₀ h₀ turns₀ buf buys sells h turns = HearsOn expected h₀ buf₀ buys₀ sells₀ buf buys sells h × LongTables buys sells × (h .have ≤ lineRoom) × (lineRoom < length buf) × (length buf ≡ length buf₀) × (length buys ≡ length buys₀) × (length sells ≡ length sells₀)
+Inv-loop fd mode expected buf₀ buys₀ sells₀ h₀ turns₀ buf buys sells h turns = HearsOn (saysOf mode) expected h₀ buf₀ buys₀ sells₀ buf buys sells h × LongTables buys sells × (h .have ≤ lineRoom) × (lineRoom < length buf) × (length buf ≡ length buf₀) × (length buys ≡ length buys₀) × (length sells ≡ length sells₀)
 
 abbrev μ-loop : tie.MeasureT-loop
-μ-loop fd expected buf₀ buys₀ sells₀ h₀ turns₀ buf buys sells h turns = turns
-
-start-requires : tie.Need-start-requires Inv-loop μ-loop
-start-requires c κs = search answers
+μ-loop fd mode expected buf₀ buys₀ sells₀ h₀ turns₀ buf buys sells h turns = turns
 
 held-requires : tie.Need-held-requires Inv-loop μ-loop
 held-requires c κs = search answers
@@ -72,7 +69,6 @@ read-all-spec =
     (tie.spec
     Inv-loop
     μ-loop
-    start-requires
     held-requires
     loop-holds
     read-on-requires

@@ -1,12 +1,10 @@
 -- Each return is one case: not all could be read, or the end is told behind all that was.
-use Rattle.stream_law.specs.Streams.ThroughAs.{unread}
-use Rattle.stream_law.proofs.Through.{run-whole}
-use mathlib.Core.Path.{refl}
+use Rattle.stream_law.proofs.Through.{run-whole, run-unread}
 use borrow.Author.Needs.{needs}
 use Rattle.stream.proofs.run_all.Statement.{statement}
 use Rattle.stream.proofs.run_all.Tie as tie
 
-ruleset answers = (needs, run-whole)
+ruleset answers = (needs, run-whole, run-unread)
 
 read-all-requires : tie.Need-read-all-requires
 read-all-requires c κs = search answers
@@ -24,7 +22,7 @@ same-length-3 : tie.Need-same-length-3
 same-length-3 c = search answers
 
 returns : tie.Need-returns
-returns c = unread refl
+returns c = search answers
 
 sub-ending : tie.Need-sub-ending
 sub-ending c = search answers

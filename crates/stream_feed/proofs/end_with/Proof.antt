@@ -9,17 +9,17 @@ ruleset answers = (needs, ended-sent)
 tell-end-requires : tie.Need-tell-end-requires
 tell-end-requires c κs = search answers
 
-sub-send : tie.Need-sub-send
-sub-send c = search answers
+sub-send-end : tie.Need-sub-send-end
+sub-send-end c = search answers
 
-part-send-start : tie.Need-part-send-start
-part-send-start c = search answers
+part-send-end-start : tie.Need-part-send-end-start
+part-send-end-start c = search answers
 
-part-send-end : tie.Need-part-send-end
-part-send-end c = search answers
+part-send-end-end : tie.Need-part-send-end-end
+part-send-end-end c = search answers
 
-send-requires : tie.Need-send-requires
-send-requires c κs = search answers
+send-end-requires : tie.Need-send-end-requires
+send-end-requires c κs = search answers
 
 same-length : tie.Need-same-length
 same-length c = search answers
@@ -32,9 +32,9 @@ end-with-spec =
     tie.close
     (tie.spec
     tell-end-requires
-    sub-send
-    part-send-start
-    part-send-end
-    send-requires
+    sub-send-end
+    part-send-end-start
+    part-send-end-end
+    send-end-requires
     same-length
     returns)

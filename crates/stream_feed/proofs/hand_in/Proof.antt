@@ -1,10 +1,10 @@
 -- The call of feed leaves its text in the output room, and the text is sent from there.
-use Rattle.stream_law.proofs.Goes.{handed}
+use Rattle.stream_law.proofs.Calls.{hands}
 use borrow.Author.Needs.{needs}
 use Rattle.stream_feed.proofs.hand_in.Statement.{statement}
 use Rattle.stream_feed.proofs.hand_in.Tie as tie
 
-ruleset answers = (needs, handed)
+ruleset answers = (needs, hands)
 
 take-lines-requires : tie.Need-take-lines-requires
 take-lines-requires c κs = search answers

@@ -3,29 +3,30 @@ use Prim.Native.Nat.{_-_, _^_, _<_}
 use mathlib.Core.Path.{_≡_}
 use lib.ListN.{length}
 use Rattle.engine_law.specs.Calls.{LongTables}
-use Rattle.stream_law.proofs.Handing.{Handing, handing-start, handing-end, handing-on, handing-less, handing-stops}
+use Rattle.stream_law.specs.Streams.{saysOf}
+use Rattle.stream_law.proofs.Handing.{Handing, handing-start, handing-end, handing-fits, handing-on, handing-less, handing-stops}
 use borrow.Author.Needs.{needs}
 use Rattle.stream_feed.proofs.hand_over.Statement.{statement}
 use Rattle.stream_feed.proofs.hand_over.Tie as tie
 
-ruleset answers = (needs, handing-start, handing-end, handing-on, handing-less, handing-stops)
+ruleset answers = (needs, handing-start, handing-end, handing-fits, handing-on, handing-less, handing-stops)
 
 abbrev Inv-loop : tie.InvT-loop
-Inv-loop expected bytes buys₀ sells₀ now₀ sink₀ at₀ buys sells now sink at =
-    Handing expected now₀ buys₀ sells₀ bytes sink₀ now buys sells at sink
+Inv-loop mode expected bytes buys₀ sells₀ now₀ sink₀ at₀ buys sells now sink at =
+    Handing (saysOf mode) expected now₀ buys₀ sells₀ bytes sink₀ now buys sells at sink
     × LongTables buys sells
     × (length buys ≡ length buys₀)
     × (length sells ≡ length sells₀)
     × (length bytes < 2 ^ 64)
 
 abbrev μ-loop : tie.MeasureT-loop
-μ-loop expected bytes buys₀ sells₀ now₀ sink₀ at₀ buys sells now sink at = length bytes - at
+μ-loop mode expected bytes buys₀ sells₀ now₀ sink₀ at₀ buys sells now sink at = length bytes - at
 
 loop-holds : tie.Need-loop-holds Inv-loop μ-loop
 loop-holds c = search answers
 
-hand-some-requires : tie.Need-hand-some-requires Inv-loop μ-loop
-hand-some-requires c κs = search answers
+hand-next-requires : tie.Need-hand-next-requires Inv-loop μ-loop
+hand-next-requires c κs = search answers
 
 add-at : tie.Need-add-at Inv-loop μ-loop
 add-at c = search answers
@@ -61,7 +62,7 @@ hand-over-spec =
     Inv-loop
     μ-loop
     loop-holds
-    hand-some-requires
+    hand-next-requires
     add-at
     same-length
     same-length-2

@@ -1,10 +1,10 @@
 -- The call is made on the bytes from the place on, in rooms of zeros.
-use Rattle.stream_law.proofs.Goes.{handed-from}
+use Rattle.stream_law.proofs.Goes.{hands-from, rooms-long, out-wide}
 use borrow.Author.Needs.{needs}
 use Rattle.stream_feed.proofs.hand_some.Statement.{statement}
 use Rattle.stream_feed.proofs.hand_some.Tie as tie
 
-ruleset answers = (needs, handed-from)
+ruleset answers = (needs, hands-from, rooms-long, out-wide)
 
 sub-hand-in : tie.Need-sub-hand-in
 sub-hand-in c = search answers
@@ -22,7 +22,7 @@ slice-aggregate-hand-in-2 : tie.Need-slice-aggregate-hand-in-2
 slice-aggregate-hand-in-2 c = search answers
 
 hand-in-requires : tie.Need-hand-in-requires
-hand-in-requires c κs = search answers
+hand-in-requires c κs = (search answers, search answers)
 
 same-length : tie.Need-same-length
 same-length c = search answers

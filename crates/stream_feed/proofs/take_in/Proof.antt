@@ -24,8 +24,8 @@ to-front-requires c κs = search answers
 reading-after-requires : tie.Need-reading-after-requires
 reading-after-requires c κs = search answers
 
-sub-t15 : tie.Need-sub-t15
-sub-t15 c = search answers
+sub-left : tie.Need-sub-left
+sub-left c = search answers
 
 same-length : tie.Need-same-length
 same-length c = search answers
@@ -49,7 +49,7 @@ take-in-spec =
     hand-over-requires
     to-front-requires
     reading-after-requires
-    sub-t15
+    sub-left
     same-length
     same-length-2
     same-length-3

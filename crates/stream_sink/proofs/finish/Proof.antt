@@ -24,6 +24,9 @@ enum-told-2 c = search answers
 enum-told-3 : tie.Need-enum-told-3
 enum-told-3 c = search answers
 
+enum-told-4 : tie.Need-enum-told-4
+enum-told-4 c = search answers
+
 returns : tie.Need-returns
 returns c = search answers
 
@@ -36,6 +39,9 @@ returns-3 c = search answers
 returns-4 : tie.Need-returns-4
 returns-4 c = search answers
 
+returns-5 : tie.Need-returns-5
+returns-5 c = search answers
+
 pub finish-spec : {M : Type 1} → statement M
 finish-spec =
     tie.close
@@ -46,7 +52,9 @@ finish-spec =
     compared-requires
     enum-told-2
     enum-told-3
+    enum-told-4
     returns
     returns-2
     returns-3
-    returns-4)
+    returns-4
+    returns-5)

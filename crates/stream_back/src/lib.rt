@@ -1,0 +1,378 @@
+// stream_back: the day of a file that is open, brought back in pieces of any length: the file may be longer than the buffer.
+// It may use io, descriptors, lines_reading, resume, state, stream and stream_feed, and what these use. It promises that it is safe and ends; that the
+// buffer always has room, so that a read of no bytes is the end of the file; and that there are bytes (the proof takes those that were read)
+// and what comes back, the answer, the session and the live orders, is theirs by resume_law; or it answers that not all could be read.
+
+use descriptors::Got;
+use descriptors::reading;
+use lines_reading_law::ReadEvent;
+use lines_reading_law::ReadSettings;
+use resume::replay;
+use resume_law::Back;
+use resume_law::Comeback;
+use resume_law::Coming;
+use resume_law::Passed;
+use resume_law::Replayed;
+use state::opening;
+use state_law::Session;
+use terms::Refusal;
+use terms::Settings;
+use terms::Verdict;
+ghost use Prim.Native.Nat.{_≤_, _<_};
+ghost use mathlib.Core.Path.{_≡_};
+ghost use lib.ListN.{length, take, drop};
+ghost use Rattle.terms.specs.Sizes.{lineRoom};
+ghost use Rattle.state_law.specs.Opening.{fixedSession};
+ghost use Rattle.engine_law.specs.Calls.{LongEnough};
+ghost use Rattle.descriptors.specs.Counted.{GotWithin};
+ghost use Rattle.resume_law.specs.declared.Comeback.{Comeback};
+ghost use Rattle.resume_law.specs.Pieces.{BackAs, BackBehind, standing, BackFrom, backTo, unreadBack, passedTo, passedEnd, Starts, StartTold, StoodAs, PassedAs, comingTo, comingEnd, standsOn, ComesOn, RestAs};
+ghost use Rattle.stream.specs.Front.{EndsWithin};
+ghost use Rattle.stream_back.specs.Filled.{stoppedAt, comingAfter, OpensAs, FilledAs};
+
+fn back_to(answer: Comeback, session: Session) -> Back
+    ensures { λ r. ⌜ r ≡ backTo answer session ⌝ }
+{
+    Back {
+        answer: answer,
+        session: session,
+        read: true,
+    }
+}
+
+// Nothing comes back.
+fn refused(refusal: Refusal, place: usize) -> Back
+    ensures { λ r. ⌜ r ≡ backTo (Comeback.Refused refusal place) fixedSession ⌝ }
+{
+    back_to(Comeback::Refused(refusal, place), opening::fixed())
+}
+
+// Not all could be read.
+fn unread() -> Back
+    ensures { λ r. ⌜ r ≡ unreadBack ⌝ }
+{
+    Back {
+        answer: Comeback::Counts(0),
+        session: opening::fixed(),
+        read: false,
+    }
+}
+
+// ---- the lines of a piece
+
+fn passed_to(used: usize, before: usize, session: Session) -> Passed
+    ensures { λ r. ⌜ r ≡ passedTo used before session ⌝ }
+{
+    Passed {
+        used: used,
+        before: before,
+        back: back_to(Comeback::Counts(before), session),
+        more: true,
+    }
+}
+
+fn passed_end(back: Back) -> Passed
+    ensures { λ r. ⌜ r ≡ passedEnd back ⌝ }
+{
+    Passed {
+        used: 0,
+        before: 0,
+        back: back,
+        more: false,
+    }
+}
+
+// What the replay of a piece comes to, behind so many bytes of earlier ones; where no number counts them, not all could be read.
+fn stood(t: Replayed, before: usize) -> Passed
+    ensures { λ r. ⌜ StoodAs t before r ⌝ }
+{
+    let answer = t.answer;
+    let session = t.session;
+    let most = usize::MAX - before;
+    match answer {
+        Comeback::Counts(n) => {
+            if n > most {
+                return passed_end(unread());
+            }
+            let all = before + n;
+            passed_to(n, all, session)
+        }
+        Comeback::Refused(refusal, n) => {
+            if n > most {
+                return passed_end(unread());
+            }
+            let place = before + n;
+            passed_end(back_to(Comeback::Refused(refusal, place), session))
+        }
+    }
+}
+
+// Whether the bytes are the start of a line, or none, so that there is nothing to replay.
+fn is_start(bytes: &[u8]) -> bool
+    ensures { λ r. ⌜ StartTold (now (bytes .entry)) r ⌝ }
+{
+    match lines_reading::read_event(bytes) {
+        ReadEvent::Whole(event, used) => false,
+        ReadEvent::Unfinished => true,
+        ReadEvent::Wrong(place) => false,
+    }
+}
+
+// Replays the lines of a piece, behind so many bytes of earlier ones.
+fn take_piece(
+    bytes: &[u8],
+    before: usize,
+    session: Session,
+    buys: &mut [u64],
+    sells: &mut [u64],
+    room: &mut [u64],
+) -> Passed
+    requires { ⌜ LongEnough (now buys) (now sells) (now room) ⌝ }
+    ensures { λ r. ⌜ PassedAs before session (now (bytes .entry)) (now (buys .entry)) (now (sells .entry)) (now (buys .exit)) (now (sells .exit)) r ⌝ }
+{
+    if is_start(bytes) {
+        return passed_to(0, before, session);
+    }
+    let t = replay::replay_lines(bytes, 0, session, buys, sells, room);
+    stood(t, before)
+}
+
+// ---- reads
+
+fn coming_to(have: usize, before: usize, session: Session) -> Coming
+    ensures { λ r. ⌜ r ≡ comingTo have before session ⌝ }
+{
+    Coming {
+        have: have,
+        before: before,
+        back: back_to(Comeback::Counts(before), session),
+        more: true,
+    }
+}
+
+fn coming_end(back: Back) -> Coming
+    ensures { λ r. ⌜ r ≡ comingEnd back ⌝ }
+{
+    Coming {
+        have: 0,
+        before: 0,
+        back: back,
+        more: false,
+    }
+}
+
+// Nothing more is to be read: so many bytes count.
+fn stopped(before: usize, session: Session, read: bool) -> Coming
+    ensures { λ r. ⌜ r ≡ stoppedAt before session read ⌝ }
+{
+    coming_end(Back {
+        answer: Comeback::Counts(before),
+        session: session,
+        read: read,
+    })
+}
+
+// What a read behind so many bytes that are kept comes to: at the end of the file these are dropped, and a read that failed is not its end.
+fn after_read(got: Got, left: usize, before: usize, session: Session) -> Coming
+    requires { ⌜ EndsWithin left got ⌝ }
+    ensures { λ r. ⌜ r ≡ comingAfter got left before session ⌝ }
+{
+    match got {
+        Got::Failed => stopped(before, session, false),
+        Got::Bytes(n) => {
+            if n == 0 {
+                return stopped(before, session, true);
+            }
+            let have = left + n;
+            coming_to(have, before, session)
+        }
+    }
+}
+
+// Keeps the bytes that were not taken at the buffer's front, and reads once behind them.
+fn read_rest(
+    fd: i32,
+    used: usize,
+    have: usize,
+    before: usize,
+    session: Session,
+    buf: &mut [u8],
+) -> Coming
+    requires { ⌜ (used ≤ have) × (have ≤ length (now buf)) × (lineRoom < length (now buf)) ⌝ }
+    requires { ⌜ Starts (drop used (take have (now buf))) ⌝ }
+    ensures { λ r. ⌜ RestAs before session (drop used (take have (now (buf .entry)))) (now (buf .exit)) r ⌝ }
+{
+    stream_feed::to_front(buf, used, have);
+    let left = have - used;
+    let got = stream::read_behind(fd, left, buf);
+    after_read(got, left, before, session)
+}
+
+// ---- all pieces
+
+// Replays the bytes at the buffer's front, and reads the next ones behind what is left of them.
+fn next_piece(
+    fd: i32,
+    h: Coming,
+    buf: &mut [u8],
+    buys: &mut [u64],
+    sells: &mut [u64],
+    room: &mut [u64],
+) -> Coming
+    requires { ⌜ LongEnough (now buys) (now sells) (now room) ⌝ }
+    requires { ⌜ (h .have ≤ length (now buf)) × (lineRoom < length (now buf)) ⌝ }
+    ensures { λ r. ⌜ ComesOn h (now (buf .entry)) (now (buys .entry)) (now (sells .entry)) (now (buf .exit)) (now (buys .exit)) (now (sells .exit)) r ⌝ }
+{
+    let have = h.have;
+    let before = h.before;
+    let last = h.back;
+    let session = last.session;
+    let p = take_piece(&buf[0..have], before, session, buys, sells, room);
+    let used = p.used;
+    let taken = p.before;
+    let came = p.back;
+    let more = p.more;
+    if !more {
+        return coming_end(came);
+    }
+    let now = came.session;
+    read_rest(fd, used, have, taken, now, buf)
+}
+
+// Takes piece after piece, each behind the unfinished line of the last.
+fn take_pieces(
+    fd: i32,
+    first: Coming,
+    buf: &mut [u8],
+    buys: &mut [u64],
+    sells: &mut [u64],
+    room: &mut [u64],
+) -> Back
+    requires { ⌜ LongEnough (now buys) (now sells) (now room) ⌝ }
+    requires { ⌜ (first .have ≤ length (now buf)) × (lineRoom < length (now buf)) ⌝ }
+    ensures { λ r. ⌜ BackFrom (standsOn (now (buf .entry)) (now (buys .entry)) (now (sells .entry)) first) (now (buys .exit)) (now (sells .exit)) r ⌝ }
+{
+    let mut h = first;
+    let mut turns = u64::MAX;
+    while turns > 0 {
+        h = next_piece(fd, h, buf, buys, sells, room);
+        let more = h.more;
+        if !more {
+            return h.back;
+        }
+        turns -= 1;
+    }
+    unread()
+}
+
+// ---- the settings
+
+// Goes on with the events behind a settings line that ends at `first`.
+fn from_opening(
+    fd: i32,
+    session: Session,
+    first: usize,
+    end: usize,
+    buf: &mut [u8],
+    buys: &mut [u64],
+    sells: &mut [u64],
+    room: &mut [u64],
+) -> Back
+    requires { ⌜ LongEnough (now buys) (now sells) (now room) ⌝ }
+    requires { ⌜ (first ≤ end) × (end ≤ length (now buf)) × (lineRoom < length (now buf)) ⌝ }
+    ensures { λ r. ⌜ BackFrom (standing first session (now (buys .entry)) (now (sells .entry)) (drop first (take end (now (buf .entry))))) (now (buys .exit)) (now (sells .exit)) r ⌝ }
+{
+    stream_feed::to_front(buf, first, end);
+    let have = end - first;
+    let h = coming_to(have, first, session);
+    take_pieces(fd, h, buf, buys, sells, room)
+}
+
+// The session of a whole settings line goes on with the events behind it, or the settings are refused.
+fn from_settings(
+    fd: i32,
+    settings: Settings,
+    first: usize,
+    end: usize,
+    buf: &mut [u8],
+    buys: &mut [u64],
+    sells: &mut [u64],
+    room: &mut [u64],
+) -> Back
+    requires { ⌜ LongEnough (now buys) (now sells) (now room) ⌝ }
+    requires { ⌜ (first ≤ end) × (end ≤ length (now buf)) × (lineRoom < length (now buf)) ⌝ }
+    ensures { λ r. ⌜ OpensAs settings first (take end (now (buf .entry))) (now (buys .exit)) (now (sells .exit)) r ⌝ }
+{
+    let o = opening::begin(settings);
+    let verdict = o.verdict;
+    let session = o.session;
+    match verdict {
+        Verdict::Fine => from_opening(fd, session, first, end, buf, buys, sells, room),
+        Verdict::Refused(refusal) => refused(Refusal::LineRefused, 0),
+    }
+}
+
+// Reads the settings line from the first bytes of the file, of which the buffer holds so many.
+fn from_front(
+    fd: i32,
+    end: usize,
+    buf: &mut [u8],
+    buys: &mut [u64],
+    sells: &mut [u64],
+    room: &mut [u64],
+) -> Back
+    requires { ⌜ LongEnough (now buys) (now sells) (now room) ⌝ }
+    requires { ⌜ (end ≤ length (now buf)) × (lineRoom < length (now buf)) ⌝ }
+    ensures { λ r. ⌜ BackBehind (take end (now (buf .entry))) (now (buys .exit)) (now (sells .exit)) r ⌝ }
+{
+    match lines_reading::read_settings(&buf[0..end]) {
+        ReadSettings::Whole(settings, first) => {
+            from_settings(fd, settings, first, end, buf, buys, sells, room)
+        }
+        ReadSettings::Unfinished => refused(Refusal::LineUnfinished, 0),
+        ReadSettings::Wrong(place) => refused(Refusal::LineWrong, place),
+    }
+}
+
+// Goes on with the first bytes of the file, more than a settings line can have, where they could be read.
+fn from_filled(
+    fd: i32,
+    got: Got,
+    buf: &mut [u8],
+    buys: &mut [u64],
+    sells: &mut [u64],
+    room: &mut [u64],
+) -> Back
+    requires { ⌜ LongEnough (now buys) (now sells) (now room) × (lineRoom < length (now buf)) ⌝ }
+    requires { ⌜ GotWithin (length (now buf)) got ⌝ }
+    ensures { λ r. ⌜ FilledAs got (now (buf .entry)) (now (buys .exit)) (now (sells .exit)) r ⌝ }
+{
+    match got {
+        Got::Failed => unread(),
+        Got::Bytes(end) => from_front(fd, end, buf, buys, sells, room),
+    }
+}
+
+// Fills the buffer with the first bytes of the file, and goes on from there.
+fn from_start(
+    fd: i32,
+    buf: &mut [u8],
+    buys: &mut [u64],
+    sells: &mut [u64],
+    room: &mut [u64],
+) -> Back
+    requires { ⌜ LongEnough (now buys) (now sells) (now room) × (lineRoom < length (now buf)) ⌝ }
+    ensures { λ r. ⌜ BackAs (now (buys .exit)) (now (sells .exit)) r ⌝ }
+{
+    let got = reading::fill(fd, buf);
+    from_filled(fd, got, buf, buys, sells, room)
+}
+
+// Brings back the day of a file that is open, from its first byte on.
+pub fn come_back(fd: i32, buys: &mut [u64], sells: &mut [u64], room: &mut [u64]) -> Back
+    requires { ⌜ LongEnough (now buys) (now sells) (now room) ⌝ }
+    ensures { λ r. ⌜ BackAs (now (buys .exit)) (now (sells .exit)) r ⌝ }
+{
+    let mut buf = io::large_buffer();
+    from_start(fd, &mut buf, buys, sells, room)
+}

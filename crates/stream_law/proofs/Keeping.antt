@@ -1,0 +1,130 @@
+-- A day that is kept: what the log is of, and what each way of the program comes to.
+use Prim.Native.Nat.{ℕ, _-_}
+use mathlib.Core.Path.{_≡_, refl, sym, ap, _∙_, subst}
+use mathlib.Core.Bool.{Bool, true, false, not, false≢true}
+use mathlib.Core.List.{List, [], _∷_, _++_, append-assoc, append-nil}
+use lib.ListN.{take}
+use borrow.Author.Tests.{not-true, not-false}
+use Rattle.terms.specs.declared.Refusal.{Refusal}
+use Rattle.tables.specs.Tables.{decode}
+use Rattle.state_law.specs.declared.Session.{Session}
+use Rattle.state_law.specs.Opening.{fixedSession}
+use Rattle.state_law.specs.Day.{Day}
+use Rattle.soundness_law.specs.Sound.{dayIn}
+use Rattle.feed_law.specs.declared.Run.{Run}
+use Rattle.feed_law.specs.declared.Stage.{Stage}
+use Rattle.feed_law.specs.Worlds.{days}
+use Rattle.feed_law.specs.Turns.{printing}
+use Rattle.feed_law.specs.Saving.{saving}
+use Rattle.feed_law.specs.Feeds.{freshRun}
+use Rattle.feed_law.proofs.Says.{said-map}
+use Rattle.resume_law.specs.declared.Comeback.{Comeback}
+use Rattle.resume_law.specs.declared.Back.{Back}
+use Rattle.resume_law.specs.Rebuilt.{Rebuilt, resumed}
+use Rattle.resume_law.specs.Pieces.{BackBy, BackAs, BackOf}
+use Rattle.resume_law.specs.Pieces.BackOf.{not-read, all-read}
+use Rattle.promises.specs.Printed.{Holding}
+use Rattle.stream_law.specs.declared.Sink.{Sink}
+use Rattle.stream_law.specs.declared.Finish.{Finish}
+use Rattle.stream_law.specs.declared.Kept.{Kept}
+use Rattle.stream_law.specs.Sinks.{SentAs, CutAs, isOpen, finishOf, saveMark, showMark, marked}
+use Rattle.stream_law.specs.Streams.{logging, holding, ThroughAs}
+use Rattle.stream_law.specs.Keeping.{Part, save, show, handing, savesOf, showsOf, logOf, LogTells, LogsTell, GoesOnFrom, OnAs, tradingRun, noDay, isUnbegun, RefusedAs, BadLaid, BadTold, KeepsAs, BegunAs, KeptAs}
+use Rattle.stream_law.specs.Keeping.GoesOnFrom.{uncut, on}
+use Rattle.stream_law.specs.Keeping.KeptAs.{ran}
+use Rattle.stream_law.proofs.Goes.{room-text}
+
+-- ---- the parts, one after the other
+
+saves-append : (ps qs : List Part) → savesOf (ps ++ qs) ≡ savesOf ps ++ savesOf qs
+unfolding savesOf
+saves-append [] qs = refl
+saves-append (save bytes ∷ ps) qs = ap (λ (x : List ℕ). bytes ++ x) (saves-append ps qs) ∙ sym (append-assoc bytes (savesOf ps) (savesOf qs))
+saves-append (show text ∷ ps) qs = saves-append ps qs
+
+shows-append : (ps qs : List Part) → showsOf (ps ++ qs) ≡ showsOf ps ++ showsOf qs
+unfolding showsOf
+shows-append [] qs = refl
+shows-append (save bytes ∷ ps) qs = shows-append ps qs
+shows-append (show text ∷ ps) qs = ap (λ (x : List ℕ). text ++ x) (shows-append ps qs) ∙ sym (append-assoc text (showsOf ps) (showsOf qs))
+
+log-append : (ps qs : List Part) → logOf (ps ++ qs) ≡ logOf ps ++ logOf qs
+unfolding logOf
+log-append [] qs = refl
+log-append (save bytes ∷ ps) qs =
+    ap (λ (x : List ℕ). marked saveMark bytes ++ x) (log-append ps qs) ∙ sym (append-assoc (marked saveMark bytes) (logOf ps) (logOf qs))
+log-append (show text ∷ ps) qs =
+    ap (λ (x : List ℕ). marked showMark text ++ x) (log-append ps qs) ∙ sym (append-assoc (marked showMark text) (logOf ps) (logOf qs))
+
+pub logs-tell : LogsTell
+unfolding savesOf showsOf logOf
+logs-tell stage d input =
+    record {
+      log =
+          said-map days logOf log-append handing logging
+          (λ saved text. ap (λ (x : List ℕ). marked saveMark saved ++ x) (append-nil (marked showMark text))) (λ s n. append-nil _) _ stage d input;
+      saves = said-map days savesOf saves-append handing saving (λ saved text. append-nil saved) (λ s n. refl) _ stage d input;
+      shows = said-map days showsOf shows-append handing printing (λ saved text. append-nil text) (λ s n. append-nil _) _ stage d input;
+    }
+
+-- ---- a day goes on
+
+module _ {expected : List ℕ} {to cut : Sink} {n : ℕ} {r : Finish} (c : CutAs expected to n cut) where
+  pub on-uncut : (a : Holding) {wide : Bool} → wide ≡ isOpen cut → not wide ≡ true → r ≡ finishOf expected cut → OnAs expected to n a r
+  on-uncut a {wide} e s f = record { goes = uncut cut c (sym e ∙ not-true wide s) f }
+
+  pub on-through : {run : Run} {buys sells : List ℕ} → ThroughAs logging expected (holding run buys sells []) cut r → OnAs expected to n (holding run buys sells []) r
+  on-through {run} {buys} {sells} k = record { goes = on cut (holding run buys sells []) c (record { stage = refl; day = refl; none = refl }) k }
+
+-- ---- a bad line is told
+
+pub bad-told : {expected out out′ : List ℕ} {to s : Sink} {q : Refusal} {place : ℕ} {n : ℕ} {r : Finish} → BadLaid q place out n out′ →
+    SentAs expected to (marked showMark (take (n - 0) out′)) s → r ≡ finishOf expected s → BadTold expected to q place r
+bad-told {expected} {to = to} {s = s} p h e =
+    record {
+      told = record { sink = s; sent = subst (λ (x : List ℕ). SentAs expected to (marked showMark x) s) (room-text (p .printed)) h; finish = e };
+    }
+
+-- ---- by what came back
+
+-- before the first line the tables may hold anything
+fresh-day : (buys sells : List ℕ) → dayIn fixedSession buys sells ≡ noDay
+unfolding fixedSession decode
+fresh-day buys sells = refl
+
+module _ {expected : List ℕ} {to : Sink} {q : Refusal} {place : ℕ} {r : Finish} {told : Bool} where
+  pub refused-fresh : {run : Run} {buys sells : List ℕ} → told ≡ isUnbegun q → told ≡ true → run ≡ freshRun → OnAs expected to 0 (holding run buys sells []) r →
+      RefusedAs expected to q place r
+  refused-fresh {run} {buys} {sells} e t f k =
+      let k′ : OnAs expected to 0 (holding freshRun buys sells []) r = subst (λ (x : Run). OnAs expected to 0 (holding x buys sells []) r) f k in
+      record { refused = rw (sym e ∙ t) (subst (λ (d : Day). GoesOnFrom expected to 0 Stage.Awaiting d r) (fresh-day buys sells) (k′ .goes)) }
+
+  pub refused-told : told ≡ isUnbegun q → told ≡ false → BadTold expected to q place r → RefusedAs expected to q place r
+  refused-told e t k = record { refused = rw (sym e ∙ t) (k .told) }
+
+module _ {expected : List ℕ} {to : Sink} {back : Back} {buys sells : List ℕ} {r : Finish} where
+  pub begun-counts : {n : ℕ} {run : Run} → back .answer ≡ Comeback.Counts n → run ≡ tradingRun (back .session) →
+      OnAs expected to n (holding run buys sells []) r → BegunAs expected to back buys sells r
+  begun-counts {n} e f k =
+      let k′ : OnAs expected to n (holding (tradingRun (back .session)) buys sells []) r = subst (λ (x : Run). OnAs expected to n (holding x buys sells []) r) f k in
+      record { keeps = rw e (k′ .goes) }
+
+  pub begun-refused : {q : Refusal} {place : ℕ} → back .answer ≡ Comeback.Refused q place → RefusedAs expected to q place r → BegunAs expected to back buys sells r
+  begun-refused e k = record { keeps = rw e (k .refused) }
+
+-- THE WHOLE: what came back is that of the file's bytes, and so is what the program did then
+module _ (expected : List ℕ) (to : Sink) {back : Back} {buys sells : List ℕ} (f : Finish) where
+  keeps-day : (x : Rebuilt) (c : Comeback) → x .answer ≡ c → BackBy x buys sells back → KeepsAs expected to c (dayIn (back .session) buys sells) f →
+      KeepsAs expected to c (x .day) f
+  keeps-day x (Comeback.Counts n) e b k = subst (λ (d : Day). GoesOnFrom expected to n Stage.Trading d f) (b .day n e) k
+  keeps-day x (Comeback.Refused q place) e b k = k
+
+  pub kept-ran : BackAs buys sells back → not (back .read) ≡ false → BegunAs expected to back buys sells f → KeptAs expected to (Kept.Ran f)
+  kept-ran a read k = go (a .comes)
+    where
+      go : BackOf resumed buys sells back → KeptAs expected to (Kept.Ran f)
+      go (not-read e) = absurd (false≢true (sym e ∙ not-false (back .read) read))
+      go (all-read bytes e b) =
+          ran bytes f refl
+          (keeps-day (resumed bytes) (resumed bytes .answer) refl b
+          (subst (λ (c : Comeback). KeepsAs expected to c (dayIn (back .session) buys sells) f) (b .answer) (k .keeps)))

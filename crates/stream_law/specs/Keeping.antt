@@ -1,0 +1,131 @@
+-- A DAY THAT IS KEPT IN A FILE. Document 02, item 4: "The app saves each accepted event as its line, after the settings line, before showing
+-- any report."
+use Prim.Native.Nat.{ℕ, _≤_}
+use mathlib.Core.Path.{_≡_}
+use mathlib.Core.Bool.{Bool, true, false}
+use mathlib.Core.List.{List, [], _∷_, _++_}
+use lib.ListN.{length}
+use lib.Dec.{eqb}
+use Rattle.terms.specs.declared.Refusal.{Refusal}
+use Rattle.terms.specs.declared.Refusal.the-variants.{LineUnfinished}
+use Rattle.terms.specs.Refusals.{numberOf}
+use Rattle.state_law.specs.declared.Session.{Session}
+use Rattle.state_law.specs.Opening.{fixedSession}
+use Rattle.state_law.specs.Day.{Day}
+use Rattle.soundness_law.specs.Sound.{dayIn}
+use Rattle.feed_law.specs.declared.Run.{Run}
+use Rattle.feed_law.specs.declared.Stage.{Stage}
+use Rattle.feed_law.specs.Texts.{badText, endText}
+use Rattle.feed_law.specs.Worlds.{days}
+use Rattle.feed_law.specs.Turns.{Says, printing, saidFrom}
+use Rattle.feed_law.specs.Saving.{saving}
+use Rattle.feed_law.specs.Feeds.{Prints}
+use Rattle.resume_law.specs.declared.Comeback.{Comeback}
+use Rattle.resume_law.specs.declared.Back.{Back}
+use Rattle.resume_law.specs.Rebuilt.{resumed}
+use Rattle.promises.specs.Printed.{Holding, dayOn}
+use Rattle.stream_law.specs.declared.Sink.{Sink}
+use Rattle.stream_law.specs.declared.Finish.{Finish}
+use Rattle.stream_law.specs.declared.Kept.{Kept}
+use Rattle.stream_law.specs.Sinks.{CutAs, isOpen, finishOf, saveMark, showMark, marked}
+use Rattle.stream_law.specs.Streams.{logging, ThroughAs, Finished}
+
+-- ---- what is handed on, and in which order
+
+-- bytes for the file, or text for the output
+pub data Part : Type 0 where
+  save : List ℕ → Part
+  show : List ℕ → Part
+
+-- of each line first what is to be saved of it, and then its text
+abbrev pub handing : Says Part
+handing = record { line = λ saved text. save saved ∷ show text ∷ []; end = λ stage n. show (endText stage n) ∷ [] }
+
+-- all that the file is handed, all that the output is, and both in one order, as a comparison sees it
+unfoldable pub savesOf : List Part → List ℕ
+savesOf [] = []
+savesOf (save bytes ∷ ps) = bytes ++ savesOf ps
+savesOf (show text ∷ ps) = savesOf ps
+
+unfoldable pub showsOf : List Part → List ℕ
+showsOf [] = []
+showsOf (save bytes ∷ ps) = showsOf ps
+showsOf (show text ∷ ps) = text ++ showsOf ps
+
+unfoldable pub logOf : List Part → List ℕ
+logOf [] = []
+logOf (save bytes ∷ ps) = marked saveMark bytes ++ logOf ps
+logOf (show text ∷ ps) = marked showMark text ++ logOf ps
+
+-- WHAT THE LOG IS OF: from wherever a day stands and whatever is read then, it is the log of parts of which all that is saved is `saving`'s and
+-- all that is shown is what the program prints
+pub record LogTells (stage : Stage) (d : Day) (input : List ℕ) : Type 0 where
+  pub log : logOf (saidFrom days handing stage d input) ≡ saidFrom days logging stage d input
+  pub saves : savesOf (saidFrom days handing stage d input) ≡ saidFrom days saving stage d input
+  pub shows : showsOf (saidFrom days handing stage d input) ≡ saidFrom days printing stage d input
+
+abbrev pub LogsTell : Type 0
+LogsTell = (stage : Stage) (d : Day) (input : List ℕ) → LogTells stage d input
+
+-- ---- a day goes on
+
+-- a run stands at a day, and holds no bytes
+pub record StandsAt (s : Stage) (d : Day) (a : Holding) : Type 0 where
+  pub stage : a .run .stage ≡ s
+  pub day : dayOn a ≡ d
+  pub none : a .kept ≡ []
+
+-- the file is cut to its first n bytes, and then the input's lines are taken from where the day stands; or it could not be cut, and nothing is
+-- read
+pub data GoesOnFrom (expected : List ℕ) (to : Sink) (n : ℕ) (stage : Stage) (d : Day) (r : Finish) : Type 0 where
+  uncut : (cut : Sink) → CutAs expected to n cut → isOpen cut ≡ false → r ≡ finishOf expected cut → GoesOnFrom expected to n stage d r
+  on : (cut : Sink) (a : Holding) → CutAs expected to n cut → StandsAt stage d a → ThroughAs logging expected a cut r → GoesOnFrom expected to n stage d r
+
+-- THE CONTRACT of `go_on`
+pub record OnAs (expected : List ℕ) (to : Sink) (n : ℕ) (a : Holding) (r : Finish) : Type 0 where
+  pub goes : GoesOnFrom expected to n (a .run .stage) (dayOn a) r
+
+-- the run of a session that came back
+abbrev pub tradingRun : Session → Run
+tradingRun s = record { stage = Stage.Trading; session = s }
+
+-- no day yet
+abbrev pub noDay : Day
+noDay = record { session = fixedSession; buys = []; sells = [] }
+
+-- not even the settings line is whole, so that no day has begun
+abbrev pub isUnbegun : Refusal → Bool
+isUnbegun q = eqb (numberOf q) (numberOf LineUnfinished)
+
+-- where none has begun the file is emptied, and the settings come from the input; any other first bad line is told, and nothing is read
+abbrev pub RefusedBy : Bool → List ℕ → Sink → Refusal → ℕ → Finish → Type 0
+RefusedBy true expected to q place r = GoesOnFrom expected to 0 Stage.Awaiting noDay r
+RefusedBy false expected to q place r = Finished expected to (marked showMark (badText q place)) r
+
+-- THE CONTRACT of `not_back`
+pub record RefusedAs (expected : List ℕ) (to : Sink) (q : Refusal) (place : ℕ) (r : Finish) : Type 0 where
+  pub refused : RefusedBy (isUnbegun q) expected to q place r
+
+-- THE CONTRACTS of the line of a bad line, which lies within the room, and of `tell_bad`
+pub record BadLaid (q : Refusal) (place : ℕ) (out : List ℕ) (n : ℕ) (out′ : List ℕ) : Type 0 where
+  pub printed : Prints out (badText q place) n out′
+  pub within : n ≤ length out
+
+pub record BadTold (expected : List ℕ) (to : Sink) (q : Refusal) (place : ℕ) (r : Finish) : Type 0 where
+  pub told : Finished expected to (marked showMark (badText q place)) r
+
+-- WHAT THE PROGRAM DOES by what the file comes back as: the day goes on behind the bytes that count, or nothing came back
+abbrev pub KeepsAs : List ℕ → Sink → Comeback → Day → Finish → Type 0
+KeepsAs expected to (Comeback.Counts n) d r = GoesOnFrom expected to n Stage.Trading d r
+KeepsAs expected to (Comeback.Refused q place) d r = RefusedBy (isUnbegun q) expected to q place r
+
+-- THE CONTRACT of `begin`: so for the day that the tables hold
+pub record BegunAs (expected : List ℕ) (to : Sink) (back : Back) (buys sells : List ℕ) (r : Finish) : Type 0 where
+  pub keeps : KeepsAs expected to (back .answer) (dayIn (back .session) buys sells) r
+
+-- THE CONTRACT of `keep`: the file could not be opened, or not be read; or there are bytes, those of the file, and the program did what they
+-- come back as
+pub data KeptAs (expected : List ℕ) (to : Sink) (r : Kept) : Type 0 where
+  unopened : r ≡ Kept.NotOpened → KeptAs expected to r
+  unread : r ≡ Kept.NotRead → KeptAs expected to r
+  ran : (bytes : List ℕ) (f : Finish) → r ≡ Kept.Ran f → KeepsAs expected to (resumed bytes .answer) (resumed bytes .day) f → KeptAs expected to r
