@@ -1,10 +1,8 @@
 // resume: comes back from saved bytes, the settings line and the lines of accepted events, cut after any byte.
-// It may use engine, lines_reading, state and tables, and what these use. It promises, of any bytes and any lent slices: the answer, the
+// It may use engine, lines_reading, resume_lines, state and tables, and what these use. It promises, of any bytes and any lent slices: the answer, the
 // session and each lent number afterwards are those of resume_law; a refusal writes no table.
 // Its scratch, two tables and a report room, is lent to `resume_lent`. `resume` has it on the stack: 37,248 bytes; with items 9, 11 and 12 of
 // document 02 it will be 82,688.
-
-pub mod replay;
 
 use engine::apply;
 use lines_reading_law::ReadSettings;
@@ -65,7 +63,7 @@ fn from_opening(
     requires { ⌜ (session .live .buys ≡ 0) × (session .live .sells ≡ 0) × (first ≤ length (now saved)) × LongTables (now buys) (now sells) × Scratch (now bought) (now sold) (now room) ⌝ }
     ensures { λ r. ⌜ ResumedBy (bareFrom (now (saved .entry)) first session) (now (buys .entry)) (now (sells .entry)) (now (buys .exit)) (now (sells .exit)) r ⌝ }
 {
-    let r = replay::replay_lines(saved, first, session, bought, sold, room);
+    let r = resume_lines::replay_lines(saved, first, session, bought, sold, room);
     let answer = r.answer;
     let after = r.session;
     let moved = r.moved;

@@ -1,31 +1,26 @@
 -- What is kept at the buffer's front, and what was read behind it.
-use Prim.Native.Nat.{ℕ, _+_, _-_, _^_, _≤_, _<_}
+use Prim.Native.Nat.{ℕ, _+_, _-_, _≤_, _<_}
 use native.Mathlib.Omega.{arith}
 use mathlib.Core.Path.{_≡_, refl, sym, ap, _∙_, subst}
 use mathlib.Core.Bool.{Bool, true, false, true≢false, false≢true}
 use mathlib.Core.List.{List, _++_}
-use lib.ListN.{length, take, drop, length-drop, length-take}
+use lib.ListN.{length, take, drop, length-drop}
 use lib.Seq.{length-take-le, take-add}
 use lib.Dec.{eqb}
 use borrow.Author.Tests.{eq-eqb, ne-eqb}
 use mir.Syntax.{w64}
 use mir.Val.{Fits}
-use Rattle.terms.specs.declared.Refusal.{Refusal}
 use Rattle.terms.specs.Sizes.{lineRoom}
 use Rattle.descriptors.specs.declared.Got.{Got}
 use Rattle.descriptors.specs.Counted.{GotWithin}
-use Rattle.descriptors.proofs.Parts.{got-within}
 use Rattle.state_law.specs.declared.Session.{Session}
 use Rattle.state_law.specs.Opening.{fixedSession}
 use Rattle.soundness_law.specs.Sound.{dayIn}
 use Rattle.resume_law.specs.declared.Comeback.{Comeback}
 use Rattle.resume_law.specs.declared.Back.{Back}
 use Rattle.resume_law.specs.declared.Coming.{Coming}
-use Rattle.resume_law.specs.declared.Passed.{Passed}
-use Rattle.resume_law.specs.declared.Replayed.{Replayed}
-use Rattle.resume_law.specs.Pieces.{BackAs, BackBehind, standing, Onward, BackFrom, backTo, unreadBack, passedTo, passedEnd, Starts, StoodAs, comingTo, comingEnd, RestAs}
+use Rattle.resume_law.specs.Pieces.{BackAs, BackBehind, standing, Onward, BackFrom, backTo, unreadBack, Starts, comingTo, comingEnd, RestAs}
 use Rattle.resume_law.specs.Pieces.BackOf.{not-read}
-use Rattle.resume_law.specs.Pieces.StoodAs.{over, refuses}
 use Rattle.resume_law.proofs.Standings.{onward-read, start-short, start-ends}
 use Rattle.resume_law.proofs.Fronts.{unread-as, behind-as}
 use Rattle.stream_law.specs.Streams.{ToFront}
@@ -102,29 +97,9 @@ read-fits left n g h e = record { fits = h .ends n e }
 pub fixed-back : (r : Back) (a : Comeback) (s : Session) → r ≡ backTo a s → s ≡ fixedSession → r ≡ backTo a fixedSession
 fixed-back r a s e f = e ∙ ap (backTo a) f
 
-pub fixed-unread : (s : Session) → s ≡ fixedSession → _≡_ {A = Back} (record { answer = Comeback.Counts 0; session = s; read = false }) unreadBack
-fixed-unread s f = ap (λ (x : Session). record { answer = Comeback.Counts 0; session = x; read = false }) f
-
 module _ (n before : ℕ) (s : Session) (b : Back) (e : b ≡ backTo (Comeback.Counts before) s) where
-  pub passed-back : _≡_ {A = Passed} (record { used = n; before = before; back = b; more = true }) (passedTo n before s)
-  passed-back = ap (λ (x : Back). record { used = n; before = before; back = x; more = true }) e
-
   pub coming-back : _≡_ {A = Coming} (record { have = n; before = before; back = b; more = true }) (comingTo n before s)
   coming-back = ap (λ (x : Back). record { have = n; before = before; back = x; more = true }) e
-
--- ---- the arms of `stood`
-
-module _ (t : Replayed) (before : ℕ) (r : Passed) where
-  -- the sum is no number of the machine
-  pub stood-over : (n : ℕ) (b : Back) → t .answer ≡ Comeback.Counts n → 2 ^ 64 - 1 - before < n → b ≡ unreadBack → r ≡ passedEnd b → StoodAs t before r
-  stood-over n b h l u e = over (rw h (omega arith)) (e ∙ ap passedEnd u)
-
-  pub stood-far : (q : Refusal) (n : ℕ) (b : Back) → t .answer ≡ Comeback.Refused q n → 2 ^ 64 - 1 - before < n → b ≡ unreadBack → r ≡ passedEnd b → StoodAs t before r
-  stood-far q n b h l u e = over (rw h (omega arith)) (e ∙ ap passedEnd u)
-
-  pub stood-refuses : (q : Refusal) (n : ℕ) (b : Back) → t .answer ≡ Comeback.Refused q n → b ≡ backTo (Comeback.Refused q (before + n)) (t .session) →
-      r ≡ passedEnd b → StoodAs t before r
-  stood-refuses q n b h u e = refuses q n h (e ∙ ap passedEnd u)
 
 -- ---- the first bytes of the file
 

@@ -1,18 +1,15 @@
 // stream_back: the day of a file that is open, brought back in pieces of any length: the file may be longer than the buffer.
-// It may use io, descriptors, lines_reading, resume, state, stream and stream_feed, and what these use. It promises that it is safe and ends; that the
-// buffer always has room, so that a read of no bytes is the end of the file; and that there are bytes (the proof takes those that were read)
-// and what comes back, the answer, the session and the live orders, is theirs by resume_law; or it answers that not all could be read.
+// It may use io, descriptors, lines_reading, resume_pieces, state, stream and stream_feed, and what these use. It promises that it is safe and
+// ends; that the buffer always has room, so that a read of no bytes is the end of the file; and that there are bytes (the proof takes those
+// that were read) and what comes back, the answer, the session and the live orders, is theirs by resume_law; or it answers that not all could
+// be read.
 
 use descriptors::Got;
 use descriptors::reading;
-use lines_reading_law::ReadEvent;
 use lines_reading_law::ReadSettings;
-use resume::replay;
 use resume_law::Back;
 use resume_law::Comeback;
 use resume_law::Coming;
-use resume_law::Passed;
-use resume_law::Replayed;
 use state::opening;
 use state_law::Session;
 use terms::Refusal;
@@ -26,115 +23,15 @@ ghost use Rattle.state_law.specs.Opening.{fixedSession};
 ghost use Rattle.engine_law.specs.Calls.{LongEnough};
 ghost use Rattle.descriptors.specs.Counted.{GotWithin};
 ghost use Rattle.resume_law.specs.declared.Comeback.{Comeback};
-ghost use Rattle.resume_law.specs.Pieces.{BackAs, BackBehind, standing, BackFrom, backTo, unreadBack, passedTo, passedEnd, Starts, StartTold, StoodAs, PassedAs, comingTo, comingEnd, standsOn, ComesOn, RestAs};
+ghost use Rattle.resume_law.specs.Pieces.{BackAs, BackBehind, standing, BackFrom, backTo, Starts, comingTo, comingEnd, standsOn, ComesOn, RestAs};
 ghost use Rattle.stream.specs.Front.{EndsWithin};
 ghost use Rattle.stream_back.specs.Filled.{stoppedAt, comingAfter, OpensAs, FilledAs};
-
-fn back_to(answer: Comeback, session: Session) -> Back
-    ensures { λ r. ⌜ r ≡ backTo answer session ⌝ }
-{
-    Back {
-        answer: answer,
-        session: session,
-        read: true,
-    }
-}
 
 // Nothing comes back.
 fn refused(refusal: Refusal, place: usize) -> Back
     ensures { λ r. ⌜ r ≡ backTo (Comeback.Refused refusal place) fixedSession ⌝ }
 {
-    back_to(Comeback::Refused(refusal, place), opening::fixed())
-}
-
-// Not all could be read.
-fn unread() -> Back
-    ensures { λ r. ⌜ r ≡ unreadBack ⌝ }
-{
-    Back {
-        answer: Comeback::Counts(0),
-        session: opening::fixed(),
-        read: false,
-    }
-}
-
-// ---- the lines of a piece
-
-fn passed_to(used: usize, before: usize, session: Session) -> Passed
-    ensures { λ r. ⌜ r ≡ passedTo used before session ⌝ }
-{
-    Passed {
-        used: used,
-        before: before,
-        back: back_to(Comeback::Counts(before), session),
-        more: true,
-    }
-}
-
-fn passed_end(back: Back) -> Passed
-    ensures { λ r. ⌜ r ≡ passedEnd back ⌝ }
-{
-    Passed {
-        used: 0,
-        before: 0,
-        back: back,
-        more: false,
-    }
-}
-
-// What the replay of a piece comes to, behind so many bytes of earlier ones; where no number counts them, not all could be read.
-fn stood(t: Replayed, before: usize) -> Passed
-    ensures { λ r. ⌜ StoodAs t before r ⌝ }
-{
-    let answer = t.answer;
-    let session = t.session;
-    let most = usize::MAX - before;
-    match answer {
-        Comeback::Counts(n) => {
-            if n > most {
-                return passed_end(unread());
-            }
-            let all = before + n;
-            passed_to(n, all, session)
-        }
-        Comeback::Refused(refusal, n) => {
-            if n > most {
-                return passed_end(unread());
-            }
-            let place = before + n;
-            passed_end(back_to(Comeback::Refused(refusal, place), session))
-        }
-    }
-}
-
-// Whether the bytes are the start of a line, or none, so that there is nothing to replay.
-fn is_start(bytes: &[u8]) -> bool
-    ensures { λ r. ⌜ StartTold (now (bytes .entry)) r ⌝ }
-{
-    match lines_reading::read_event(bytes) {
-        ReadEvent::Whole(event, used) => false,
-        ReadEvent::Unfinished => true,
-        ReadEvent::Wrong(place) => false,
-    }
-}
-
-// Replays the lines of a piece, behind so many bytes of earlier ones.
-fn take_piece(
-    bytes: &[u8],
-    before: usize,
-    session: Session,
-    buys: &mut [u64],
-    sells: &mut [u64],
-    room: &mut [u64],
-) -> Passed
-    requires { ⌜ LongEnough (now buys) (now sells) (now room) ⌝ }
-    ensures { λ r. ⌜ PassedAs before session (now (bytes .entry)) (now (buys .entry)) (now (sells .entry)) (now (buys .exit)) (now (sells .exit)) r ⌝ }
-{
-    if is_start(bytes) {
-        return passed_to(0, before, session);
-    }
-    let t = replay::replay_lines(bytes, 0, session, buys, sells, room);
-    stood(t, before)
+    resume_pieces::back_to(Comeback::Refused(refusal, place), opening::fixed())
 }
 
 // ---- reads
@@ -145,7 +42,7 @@ fn coming_to(have: usize, before: usize, session: Session) -> Coming
     Coming {
         have: have,
         before: before,
-        back: back_to(Comeback::Counts(before), session),
+        back: resume_pieces::back_to(Comeback::Counts(before), session),
         more: true,
     }
 }
@@ -227,7 +124,7 @@ fn next_piece(
     let before = h.before;
     let last = h.back;
     let session = last.session;
-    let p = take_piece(&buf[0..have], before, session, buys, sells, room);
+    let p = resume_pieces::take_piece(&buf[0..have], before, session, buys, sells, room);
     let used = p.used;
     let taken = p.before;
     let came = p.back;
@@ -262,7 +159,7 @@ fn take_pieces(
         }
         turns -= 1;
     }
-    unread()
+    resume_pieces::unread()
 }
 
 // ---- the settings
@@ -348,7 +245,7 @@ fn from_filled(
     ensures { λ r. ⌜ FilledAs got (now (buf .entry)) (now (buys .exit)) (now (sells .exit)) r ⌝ }
 {
     match got {
-        Got::Failed => unread(),
+        Got::Failed => resume_pieces::unread(),
         Got::Bytes(end) => from_front(fd, end, buf, buys, sells, room),
     }
 }
