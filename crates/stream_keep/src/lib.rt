@@ -2,8 +2,10 @@
 // engine accepts is appended to the file, and has reached the disk, before its reports are printed.
 // It may use libc, os, feed, feed_prints, stream, stream_back and stream_sink, and what these use. It promises that it is safe and ends; and
 // that the file could not be opened or read, or that there are bytes, of the file and of the input (the proof takes those that were read), for
-// which this holds: the day that goes on is what the file's bytes come back as, the file is cut to those that count, and then the file and the
-// output are handed what stream_law says, in its order, until something fails. What the kernel does with what it is handed is on trust.
+// which this holds: the day that goes on is what the file's bytes come back as, the file is cut to those that count, and then the sink is
+// handed what stream_law says, in its order, until something fails. A sink that compares sees all of that; of a live one no contract says that
+// it saves or prints what it is handed, nor when a file counts as not opened or not read: that is in the code, and host/failures and
+// host/killed try it.
 
 mod files;
 
