@@ -1,6 +1,7 @@
 // days_kept: keeps days from files and compares all that each day's file and the output are handed with an expected log. The arguments name
 // the cases: NAME.day is the file as it is found, NAME.in the input, and NAME.log the log: first the bytes of the file that stay, then each
-// part in its order, what is saved behind `>` and what is shown behind `<`. A case named `wrong-..` has a log that is wrong on purpose.
+// part in its order, what is saved behind `>` and what is shown behind `<`, and `|` for each wait until all that the file was handed has reached
+// the disk. A case named `wrong-..` has a log that is wrong on purpose.
 // It may use io, libc, os, cases, descriptors, stream_law and stream_keep. It promises that it is safe and ends. No file is written, and of
 // the bytes that stay only their number is compared (`passed` in stream_law).
 use cases::counts;

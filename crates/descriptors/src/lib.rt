@@ -1,11 +1,18 @@
 // descriptors: reads bytes from a descriptor and writes them to one. A call that was interrupted, or that found the other side not ready, is
 // made again; any other failure is reported.
-// It may use os, io and libc. It promises that it is safe and ends, and that no count is more than there is room for. Which bytes are read
-// and written is up to the C library.
+// It may use os, io and libc. It promises that it is safe and ends; that each call comes to what its number and its error say (`outcomeBy`);
+// and that no count is more than there is room for. Which bytes are read and written is up to the C library.
 
-mod pausing;
+mod calls;
 pub mod reading;
 pub mod writing;
+
+// What a call came to: a number of bytes were moved; or it failed; or it is to be made again.
+pub enum Outcome {
+    Moved(usize),
+    Failed,
+    Again,
+}
 
 // What a read came to: a number of bytes, 0 at the end of the input; or it failed.
 pub enum Got {

@@ -1,7 +1,8 @@
 // Reads bytes from a descriptor.
 use crate::Got;
 use crate::Load;
-use crate::pausing;
+use crate::Outcome;
+use crate::calls;
 ghost use lib.ListN.{length};
 ghost use Rattle.descriptors.specs.Counted.{GotWithin, LoadWithin};
 
@@ -12,13 +13,11 @@ pub fn read_some(fd: i32, buf: &mut [u8]) -> Got
     let mut turns = u64::MAX;
     while turns > 0 {
         let got = libc::read(fd, buf);
-        if got >= 0 {
-            return Got::Bytes(io::count(got, buf));
+        match calls::outcome(got, os::errno(), buf) {
+            Outcome::Moved(n) => return Got::Bytes(n),
+            Outcome::Failed => return Got::Failed,
+            Outcome::Again => calls::pause(),
         }
-        if !pausing::passes(os::errno()) {
-            return Got::Failed;
-        }
-        pausing::pause();
         turns -= 1;
     }
     Got::Failed

@@ -1,13 +1,10 @@
 // stream_keep: a day that is kept in a file. The file's lines bring the day back; then lines are read from a descriptor, and each that the
 // engine accepts is appended to the file, and has reached the disk, before its reports are printed.
-// It may use libc, os, feed, feed_prints, stream, stream_back and stream_sink, and what these use. It promises that it is safe and ends; and
-// that the file could not be opened or read, or that there are bytes, of the file and of the input (the proof takes those that were read), for
-// which this holds: the day that goes on is what the file's bytes come back as, the file is cut to those that count, and then the sink is
-// handed what stream_law says, in its order, until something fails. A sink that compares sees all of that; of a live one no contract says that
-// it saves or prints what it is handed, nor when a file counts as not opened or not read: that is in the code, and host/failures and
-// host/killed try it.
-
-mod files;
+// It may use libc, os, feed, feed_prints, stream, stream_back and stream_sink, and what these use. It promises that it is safe and ends; that
+// the day is kept just where the file could be opened, to be read and to be appended to; and then that the file could not be read, or that there
+// are bytes, of the file and of the input (the proof takes those that were read), for which this holds: the day that goes on is what the file's
+// bytes come back as, the file is cut to those that count, and then the sink is handed what stream_law says, in its order, until something fails.
+// A comparison sees all of that; live the same code runs, down to the calls of the C library (see stream_sink).
 
 use feed_law::Run;
 use feed_law::Stage;
@@ -31,7 +28,7 @@ ghost use Rattle.terms.specs.Sizes.{lineRoom};
 ghost use Rattle.engine_law.specs.Calls.{LongTables, LongEnough};
 ghost use Rattle.stream_law.specs.declared.Sink.{Sink};
 ghost use Rattle.stream_law.specs.Streams.{holding};
-ghost use Rattle.stream_law.specs.Keeping.{OnAs, tradingRun, isUnbegun, RefusedAs, BadLaid, BadTold, BegunAs, KeptAs};
+ghost use Rattle.stream_law.specs.Keeping.{OnAs, tradingRun, isUnbegun, RefusedAs, BadLaid, BadTold, BegunAs, KeptAs, areOpen, OpenedAs, OpensAs};
 
 // ---- a day goes on
 
@@ -59,7 +56,7 @@ fn go_on(
     requires { ⌜ LongTables (now buys) (now sells) ⌝ }
     ensures { λ r. ⌜ OnAs (now (expected .entry)) to count (holding run (now (buys .entry)) (now (sells .entry)) []) r ⌝ }
 {
-    let cut = stream_sink::cut(to, expected, file, count);
+    let cut = stream_sink::files::cut(to, expected, file, count);
     if !stream_sink::is_open(cut) {
         return stream_sink::finish(cut, expected);
     }
@@ -192,6 +189,15 @@ fn keep_open(input: i32, saved: i32, file: i32, to: Sink, expected: &[u8]) -> Ke
     )
 }
 
+// ---- the file
+
+// Whether the file could be opened, to be read and to be appended to.
+fn are_open(saved: i32, file: i32) -> bool
+    ensures { λ r. ⌜ r ≡ areOpen saved file ⌝ }
+{
+    (saved >= 0) & (file >= 0)
+}
+
 // Keeps the day of a file that is open to be read and to be appended to, and closes both.
 fn keep_both(input: i32, saved: i32, file: i32) -> Kept
     ensures { λ r. ⌜ KeptAs [] Sink.Print r ⌝ }
@@ -203,19 +209,31 @@ fn keep_both(input: i32, saved: i32, file: i32) -> Kept
     kept
 }
 
-// Keeps the day of the file that a path names: brings it back, and goes on with the lines of a descriptor.
-pub fn keep(input: i32, path: &[u8]) -> Kept
-    ensures { λ r. ⌜ KeptAs [] Sink.Print r ⌝ }
+// The same, of a file that was opened twice or could not be; then nothing is called that would change the error.
+fn keep_opened(input: i32, saved: i32, file: i32) -> Kept
+    ensures { λ r. ⌜ OpenedAs saved file r ⌝ }
 {
-    let saved = files::open_or_make(path);
-    if saved < 0 {
-        return Kept::NotOpened;
-    }
-    let file = os::open_append(path);
-    if file < 0 {
+    if !are_open(saved, file) {
         return Kept::NotOpened;
     }
     keep_both(input, saved, file)
+}
+
+// Makes the file that a path names where it is missing, and opens it to read it. Answers a descriptor, or -1.
+fn open_or_make(path: &[u8]) -> i32 {
+    libc::close(os::create(path));
+    os::open_read(path)
+}
+
+// ---- a whole day, from its file on
+
+// Keeps the day of the file that a path names: brings it back, and goes on with the lines of a descriptor.
+pub fn keep(input: i32, path: &[u8]) -> Kept
+    ensures { λ r. ⌜ OpensAs r ⌝ }
+{
+    let saved = open_or_make(path);
+    let file = os::open_append(path);
+    keep_opened(input, saved, file)
 }
 
 // Holds all that keeping a day would hand on, to its file and to the output, against an expected log; nothing is written.

@@ -11,7 +11,7 @@ use Rattle.feed_law.specs.declared.Stage.{Stage}
 use Rattle.promises.specs.Printed.{Holding, toSay}
 use Rattle.stream_law.specs.declared.Sink.{Sink}
 use Rattle.stream_law.specs.declared.Handed.{Handed}
-use Rattle.stream_law.specs.Sinks.{StandsAs, SentAs, isOpen, showMark, marked}
+use Rattle.stream_law.specs.Sinks.{StandsAs, SentAs, isOpen, shownPart}
 use Rattle.stream_law.specs.declared.Mode.{Mode}
 use Rattle.stream_law.specs.Streams.{saysOf, handedOn, OverAs, endBy, EndsAs}
 use Rattle.stream_law.proofs.Beginnings.{rest-is}
@@ -56,7 +56,7 @@ module _ {expected : List ℕ} (text : List ℕ) {to r : Sink} {mode : Mode} whe
   pub end-bare : mode ≡ Mode.Bare → SentAs expected to text r → SentAs expected to (endBy mode text) r
   end-bare e s = rw e s
 
-  pub end-keeping : {file : _} → mode ≡ Mode.Keeping file → SentAs expected to (marked showMark text) r → SentAs expected to (endBy mode text) r
+  pub end-keeping : {file : _} → mode ≡ Mode.Keeping file → SentAs expected to (shownPart text) r → SentAs expected to (endBy mode text) r
   end-keeping e s = rw e s
 
 pub ended-sent : {expected : List ℕ} (mode : Mode) {to r : Sink} {stage : Stage} {rest : ℕ} {out out′ : List ℕ} {n : ℕ} → EndTold stage rest out n out′ →

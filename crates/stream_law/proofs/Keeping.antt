@@ -4,10 +4,13 @@ use mathlib.Core.Path.{_≡_, refl, sym, ap, _∙_, subst}
 use mathlib.Core.Bool.{Bool, true, false, not, false≢true}
 use mathlib.Core.List.{List, [], _∷_, _++_, append-assoc, append-nil}
 use lib.ListN.{take}
+use lib.IntN.{ℤ}
 use borrow.Author.Tests.{not-true, not-false}
+use mir.Syntax.{w32}
+use mir.Val.{ofZ, toZ, SFits}
+use mir.Facts.{toZ-ofZ}
 use Rattle.terms.specs.declared.Refusal.{Refusal}
 use Rattle.tables.specs.Tables.{decode}
-use Rattle.state_law.specs.declared.Session.{Session}
 use Rattle.state_law.specs.Opening.{fixedSession}
 use Rattle.state_law.specs.Day.{Day}
 use Rattle.soundness_law.specs.Sound.{dayIn}
@@ -27,9 +30,9 @@ use Rattle.promises.specs.Printed.{Holding}
 use Rattle.stream_law.specs.declared.Sink.{Sink}
 use Rattle.stream_law.specs.declared.Finish.{Finish}
 use Rattle.stream_law.specs.declared.Kept.{Kept}
-use Rattle.stream_law.specs.Sinks.{SentAs, CutAs, isOpen, finishOf, saveMark, showMark, marked}
+use Rattle.stream_law.specs.Sinks.{SentAs, CutAs, isOpen, finishOf, savedPart, shownPart}
 use Rattle.stream_law.specs.Streams.{logging, holding, ThroughAs}
-use Rattle.stream_law.specs.Keeping.{Part, save, show, handing, savesOf, showsOf, logOf, LogTells, LogsTell, GoesOnFrom, OnAs, tradingRun, noDay, isUnbegun, RefusedAs, BadLaid, BadTold, KeepsAs, BegunAs, KeptAs}
+use Rattle.stream_law.specs.Keeping.{Part, save, show, handing, savesOf, showsOf, logOf, LogsTell, GoesOnFrom, OnAs, tradingRun, noDay, isUnbegun, RefusedAs, BadLaid, BadTold, KeepsAs, BegunAs, KeptAs, areOpen, OpenedAs, OpensAs}
 use Rattle.stream_law.specs.Keeping.GoesOnFrom.{uncut, on}
 use Rattle.stream_law.specs.Keeping.KeptAs.{ran}
 use Rattle.stream_law.proofs.Goes.{room-text}
@@ -52,9 +55,9 @@ log-append : (ps qs : List Part) → logOf (ps ++ qs) ≡ logOf ps ++ logOf qs
 unfolding logOf
 log-append [] qs = refl
 log-append (save bytes ∷ ps) qs =
-    ap (λ (x : List ℕ). marked saveMark bytes ++ x) (log-append ps qs) ∙ sym (append-assoc (marked saveMark bytes) (logOf ps) (logOf qs))
+    ap (λ (x : List ℕ). savedPart bytes ++ x) (log-append ps qs) ∙ sym (append-assoc (savedPart bytes) (logOf ps) (logOf qs))
 log-append (show text ∷ ps) qs =
-    ap (λ (x : List ℕ). marked showMark text ++ x) (log-append ps qs) ∙ sym (append-assoc (marked showMark text) (logOf ps) (logOf qs))
+    ap (λ (x : List ℕ). shownPart text ++ x) (log-append ps qs) ∙ sym (append-assoc (shownPart text) (logOf ps) (logOf qs))
 
 pub logs-tell : LogsTell
 unfolding savesOf showsOf logOf
@@ -62,7 +65,7 @@ logs-tell stage d input =
     record {
       log =
           said-map days logOf log-append handing logging
-          (λ saved text. ap (λ (x : List ℕ). marked saveMark saved ++ x) (append-nil (marked showMark text))) (λ s n. append-nil _) _ stage d input;
+          (λ saved text. ap (λ (x : List ℕ). savedPart saved ++ x) (append-nil (shownPart text))) (λ s n. append-nil _) _ stage d input;
       saves = said-map days savesOf saves-append handing saving (λ saved text. append-nil saved) (λ s n. refl) _ stage d input;
       shows = said-map days showsOf shows-append handing printing (λ saved text. append-nil text) (λ s n. append-nil _) _ stage d input;
     }
@@ -79,10 +82,10 @@ module _ {expected : List ℕ} {to cut : Sink} {n : ℕ} {r : Finish} (c : CutAs
 -- ---- a bad line is told
 
 pub bad-told : {expected out out′ : List ℕ} {to s : Sink} {q : Refusal} {place : ℕ} {n : ℕ} {r : Finish} → BadLaid q place out n out′ →
-    SentAs expected to (marked showMark (take (n - 0) out′)) s → r ≡ finishOf expected s → BadTold expected to q place r
+    SentAs expected to (shownPart (take (n - 0) out′)) s → r ≡ finishOf expected s → BadTold expected to q place r
 bad-told {expected} {to = to} {s = s} p h e =
     record {
-      told = record { sink = s; sent = subst (λ (x : List ℕ). SentAs expected to (marked showMark x) s) (room-text (p .printed)) h; finish = e };
+      told = record { sink = s; sent = subst (λ (x : List ℕ). SentAs expected to (shownPart x) s) (room-text (p .printed)) h; finish = e };
     }
 
 -- ---- by what came back
@@ -128,3 +131,22 @@ module _ (expected : List ℕ) (to : Sink) {back : Back} {buys sells : List ℕ}
           ran bytes f refl
           (keeps-day (resumed bytes) (resumed bytes .answer) refl b
           (subst (λ (c : Comeback). KeepsAs expected to c (dayIn (back .session) buys sells) f) (b .answer) (k .keeps)))
+
+-- ---- the file is opened
+
+-- a signed number is handed on as it is read back from its bits
+abbrev read : ℤ → ℤ
+read z = toZ w32 (ofZ w32 z)
+
+module _ {saved file : ℤ} {wide : Bool} (f : SFits w32 saved) (g : SFits w32 file) (e : wide ≡ areOpen (read saved) (read file)) where
+  as-told : (b : Bool) → wide ≡ b → areOpen saved file ≡ b
+  as-told b h = sym (e ∙ λ i. areOpen (toZ-ofZ f i) (toZ-ofZ g i)) ∙ h
+
+  pub opened-not : {r : Kept} → not wide ≡ true → r ≡ Kept.NotOpened → OpenedAs saved file r
+  opened-not n h = record { kept = rw (as-told false (not-true wide n)) h }
+
+  pub opened-both : {r : Kept} → not wide ≡ false → KeptAs [] Sink.Print r → OpenedAs saved file r
+  opened-both n h = record { kept = rw (as-told true (not-false wide n)) h }
+
+pub opens-as : {saved file : ℤ} {r : Kept} → OpenedAs saved file r → OpensAs r
+opens-as {saved} {file} h = record { saved = saved; file = file; opened = h }

@@ -1,5 +1,7 @@
 pub mod Beginnings
 pub mod Sends
+pub mod Statuses
+pub mod Writes
 pub mod Goes
 pub mod Calls
 pub mod Lines

@@ -3,25 +3,27 @@ use Prim.Native.Nat.{ℕ, suc, _+_, _≤_, _<_}
 use native.Mathlib.Omega.{arith}
 use native.Mathlib.Nat.{zero-add, add-assoc}
 use mathlib.Core.Path.{_≡_, refl, sym, ap, _∙_, subst}
-use mathlib.Core.Bool.{Bool, true, false, false≢true, true≢false}
+use mathlib.Core.Bool.{Bool, true, false, cond, false≢true, true≢false}
 use mathlib.Core.List.{List, [], _∷_, _++_, append-nil}
 use lib.ListN.{length, getD, take, drop, length-append}
 use lib.Seq.{drop-drop, drop-length, length-take-le}
 use lib.Dec.{eqb}
+use lib.IntN.{ℤ}
 use borrow.Author.Tests.{eqb-true, eqb-false, le-leb, lt-leb}
 use Rattle.stream_law.specs.declared.Sink.{Sink}
 use Rattle.stream_law.specs.declared.Finish.{Finish}
-use Rattle.stream_law.specs.Sinks.{begins, matchedBy, matched, Takes, keptBy, StepsBy, StandsAs, SentAs, saveMark, showMark, marked, passed, CutAs, isOpen, comparedBy, finishOf}
+use Rattle.stream_law.specs.declared.Place.{Place}
+use Rattle.stream_law.specs.Sinks.{begins, matchedBy, matched, Takes, StepsBy, StandsAs, SentAs, isOpen, isZero, keptBy, markOf, markBy, saveMark, showMark, settled, savedPart, shownPart, passed, ShortAs, CutAs, comparedBy, finishOf}
 use Rattle.stream_law.specs.Streams.{Tells, Finished, PrintedAs}
 use Rattle.stream_law.proofs.Beginnings.{begins-is, begins-self, begins-append, begins-take}
 
 -- ---- the marks
 
 -- what is saved is not taken for what is shown, but where there are no bytes
-pub told-apart : (xs ys : List ℕ) → marked saveMark xs ≡ marked showMark ys → (xs ≡ []) × (ys ≡ [])
+pub told-apart : (xs ys : List ℕ) → savedPart xs ≡ shownPart ys → (xs ≡ []) × (ys ≡ [])
 told-apart [] [] e = (refl, refl)
 told-apart [] (y ∷ ys) e = absurd (let z : 0 ≡ suc (suc (length ys)) = ap length e in omega arith)
-told-apart (x ∷ xs) [] e = absurd (let z : suc (suc (length xs)) ≡ 0 = ap length e in omega arith)
+told-apart (x ∷ xs) [] e = absurd (let z : suc (suc (length (xs ++ settled))) ≡ 0 = ap length e in omega arith)
 told-apart (x ∷ xs) (y ∷ ys) e = absurd (let z : saveMark ≡ showMark = ap (λ (l : List ℕ). getD l 0 0) e in omega arith)
 
 -- ---- what a step answers, sink by sink
@@ -43,16 +45,19 @@ module _ (next : ℕ → Sink) where
   steps-shut : (to r : Sink) → to ≡ r → isOpen r ≡ false → StepsBy next to r
   steps-shut to r e h = subst (λ (s : Sink). StepsBy next s r) (sym e) (stays r h)
 
-kept-takes : (done : Bool) → Takes (keptBy done)
-kept-takes true = tt
-kept-takes false = tt
+kept-takes : (status : ℤ) → Takes (keptBy status)
+kept-takes status = go (isZero status)
+  where
+    go : (b : Bool) → Takes (cond b Sink.Print Sink.Unsaved)
+    go true = tt
+    go false = tt
 
 module _ (expected text : List ℕ) (to r : Sink) where
   pub sent-print : to ≡ Sink.Print → Takes r → SentAs expected to text r
   sent-print e h = record { stands = steps-print (λ at. matched expected at text) to r e h }
 
-  pub sent-kept : (done : Bool) → to ≡ Sink.Print → r ≡ keptBy done → SentAs expected to text r
-  sent-kept done e h = sent-print e (subst Takes (sym h) (kept-takes done))
+  pub sent-kept : (status : ℤ) → to ≡ Sink.Print → r ≡ keptBy status → SentAs expected to text r
+  sent-kept status e h = sent-print e (subst Takes (sym h) (kept-takes status))
 
   pub sent-match : {at : ℕ} → to ≡ Sink.Match at → r ≡ matched expected at text → SentAs expected to text r
   sent-match {at} e h = record { stands = steps-match (λ at. matched expected at text) to r at e h }
@@ -61,18 +66,37 @@ module _ (expected text : List ℕ) (to r : Sink) where
   sent-shut e h = record { stands = steps-shut (λ at. matched expected at text) to r e h }
 
 module _ (expected : List ℕ) (n : ℕ) (to r : Sink) where
-  pub cut-kept : (done : Bool) → to ≡ Sink.Print → r ≡ keptBy done → CutAs expected to n r
-  cut-kept done e h = record { stands = steps-print (λ at. passed expected at n) to r e (subst Takes (sym h) (kept-takes done)) }
+  pub short-kept : (status : ℤ) → to ≡ Sink.Print → r ≡ keptBy status → ShortAs expected to n r
+  short-kept status e h = record { stands = steps-print (λ at. passed expected at n) to r e (subst Takes (sym h) (kept-takes status)) }
 
-  pub cut-match : {at : ℕ} → to ≡ Sink.Match at → r ≡ passed expected at n → CutAs expected to n r
-  cut-match {at} e h = record { stands = steps-match (λ at. passed expected at n) to r at e h }
+  pub short-match : {at : ℕ} → to ≡ Sink.Match at → r ≡ passed expected at n → ShortAs expected to n r
+  short-match {at} e h = record { stands = steps-match (λ at. passed expected at n) to r at e h }
 
-  pub cut-shut : to ≡ r → isOpen r ≡ false → CutAs expected to n r
-  cut-shut e h = record { stands = steps-shut (λ at. passed expected at n) to r e h }
+  pub short-shut : to ≡ r → isOpen r ≡ false → ShortAs expected to n r
+  short-shut e h = record { stands = steps-shut (λ at. passed expected at n) to r e h }
+
+pub cut-as : {expected : List ℕ} {to s r : Sink} {n : ℕ} → ShortAs expected to n s → SentAs expected s settled r → CutAs expected to n r
+cut-as {s = s} h k = record { short = s; cuts = h; waits = k }
+
+-- the mark of a place
+module _ (expected : List ℕ) (place : Place) where
+  pub mark-match : {to r : Sink} {at mark : ℕ} → to ≡ Sink.Match at → mark ≡ markOf place → r ≡ matched expected at (mark ∷ []) →
+      r ≡ markBy expected place to
+  mark-match {at = at} e m h = h ∙ ap (λ (b : ℕ). matched expected at (b ∷ [])) m ∙ ap (markBy expected place) (sym e)
+
+  pub mark-stays : {to s : Sink} → to ≡ s → markBy expected place s ≡ s → s ≡ markBy expected place to
+  mark-stays e h = sym h ∙ ap (markBy expected place) (sym e)
+
+  mark-sent : (to : Sink) → SentAs expected to (markOf place ∷ []) (markBy expected place to)
+  mark-sent Sink.Print = record { stands = tt }
+  mark-sent (Sink.Match at) = record { stands = refl }
+  mark-sent Sink.Differs = record { stands = refl }
+  mark-sent Sink.Unsaved = record { stands = refl }
+  mark-sent Sink.Lost = record { stands = refl }
 
 pub ruleset sending = (sent-print, sent-kept, sent-match, sent-shut)
 
-pub ruleset cutting = (cut-kept, cut-match, cut-shut)
+pub ruleset shortening = (short-kept, short-match, short-shut)
 
 module _ (expected : List ℕ) where
   -- ---- a comparison
@@ -134,20 +158,28 @@ module _ (expected : List ℕ) where
 
   -- ---- a text behind its mark
 
-  pub marked-none : (at mark : ℕ) (bytes : List ℕ) → length bytes ≡ 0 → Sink.Match at ≡ matched expected at (marked mark bytes)
-  unfolding begins
-  marked-none at mark [] e = ap Sink.Match (omega arith)
-  marked-none at mark (x ∷ xs) e = absurd (let z : suc (length xs) ≡ 0 = e in omega arith)
+  pub sent-behind : {to s r : Sink} (place : Place) (bytes : List ℕ) → s ≡ markBy expected place to → SentAs expected s bytes r →
+      SentAs expected to (markOf place ∷ bytes) r
+  sent-behind {to} {s} {r} place bytes e k =
+      sent-then (markOf place ∷ []) bytes to s r (subst (SentAs expected to (markOf place ∷ [])) (sym e) (mark-sent expected place to)) k
 
-  module _ (at mark : ℕ) {found : Bool} (e : found ≡ begins (mark ∷ []) (drop at expected)) where
-    pub marked-next : (bytes : List ℕ) {r : Sink} → (length bytes ≡ 0 → ⊥) → found ≡ true → r ≡ matched expected (at + 1) bytes →
-        r ≡ matched expected at (marked mark bytes)
-    marked-next [] n h k = absurd (n refl)
-    marked-next (x ∷ xs) {r} n h k = matched-then (mark ∷ []) (x ∷ xs) at true (Sink.Match (at + 1)) r (sym e ∙ h) refl k
+  module _ (to : Sink) where
+    pub saved-none : (bytes : List ℕ) → length bytes ≡ 0 → SentAs expected to (savedPart bytes) to
+    saved-none [] e = sent-none to
+    saved-none (x ∷ xs) e = absurd (let z : suc (length xs) ≡ 0 = e in omega arith)
 
-    pub marked-not : (bytes : List ℕ) → (length bytes ≡ 0 → ⊥) → found ≡ false → Sink.Differs ≡ matched expected at (marked mark bytes)
-    marked-not [] n h = absurd (n refl)
-    marked-not (x ∷ xs) n h = matched-then (mark ∷ []) (x ∷ xs) at false Sink.Differs Sink.Differs (sym e ∙ h) refl refl
+    pub shown-none : (bytes : List ℕ) → length bytes ≡ 0 → SentAs expected to (shownPart bytes) to
+    shown-none [] e = sent-none to
+    shown-none (x ∷ xs) e = absurd (let z : suc (length xs) ≡ 0 = e in omega arith)
+
+    pub saved-some : (bytes : List ℕ) {s r : Sink} → (length bytes ≡ 0 → ⊥) → SentAs expected to (saveMark ∷ bytes) s → SentAs expected s settled r →
+        SentAs expected to (savedPart bytes) r
+    saved-some [] n h k = absurd (n refl)
+    saved-some (x ∷ xs) {s} {r} n h k = sent-then (saveMark ∷ x ∷ xs) settled to s r h k
+
+    pub shown-some : (bytes : List ℕ) {r : Sink} → (length bytes ≡ 0 → ⊥) → SentAs expected to (showMark ∷ bytes) r → SentAs expected to (shownPart bytes) r
+    shown-some [] n h = absurd (n refl)
+    shown-some (x ∷ xs) n h = h
 
   -- ---- a cut
 
@@ -158,15 +190,19 @@ module _ (expected : List ℕ) where
     pub passed-not : left < n → Sink.Differs ≡ passed expected at n
     passed-not h = ap (λ (b : Bool). matchedBy b (at + n)) (sym (lt-leb n (length (drop at expected)) (subst (λ (m : ℕ). m < n) e h)))
 
-  -- what a cut passes over is held against itself: a comparison stands as if those bytes had been sent
-  pub cut-sends : (at n : ℕ) (r : Sink) → n ≤ length (drop at expected) → CutAs expected (Sink.Match at) n r →
+  -- what a cut passes over is held against itself: a comparison stands as if those bytes had been sent, and then the wait for the disk
+  short-sends : (at n : ℕ) (r : Sink) → n ≤ length (drop at expected) → ShortAs expected (Sink.Match at) n r →
       SentAs expected (Sink.Match at) (take n (drop at expected)) r
-  cut-sends at n r h k =
+  short-sends at n r h k =
       record {
         stands =
             k .stands
             ∙ rw (le-leb n (length (drop at expected)) h, begins-take n (drop at expected), length-take-le n (drop at expected) h);
       }
+
+  pub cut-sends : (at n : ℕ) (r : Sink) → n ≤ length (drop at expected) → CutAs expected (Sink.Match at) n r →
+      SentAs expected (Sink.Match at) (take n (drop at expected) ++ settled) r
+  cut-sends at n r h k = sent-then (take n (drop at expected)) settled (Sink.Match at) (k .short) r (short-sends at n (k .short) h (k .cuts)) (k .waits)
 
   -- ---- the end
 

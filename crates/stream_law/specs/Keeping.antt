@@ -2,10 +2,12 @@
 -- any report."
 use Prim.Native.Nat.{ℕ, _≤_}
 use mathlib.Core.Path.{_≡_}
-use mathlib.Core.Bool.{Bool, true, false}
+use mathlib.Core.Bool.{Bool, true, false, _&&_}
 use mathlib.Core.List.{List, [], _∷_, _++_}
 use lib.ListN.{length}
 use lib.Dec.{eqb}
+use lib.IntN.{ℤ}
+use lib.Signed.{nonNeg}
 use Rattle.terms.specs.declared.Refusal.{Refusal}
 use Rattle.terms.specs.declared.Refusal.the-variants.{LineUnfinished}
 use Rattle.terms.specs.Refusals.{numberOf}
@@ -27,7 +29,7 @@ use Rattle.promises.specs.Printed.{Holding, dayOn}
 use Rattle.stream_law.specs.declared.Sink.{Sink}
 use Rattle.stream_law.specs.declared.Finish.{Finish}
 use Rattle.stream_law.specs.declared.Kept.{Kept}
-use Rattle.stream_law.specs.Sinks.{CutAs, isOpen, finishOf, saveMark, showMark, marked}
+use Rattle.stream_law.specs.Sinks.{CutAs, isOpen, finishOf, savedPart, shownPart}
 use Rattle.stream_law.specs.Streams.{logging, ThroughAs, Finished}
 
 -- ---- what is handed on, and in which order
@@ -54,8 +56,8 @@ showsOf (show text ∷ ps) = text ++ showsOf ps
 
 unfoldable pub logOf : List Part → List ℕ
 logOf [] = []
-logOf (save bytes ∷ ps) = marked saveMark bytes ++ logOf ps
-logOf (show text ∷ ps) = marked showMark text ++ logOf ps
+logOf (save bytes ∷ ps) = savedPart bytes ++ logOf ps
+logOf (show text ∷ ps) = shownPart text ++ logOf ps
 
 -- WHAT THE LOG IS OF: from wherever a day stands and whatever is read then, it is the log of parts of which all that is saved is `saving`'s and
 -- all that is shown is what the program prints
@@ -100,7 +102,7 @@ isUnbegun q = eqb (numberOf q) (numberOf LineUnfinished)
 -- where none has begun the file is emptied, and the settings come from the input; any other first bad line is told, and nothing is read
 abbrev pub RefusedBy : Bool → List ℕ → Sink → Refusal → ℕ → Finish → Type 0
 RefusedBy true expected to q place r = GoesOnFrom expected to 0 Stage.Awaiting noDay r
-RefusedBy false expected to q place r = Finished expected to (marked showMark (badText q place)) r
+RefusedBy false expected to q place r = Finished expected to (shownPart (badText q place)) r
 
 -- THE CONTRACT of `not_back`
 pub record RefusedAs (expected : List ℕ) (to : Sink) (q : Refusal) (place : ℕ) (r : Finish) : Type 0 where
@@ -112,7 +114,7 @@ pub record BadLaid (q : Refusal) (place : ℕ) (out : List ℕ) (n : ℕ) (out�
   pub within : n ≤ length out
 
 pub record BadTold (expected : List ℕ) (to : Sink) (q : Refusal) (place : ℕ) (r : Finish) : Type 0 where
-  pub told : Finished expected to (marked showMark (badText q place)) r
+  pub told : Finished expected to (shownPart (badText q place)) r
 
 -- WHAT THE PROGRAM DOES by what the file comes back as: the day goes on behind the bytes that count, or nothing came back
 abbrev pub KeepsAs : List ℕ → Sink → Comeback → Day → Finish → Type 0
@@ -123,9 +125,28 @@ KeepsAs expected to (Comeback.Refused q place) d r = RefusedBy (isUnbegun q) exp
 pub record BegunAs (expected : List ℕ) (to : Sink) (back : Back) (buys sells : List ℕ) (r : Finish) : Type 0 where
   pub keeps : KeepsAs expected to (back .answer) (dayIn (back .session) buys sells) r
 
--- THE CONTRACT of `keep`: the file could not be opened, or not be read; or there are bytes, those of the file, and the program did what they
--- come back as
+-- THE CONTRACT of a day whose file is open: it could not be read; or there are bytes, those of the file, and the program did what they come
+-- back as
 pub data KeptAs (expected : List ℕ) (to : Sink) (r : Kept) : Type 0 where
-  unopened : r ≡ Kept.NotOpened → KeptAs expected to r
   unread : r ≡ Kept.NotRead → KeptAs expected to r
   ran : (bytes : List ℕ) (f : Finish) → r ≡ Kept.Ran f → KeepsAs expected to (resumed bytes .answer) (resumed bytes .day) f → KeptAs expected to r
+
+-- ---- the file is opened, to be read and to be appended to
+
+-- the number of an open descriptor is not negative
+abbrev pub areOpen : ℤ → ℤ → Bool
+areOpen saved file = nonNeg saved && nonNeg file
+
+abbrev pub KeptBy : Bool → Kept → Type 0
+KeptBy true r = KeptAs [] Sink.Print r
+KeptBy false r = r ≡ Kept.NotOpened
+
+-- THE CONTRACT of `keep_opened`: the day is kept just where both could be opened
+pub record OpenedAs (saved file : ℤ) (r : Kept) : Type 0 where
+  pub kept : KeptBy (areOpen saved file) r
+
+-- THE CONTRACT of `keep`: there are descriptors, those that the file was opened as
+pub record OpensAs (r : Kept) : Type 0 where
+  pub saved : ℤ
+  pub file : ℤ
+  pub opened : OpenedAs saved file r

@@ -21,14 +21,14 @@ use Rattle.stream_law.specs.declared.Handed.{Handed}
 use Rattle.stream_law.specs.declared.Buffered.{Buffered}
 use Rattle.stream_law.specs.declared.Reading.{Reading}
 use Rattle.stream_law.specs.declared.Mode.{Mode}
-use Rattle.stream_law.specs.Sinks.{SentAs, isOpen, finishOf, saveMark, showMark, marked}
+use Rattle.stream_law.specs.Sinks.{SentAs, isOpen, finishOf, savedPart, shownPart}
 
 -- ---- what a program hands on
 
--- a program that keeps its day in a file: of each line first the bytes that are to be saved, and only then its text; and at the end, the end's
--- text
+-- a program that keeps its day in a file: of each line first the bytes that are to be saved, with a wait for the disk, and only then its text;
+-- and at the end, the end's text
 abbrev pub logging : Says ℕ
-logging = record { line = λ saved text. marked saveMark saved ++ marked showMark text; end = λ stage n. marked showMark (endText stage n) }
+logging = record { line = λ saved text. savedPart saved ++ shownPart text; end = λ stage n. shownPart (endText stage n) }
 
 -- by whether the day is kept: if not, just what is printed
 abbrev pub saysOf : Mode → Says ℕ
@@ -158,7 +158,7 @@ pub record HearsOn (says : Says ℕ) (expected : List ℕ) (h : Buffered) (buf b
 -- what the end prints, as it is sent
 abbrev pub endBy : Mode → List ℕ → List ℕ
 endBy Mode.Bare text = text
-endBy (Mode.Keeping file) text = marked showMark text
+endBy (Mode.Keeping file) text = shownPart text
 
 -- THE CONTRACT of the end: all that is said of the bytes that are left is sent
 pub record EndsAs (says : Says ℕ) (expected : List ℕ) (a : Holding) (to r : Sink) : Type 0 where

@@ -16,6 +16,18 @@ pub enum Sink {
     Lost,
 }
 
+// Where bytes are handed to: the file of a day, by its descriptor; or standard output.
+pub enum Place {
+    File(i32),
+    Output,
+}
+
+// What one write came to: how the sink stands then, and how many bytes were taken.
+pub struct Wrote {
+    pub to: Sink,
+    pub taken: usize,
+}
+
 // How a run ended: all was printed; what it printed is what was expected, or is not; its input could not be read; some of it
 // could not be saved, or not be printed.
 pub enum Finish {

@@ -29,7 +29,8 @@ fn goes_on(used: usize, to: Sink) -> bool
 fn save_then_show(to: Sink, expected: &[u8], file: i32, saved: &[u8], text: &[u8]) -> Sink
     ensures { λ r. ⌜ SentAs (now (expected .entry)) to (logging .line (now (saved .entry)) (now (text .entry))) r ⌝ }
 {
-    stream_sink::show(stream_sink::save(to, expected, file, saved), expected, text)
+    let kept = stream_sink::files::save(to, expected, file, saved);
+    stream_sink::show(kept, expected, text)
 }
 
 // The turn of the line that the bytes begin with, in rooms that hold whatever it comes to.

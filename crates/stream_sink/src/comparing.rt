@@ -1,8 +1,9 @@
 // Holds bytes against an expected text, of which the first `at` bytes were met.
 use stream_law::Sink;
 ghost use mathlib.Core.Path.{_≡_};
+ghost use mathlib.Core.List.{[], _∷_};
 ghost use lib.ListN.{length, drop};
-ghost use Rattle.stream_law.specs.Sinks.{begins, matched, marked, passed};
+ghost use Rattle.stream_law.specs.Sinks.{begins, matched, passed};
 
 // Whether some bytes are the first bytes of others.
 fn begins(bytes: &[u8], all: &[u8]) -> bool
@@ -42,19 +43,12 @@ pub fn hold(expected: &[u8], at: usize, bytes: &[u8]) -> Sink
     Sink::Differs
 }
 
-// Holds some bytes, behind their mark, against an expected text; no bytes have no mark.
-pub fn hold_marked(expected: &[u8], at: usize, mark: u8, bytes: &[u8]) -> Sink
-    ensures { λ r. ⌜ r ≡ matched (now (expected .entry)) at (marked mark (now (bytes .entry))) ⌝ }
+// Holds one byte against an expected text.
+pub fn hold_byte(expected: &[u8], at: usize, byte: u8) -> Sink
+    ensures { λ r. ⌜ r ≡ matched (now (expected .entry)) at (byte ∷ []) ⌝ }
 {
-    if bytes.len() == 0 {
-        return Sink::Match(at);
-    }
-    let front = [mark];
-    if is_next(expected, at, &front) {
-        let next = at + 1;
-        return hold(expected, next, bytes);
-    }
-    Sink::Differs
+    let one = [byte];
+    hold(expected, at, &one)
 }
 
 // How many bytes of an expected text are left to meet.

@@ -1,97 +1,42 @@
 // stream_sink: where a run's bytes go: to the file of a day and to standard output, or against an expected text that is lent.
-// It may use libc, descriptors and the definitions of stream_law. It promises, of any bytes: a comparison answers what stream_law says, where
-// what is saved and what is shown are held in the order in which they come, each behind its mark; and a sink that met a difference, or a save
-// or a print that failed, stays as it is. Which bytes reach the file and standard output is up to the C library, and no contract says it.
+// It may use libc, descriptors and the definitions of stream_law. It promises, of any bytes: a comparison sees every call that a live sink makes,
+// in its order (the bytes of a place behind its mark, write by write until all are taken, each wait for the disk, and the cut) and answers what
+// stream_law says; a sink that met a difference or a call that failed stays as it is, and makes no other; and what a call came to is said of its
+// number by an equation. That a live sink makes the call that a comparison sees is one line for each: in `write_once`, `settle` and `shorten`.
+// The contracts of the C library name no bytes, so none can say it of those three; days_live runs them, and host/calls holds them to the logs.
 
 mod comparing;
-mod files;
+pub mod files;
+mod handing;
 
-use descriptors::writing;
 use stream_law::Finish;
+use stream_law::Place;
 use stream_law::Sink;
 ghost use mathlib.Core.Path.{_≡_};
 ghost use lib.ListN.{length};
 ghost use lib.Dec.{eqb};
-ghost use Rattle.stream_law.specs.Sinks.{Takes, keptBy, SentAs, saveMark, showMark, marked, CutAs, isOpen, comparedBy, finishOf};
+ghost use Rattle.stream_law.specs.Sinks.{SentAs, isOpen, shownPart, comparedBy, finishOf};
 
-// The mark of what is saved.
-const SAVED: u8 = b'>';
+// ---- bytes are handed on
 
-// The mark of what is shown.
-const SHOWN: u8 = b'<';
-
-// Prints some bytes on standard output.
-fn print(bytes: &[u8]) -> Sink
-    ensures { λ r. ⌜ Takes r ⌝ }
-{
-    if writing::write_whole(libc::STDOUT_FILENO, bytes) {
-        return Sink::Print;
-    }
-    Sink::Lost
-}
-
-// How the sink stands after the file was written or cut, or could not be.
-fn kept(done: bool) -> Sink
-    ensures { λ r. ⌜ r ≡ keptBy done ⌝ }
-{
-    if done {
-        return Sink::Print;
-    }
-    Sink::Unsaved
-}
-
-// Sends some bytes, and answers how the sink stands then.
+// Sends some bytes to standard output.
 pub fn send(to: Sink, expected: &[u8], bytes: &[u8]) -> Sink
     ensures { λ r. ⌜ SentAs (now (expected .entry)) to (now (bytes .entry)) r ⌝ }
 {
-    match to {
-        Sink::Print => print(bytes),
-        Sink::Match(at) => comparing::hold(expected, at, bytes),
-        Sink::Differs => Sink::Differs,
-        Sink::Unsaved => Sink::Unsaved,
-        Sink::Lost => Sink::Lost,
-    }
+    handing::write_all(to, expected, Place::Output, bytes)
 }
 
-// Saves some bytes: appends them to the file and waits until they have reached the disk; or holds them, behind their mark, against what is
-// expected.
-pub fn save(to: Sink, expected: &[u8], file: i32, bytes: &[u8]) -> Sink
-    ensures { λ r. ⌜ SentAs (now (expected .entry)) to (marked saveMark (now (bytes .entry))) r ⌝ }
-{
-    match to {
-        Sink::Print => kept(files::append(file, bytes)),
-        Sink::Match(at) => comparing::hold_marked(expected, at, SAVED, bytes),
-        Sink::Differs => Sink::Differs,
-        Sink::Unsaved => Sink::Unsaved,
-        Sink::Lost => Sink::Lost,
-    }
-}
-
-// Shows some bytes: prints them on standard output; or holds them, behind their mark, against what is expected.
+// Shows some bytes: prints them on standard output.
 pub fn show(to: Sink, expected: &[u8], bytes: &[u8]) -> Sink
-    ensures { λ r. ⌜ SentAs (now (expected .entry)) to (marked showMark (now (bytes .entry))) r ⌝ }
+    ensures { λ r. ⌜ SentAs (now (expected .entry)) to (shownPart (now (bytes .entry))) r ⌝ }
 {
-    match to {
-        Sink::Print => print(bytes),
-        Sink::Match(at) => comparing::hold_marked(expected, at, SHOWN, bytes),
-        Sink::Differs => Sink::Differs,
-        Sink::Unsaved => Sink::Unsaved, // what could not be saved is not shown
-        Sink::Lost => Sink::Lost,
+    if bytes.len() == 0 {
+        return to;
     }
+    handing::hand(to, expected, Place::Output, bytes)
 }
 
-// Cuts the file to its first bytes, and waits until that has reached the disk; a comparison passes over as many bytes.
-pub fn cut(to: Sink, expected: &[u8], file: i32, count: usize) -> Sink
-    ensures { λ r. ⌜ CutAs (now (expected .entry)) to count r ⌝ }
-{
-    match to {
-        Sink::Print => kept(files::cut(file, count)),
-        Sink::Match(at) => comparing::pass(expected, at, count),
-        Sink::Differs => Sink::Differs,
-        Sink::Unsaved => Sink::Unsaved,
-        Sink::Lost => Sink::Lost,
-    }
-}
+// ---- the end
 
 // Whether more may be sent.
 pub fn is_open(to: Sink) -> bool

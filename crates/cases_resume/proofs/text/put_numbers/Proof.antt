@@ -12,45 +12,18 @@ Inv-loop room₀ at xs to₀ i₀ room to i = (to ≤ length room₀) × (length
 abbrev μ-loop : tie.MeasureT-loop
 μ-loop room₀ at xs to₀ i₀ room to i = length xs - i
 
-loop-holds : tie.Need-loop-holds Inv-loop μ-loop
-loop-holds c = search needs
-
-mul-put-next : tie.Need-mul-put-next Inv-loop μ-loop
-mul-put-next c = search needs
-
-shared-slice-read-put-next : tie.Need-shared-slice-read-put-next Inv-loop μ-loop
-shared-slice-read-put-next c = search needs
-
-put-next-requires : tie.Need-put-next-requires Inv-loop μ-loop
-put-next-requires c κs = search needs
-
-add-i : tie.Need-add-i Inv-loop μ-loop
-add-i c = search needs
-
-loop-less : tie.Need-loop-less Inv-loop μ-loop
-loop-less c = search needs
-
-loop-again : tie.Need-loop-again Inv-loop μ-loop
-loop-again c = search needs
-
-same-length : tie.Need-same-length Inv-loop μ-loop
-same-length c = search needs
-
-returns : tie.Need-returns Inv-loop μ-loop
-returns c = search needs
-
 pub put-numbers-spec : {M : Type 1} → statement M
 put-numbers-spec =
     tie.close
     (tie.spec
     Inv-loop
     μ-loop
-    loop-holds
-    mul-put-next
-    shared-slice-read-put-next
-    put-next-requires
-    add-i
-    loop-less
-    loop-again
-    same-length
-    returns)
+    (λ c. search needs)
+    (λ c. search needs)
+    (λ c. search needs)
+    (λ c κs. search needs)
+    (λ c. search needs)
+    (λ c. search needs)
+    (λ c. search needs)
+    (λ c. search needs)
+    (λ c. search needs))

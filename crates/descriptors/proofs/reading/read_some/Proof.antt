@@ -1,9 +1,12 @@
 -- The buffer keeps its length, and at each turn fewer turns are left.
-use borrow.Author.Needs.{needs}
 use mathlib.Core.Path.{_≡_}
 use lib.ListN.{length}
+use Rattle.descriptors.proofs.Numbers.{read-within}
+use borrow.Author.Needs.{needs}
 use Rattle.descriptors.proofs.reading.read_some.Statement.{statement}
 use Rattle.descriptors.proofs.reading.read_some.Tie as tie
+
+ruleset answers = (needs, read-within)
 
 abbrev Inv-loop : tie.InvT-loop
 Inv-loop fd buf₀ turns₀ buf turns = length buf ≡ length buf₀
@@ -11,69 +14,26 @@ Inv-loop fd buf₀ turns₀ buf turns = length buf ≡ length buf₀
 abbrev μ-loop : tie.MeasureT-loop
 μ-loop fd buf₀ turns₀ buf turns = turns
 
-loop-holds : tie.Need-loop-holds Inv-loop μ-loop
-loop-holds c = search needs
-
-read-requires : tie.Need-read-requires Inv-loop μ-loop
-read-requires c κs = search needs
-
-count-requires : tie.Need-count-requires Inv-loop μ-loop
-count-requires c κs = search needs
-
-same-length : tie.Need-same-length Inv-loop μ-loop
-same-length c = search needs
-
-returns : tie.Need-returns Inv-loop μ-loop
-returns c = search needs
-
-errno-requires : tie.Need-errno-requires Inv-loop μ-loop
-errno-requires c κs = search needs
-
-passes-requires : tie.Need-passes-requires Inv-loop μ-loop
-passes-requires c κs = search needs
-
-same-length-2 : tie.Need-same-length-2 Inv-loop μ-loop
-same-length-2 c = search needs
-
-returns-2 : tie.Need-returns-2 Inv-loop μ-loop
-returns-2 c = search needs
-
-pause-requires : tie.Need-pause-requires Inv-loop μ-loop
-pause-requires c κs = search needs
-
-sub-turns : tie.Need-sub-turns Inv-loop μ-loop
-sub-turns c = search needs
-
-loop-less : tie.Need-loop-less Inv-loop μ-loop
-loop-less c = search needs
-
-loop-again : tie.Need-loop-again Inv-loop μ-loop
-loop-again c = search needs
-
-same-length-3 : tie.Need-same-length-3 Inv-loop μ-loop
-same-length-3 c = search needs
-
-returns-3 : tie.Need-returns-3 Inv-loop μ-loop
-returns-3 c = search needs
-
 pub read-some-spec : {M : Type 1} → statement M
 read-some-spec =
     tie.close
     (tie.spec
     Inv-loop
     μ-loop
-    loop-holds
-    read-requires
-    count-requires
-    same-length
-    returns
-    errno-requires
-    passes-requires
-    same-length-2
-    returns-2
-    pause-requires
-    sub-turns
-    loop-less
-    loop-again
-    same-length-3
-    returns-3)
+    (λ c. search answers)
+    (λ c κs. search answers)
+    (λ c κs. search answers)
+    (λ c κs. search answers)
+    (λ c. search answers)
+    (λ c. search answers)
+    (λ c. search answers)
+    (λ c. search answers)
+    (λ c. search answers)
+    (λ c. search answers)
+    (λ c. search answers)
+    (λ c κs. search answers)
+    (λ c. search answers)
+    (λ c. search answers)
+    (λ c. search answers)
+    (λ c. search answers)
+    (λ c. search answers))

@@ -6,25 +6,13 @@ use Rattle.stream_sink.proofs.comparing.is_next.Tie as tie
 
 ruleset answers = (needs, past-end, begins-there)
 
-returns : tie.Need-returns
-returns c = search answers
-
-sub-begins : tie.Need-sub-begins
-sub-begins c = search answers
-
-part-begins-start : tie.Need-part-begins-start
-part-begins-start c = search answers
-
-part-begins-end : tie.Need-part-begins-end
-part-begins-end c = search answers
-
-begins-requires : tie.Need-begins-requires
-begins-requires c κs = search answers
-
-returns-2 : tie.Need-returns-2
-returns-2 c = search answers
-
 pub is-next-spec : {M : Type 1} → statement M
 is-next-spec =
     tie.close
-    (tie.spec returns sub-begins part-begins-start part-begins-end begins-requires returns-2)
+    (tie.spec
+    (λ c. search answers)
+    (λ c. search answers)
+    (λ c. search answers)
+    (λ c. search answers)
+    (λ c κs. search answers)
+    (λ c. search answers))
