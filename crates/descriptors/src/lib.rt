@@ -1,7 +1,8 @@
 // descriptors: reads bytes from a descriptor and writes them to one. A call that was interrupted, or that found the other side not ready, is
 // made again; any other failure is reported.
-// It may use os, io and libc. It promises that it is safe and ends; that each call comes to what its number and its error say (`outcomeBy`);
-// and that no count is more than there is room for. Which bytes are read and written is up to the C library.
+// It may use os, io and libc. It promises that it is safe and ends; that the outcome of a call is what its number and its error say
+// (`outcomeBy`); and that no count is more than there is room for. It does not promise yet that a read that failed is answered as one. Which
+// bytes are read and written is up to the C library.
 
 mod calls;
 pub mod reading;
