@@ -1,18 +1,20 @@
 -- What a call came to, as code tests the bits of its number.
-use Prim.Native.Nat.{ℕ, min, _≤_}
+use Prim.Native.Nat.{ℕ, _≤_}
 use native.Mathlib.Omega.{arith}
-use mathlib.Core.Path.{_≡_, refl, sym, ap, _∙_}
-use mathlib.Core.Bool.{Bool, true, false, cond, _||_, true≢false}
+use mathlib.Core.Path.{_≡_, refl, sym, ap, _∙_, subst}
+use mathlib.Core.Bool.{Bool, true, false, not, cond, _||_, true≢false}
 use lib.Dec.{eqb}
 use lib.IntN.{ℤ, pos, negsuc}
 use lib.Signed.{leZ}
-use borrow.Author.Tests.{le-leb, eq-eqb, ne-eqb, eqb-true, eqb-false}
+use borrow.Author.Tests.{le-leb, eq-eqb, ne-eqb, eqb-true, eqb-false, not-true}
 use mir.Syntax.{w32, w64}
 use mir.Val.{ofZ, toZ, SFits}
 use mir.Facts.{toZ-ofZ}
 use Rattle.io.specs.Counts.{clamped}
 use Rattle.descriptors.specs.declared.Outcome.{Outcome}
-use Rattle.descriptors.specs.Outcomes.{isNumber, passes, outcomeBy}
+use Rattle.descriptors.specs.declared.Got.{Got}
+use Rattle.descriptors.specs.Counted.{GotWithin}
+use Rattle.descriptors.specs.Outcomes.{isNumber, passes, outcomeBy, isAgain, gotBy, takenBy, SettledAs}
 
 -- ---- an error by its number
 
@@ -65,26 +67,35 @@ module _ {answer error : ℤ} (f : SFits w64 answer) (g : SFits w32 error) (most
 
 -- ---- no more than there are
 
-within-by : (answer error : ℤ) (most n : ℕ) → Outcome.Moved n ≡ outcomeBy answer error most → n ≤ most
-within-by (pos k) error most n e = let m : n ≡ min k most = moved-inj e in omega arith
+taken-within : (answer error : ℤ) (most : ℕ) → takenBy (outcomeBy answer error most) ≤ most
+taken-within (pos k) error most = omega arith
+taken-within (negsuc k) error most = go (passes error)
   where
-    moved-inj : {a b : ℕ} → Outcome.Moved a ≡ Outcome.Moved b → a ≡ b
-    moved-inj e = ap countOf e
-      where
-        countOf : Outcome → ℕ
-        countOf (Outcome.Moved n) = n
-        countOf Outcome.Failed = 0
-        countOf Outcome.Again = 0
-within-by (negsuc k) error most n e = go (passes error) e
-  where
-    go : (b : Bool) → Outcome.Moved n ≡ cond b Outcome.Again Outcome.Failed → n ≤ most
-    go true e = absurd (let z : _≡_ {A = ℕ} 0 1 = cc in omega arith)
-    go false e = absurd (let z : _≡_ {A = ℕ} 0 1 = cc in omega arith)
+    go : (b : Bool) → takenBy (cond b Outcome.Again Outcome.Failed) ≤ most
+    go true = omega arith
+    go false = omega arith
 
-pub moved-within : (answer error : ℤ) {most n : ℕ} {o : Outcome} → o ≡ outcomeBy answer error most → o ≡ Outcome.Moved n → n ≤ most
-moved-within answer error {most} {n} e h = within-by answer error most n (sym h ∙ e)
+-- what a call on some bytes came to that is not to be made again; where a buffer was lent it has kept its length, in this turn and in those before
+module _ (answer error : ℤ) {most : ℕ} {o : Outcome} (e : o ≡ outcomeBy answer error most) {again : Bool} (t : again ≡ isAgain o) (n : not again ≡ true) where
+  pub wrote-settled : SettledAs most o
+  wrote-settled = record { settled = sym t ∙ not-true again n; within = let w = taken-within answer error most in let s = ap takenBy e in omega arith }
 
--- the same, where the buffer has kept its length in this turn and in those before it
-pub read-within : (answer error : ℤ) {now before most n : ℕ} {o : Outcome} → o ≡ outcomeBy answer error now → o ≡ Outcome.Moved n → now ≡ before →
-    before ≡ most → n ≤ most
-read-within answer error e h s t = let w = moved-within answer error e h in omega arith
+  pub read-settled : {before room : ℕ} → most ≡ before → before ≡ room → SettledAs room o
+  read-settled s t = let k = wrote-settled in record { settled = k .settled; within = let w = k .within in omega arith }
+
+-- the turns were over
+pub settled-over : (most : ℕ) → SettledAs most Outcome.Failed
+settled-over most = record { settled = refl; within = omega arith }
+
+-- ---- what is answered
+
+pub got-moved : {o : Outcome} {n : ℕ} → o ≡ Outcome.Moved n → Got.Bytes n ≡ gotBy o
+got-moved e = sym (ap gotBy e)
+
+got-by : (most : ℕ) (o : Outcome) → takenBy o ≤ most → GotWithin most (gotBy o)
+got-by most (Outcome.Moved n) h = h
+got-by most Outcome.Failed h = tt
+got-by most Outcome.Again h = tt
+
+pub got-settled : {most : ℕ} {o : Outcome} {g : Got} → SettledAs most o → g ≡ gotBy o → GotWithin most g
+got-settled {most} {o} s e = subst (GotWithin most) (sym e) (got-by most o (s .within))

@@ -2,7 +2,7 @@
 use crate::Outcome;
 ghost use mathlib.Core.Path.{_≡_};
 ghost use lib.ListN.{length};
-ghost use Rattle.descriptors.specs.Outcomes.{passes, outcomeBy};
+ghost use Rattle.descriptors.specs.Outcomes.{passes, outcomeBy, isAgain};
 
 // Whether a call that failed with this error may succeed later: a signal interrupted it, or the other side is not ready.
 fn passes(error: i32) -> bool
@@ -23,6 +23,17 @@ pub fn outcome(answer: isize, error: i32, bytes: &[u8]) -> Outcome
         return Outcome::Again;
     }
     Outcome::Failed
+}
+
+// Whether a call is to be made again.
+pub fn is_again(outcome: Outcome) -> bool
+    ensures { λ r. ⌜ r ≡ isAgain outcome ⌝ }
+{
+    match outcome {
+        Outcome::Moved(_) => false,
+        Outcome::Failed => false,
+        Outcome::Again => true,
+    }
 }
 
 // Lets other programs run.

@@ -10,3 +10,4 @@ pub mod Lays
 pub mod Longer
 pub mod Standings
 pub mod Fronts
+pub mod Known

@@ -25,7 +25,7 @@ use Rattle.engine_law.proofs.Kept.{accepted-sound}
 use Rattle.resume_law.specs.declared.Comeback.{Comeback}
 use Rattle.resume_law.specs.declared.SavedLine.{SavedLine}
 use Rattle.resume_law.specs.Rebuilt.{Rebuilt, rebuilt, refused, Step, stepOf, usedBy, onLine, linesFrom}
-use Rattle.resume_law.specs.Pieces.{unmoved}
+use Rattle.resume_law.specs.Pieces.{tellsBad, unmoved}
 use Rattle.resume_law.proofs.Lines.{line-applied, line-refused, line-unfinished, line-wrong}
 use Rattle.resume_law.proofs.Finds.{none-left}
 
@@ -91,12 +91,12 @@ Of at moved d bytes = linesFrom (length bytes) at moved d bytes
 spare : (at : ℕ) (moved : Bool) (d : Day) (bytes : List ℕ) → Of at moved d bytes ≡ linesFrom (suc (length bytes)) at moved d bytes
 spare at moved d bytes = same-fuel (length bytes) (suc (length bytes)) at moved d bytes (omega arith) (omega arith)
 
--- they are the start of a line; or lines are taken, with a sound day behind them, and the start of a line is left; or one is bad
+-- they are the start of a line; or lines are taken, with a sound day behind them, and the start of a line is left; or one is bad, at a place in them
 pub data Passes (at : ℕ) (moved : Bool) (d : Day) (xs : List ℕ) : Rebuilt → Type 0 where
   short : readEvent xs ≡ unfinished → Passes at moved d xs (rebuilt at moved d)
   goes : (used : ℕ) (d′ : Day) → sound d′ ≡ true → used ≤ length xs → readEvent (drop used xs) ≡ unfinished →
       ((ys : List ℕ) → Of at moved d (xs ++ ys) ≡ Of (at + used) true d′ (drop used xs ++ ys)) → Passes at moved d xs (rebuilt (at + used) true d′)
-  bad : (r : Refusal) (place : ℕ) → ((ys : List ℕ) → Of at moved d (xs ++ ys) ≡ refused r place) → Passes at moved d xs (refused r place)
+  bad : (r : Refusal) (place : ℕ) → tellsBad (Comeback.Refused r place) ≡ true → place ≤ at + length xs → ((ys : List ℕ) → Of at moved d (xs ++ ys) ≡ refused r place) → Passes at moved d xs (refused r place)
 
 abbrev All : ℕ → Type 0
 All n = (at : ℕ) (moved : Bool) (d : Day) (xs : List ℕ) → length xs ≤ n → Passes at moved d xs (linesFrom n at moved d xs)
@@ -130,7 +130,10 @@ module _ (at : ℕ) (moved : Bool) (d : Day) (xs : List ℕ) where
         subst (λ (n : ℕ). Passes at moved d xs (rebuilt n true d′)) (sym aa)
         (goes (m + used) d′ s (omega arith) (ap readEvent (sym dd) ∙ u)
         (λ ys. step ys ∙ f ys ∙ (λ i. Of (aa i) true d′ (dd i ++ ys))))
-    onward (bad r place f) = bad r place (λ ys. step ys ∙ f ys)
+    onward (bad r place t h f) =
+        let w : m ≤ length xs = line-within xs e m q in
+        let l = length-drop m xs in
+        bad r place t (omega arith) (λ ys. step ys ∙ f ys)
 
   module _ (n : ℕ) (again : All n) (h : length xs ≤ suc n) where
     passes-judged : (e : Event) (m : ℕ) → readEvent xs ≡ whole e m → (v : Verdict) → outcome d e .verdict ≡ v → Passes at moved d xs (linesFrom (suc n) at moved d xs)
@@ -138,14 +141,14 @@ module _ (at : ℕ) (moved : Bool) (d : Day) (xs : List ℕ) where
         found (line-applied at moved d xs n e m q v) (onward e m q v (again (at + m) true (outcome d e .day) (drop m xs) (fewer xs e m n q h)))
     passes-judged e m q (Refused r) v =
         found (line-refused at moved d xs n e m r q v)
-        (bad LineRefused at (λ ys. spare at moved d (xs ++ ys) ∙ line-refused at moved d (xs ++ ys) (length (xs ++ ys)) e m r (stays-whole xs e m q ys) v))
+        (bad LineRefused at refl (omega arith) (λ ys. spare at moved d (xs ++ ys) ∙ line-refused at moved d (xs ++ ys) (length (xs ++ ys)) e m r (stays-whole xs e m q ys) v))
 
     passes-read : (o : LineAnswer Event) → readEvent xs ≡ o → Passes at moved d xs (linesFrom (suc n) at moved d xs)
     passes-read (whole e m) q = passes-judged e m q (outcome d e .verdict) refl
     passes-read unfinished q = found (line-unfinished at moved d xs (suc n) q) (short q)
     passes-read (wrong m) q =
         found (line-wrong at moved d xs n m q)
-        (bad LineWrong (at + m) (λ ys. spare at moved d (xs ++ ys) ∙ line-wrong at moved d (xs ++ ys) (length (xs ++ ys)) m (stays-wrong xs m q ys)))
+        (bad LineWrong (at + m) refl (omega (arith, right-at xs (wrong m) q .0)) (λ ys. spare at moved d (xs ++ ys) ∙ line-wrong at moved d (xs ++ ys) (length (xs ++ ys)) m (stays-wrong xs m q ys)))
 
 pub passes : (n : ℕ) → All n
 passes zero at moved d xs h =

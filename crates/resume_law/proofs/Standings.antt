@@ -1,11 +1,11 @@
 -- What is still to come back from a file that is read in pieces: it stays the same from piece to piece, and at the end it is what came back.
-use Prim.Native.Nat.{ℕ, _+_, _≤_}
+use Prim.Native.Nat.{ℕ, _+_, _^_, _≤_}
 use native.Mathlib.Omega.{arith}
 use native.Mathlib.Nat.{add-zero}
 use mathlib.Core.Path.{_≡_, refl, sym, ap, _∙_, subst}
 use mathlib.Core.Bool.{Bool, true, false, true≢false, false≢true}
 use mathlib.Core.List.{List, [], _++_, append-assoc, append-nil}
-use lib.ListN.{length, drop, length-append}
+use lib.ListN.{length, drop, length-append, length-drop}
 use Rattle.terms.specs.declared.Event.{Event}
 use Rattle.terms.specs.declared.Order.{Order}
 use Rattle.terms.specs.declared.Refusal.{Refusal}
@@ -13,9 +13,9 @@ use Rattle.terms.specs.Sizes.{lineRoom}
 use Rattle.tables.specs.Tables.{decode, tableOf}
 use Rattle.tables.proofs.Slots.{decode-encode}
 use Rattle.lines_text_law.specs.Grammar.{LineAnswer, whole, unfinished, wrong}
-use Rattle.lines_text_law.specs.Reading.{Begins, ReadAs}
+use Rattle.lines_text_law.specs.Reading.{LineOf, Begins, ReadAs}
 use Rattle.lines_text_law.proofs.Sorts.{told, not-whole, not-wrong}
-use Rattle.lines_reading_law.specs.Lines.{EventLine}
+use Rattle.lines_reading_law.specs.Lines.{EventLine, eventFigures, renderEvent}
 use Rattle.lines_reading_law.specs.Answers.{readEvent}
 use Rattle.lines_reading_law.proofs.EventLines.{event-lines}
 use Rattle.lines_writing_law.proofs.Short.{event-short}
@@ -29,8 +29,9 @@ use Rattle.resume_law.specs.declared.Back.{Back}
 use Rattle.resume_law.specs.declared.Passed.{Passed}
 use Rattle.resume_law.specs.Rebuilt.{Rebuilt, rebuilt, refused, linesFrom}
 use Rattle.resume_law.specs.code.Replaying.{ReplayedAs, LinesReplayed}
-use Rattle.resume_law.specs.Pieces.{BackBy, BackOf, Standing, standing, linesOf, unmoved, toCome, Onward, BackFrom, backTo, unreadBack, passedTo, passedEnd, Starts, StartTold, StoodAs, PassedAs}
-use Rattle.resume_law.specs.Pieces.BackOf.{not-read, all-read}
+use Rattle.resume_law.specs.Pieces.{BackBy, tellsBad, tooMany, BackOf, Standing, standing, linesOf, unmoved, toCome, sizeOn, Onward, BackFrom, Told, backTo, unreadBack, passedTo, passedEnd, Starts, StartTold, placeOf, StoodAs, PassedAs}
+use Rattle.resume_law.specs.Pieces.BackOf.{not-read, too-long, all-read, bad-met}
+use Rattle.resume_law.specs.Pieces.Told.{told-bad, told-long}
 use Rattle.resume_law.specs.Pieces.StoodAs.{over, counts, refuses}
 use Rattle.resume_law.proofs.Lines.{line-unfinished}
 use Rattle.resume_law.proofs.Longer.{Passes, passes, laterBy, lines-later, lines-unmoved}
@@ -38,44 +39,68 @@ use Rattle.resume_law.proofs.Longer.Passes.{short, goes, bad}
 
 -- ---- nothing, and one after the other
 
-pub onward-none : (a : Standing) → Onward a a
-onward-none a = record { got = []; same = λ more. refl }
+pub onward-none : (a : Standing) → Onward [] a a
+onward-none a = record { same = λ more. refl; count = λ more. refl }
 
-pub onward-then : {a b c : Standing} → Onward a b → Onward b c → Onward a c
-onward-then {a} p q =
+pub onward-then : {got got′ : List ℕ} {a b c : Standing} → Onward got a b → Onward got′ b c → Onward (got ++ got′) a c
+onward-then {got} {got′} {a} p q =
     record {
-      got = p .got ++ q .got;
-      same = λ more. ap (toCome a) (append-assoc (p .got) (q .got) more) ∙ p .same (q .got ++ more) ∙ q .same more;
+      same = λ more. ap (toCome a) (append-assoc got got′ more) ∙ p .same (got′ ++ more) ∙ q .same more;
+      count = λ more. ap (sizeOn a) (append-assoc got got′ more) ∙ p .count (got′ ++ more) ∙ q .count more;
     }
 
 -- bytes were read behind those that were kept
 pub onward-read : (before : ℕ) (d : Day) (kept got : List ℕ) →
-    Onward (record { before = before; day = d; kept = kept }) (record { before = before; day = d; kept = kept ++ got })
+    Onward got (record { before = before; day = d; kept = kept }) (record { before = before; day = d; kept = kept ++ got })
 unfolding toCome
 onward-read before d kept got =
-    record { got = got; same = λ more. ap (λ (x : List ℕ). unmoved (linesOf before d x)) (sym (append-assoc kept got more)) }
+    record {
+      same = λ more. ap (λ (x : List ℕ). unmoved (linesOf before d x)) (sym (append-assoc kept got more));
+      count = λ more. ap (λ (x : List ℕ). before + length x) (sym (append-assoc kept got more));
+    }
+
+-- what came back of some bytes came back of others, where the reads give these, they are as many, and come back as the same
+module _ {gives gives′ : List ℕ → Bool → Type 0} {size size′ : List ℕ → ℕ} {comes comes′ : List ℕ → Rebuilt} {buys sells : List ℕ} {r : Back}
+    (f : List ℕ → List ℕ) (given : (bytes : List ℕ) (whole : Bool) → gives′ bytes whole → gives (f bytes) whole)
+    (many : (bytes : List ℕ) → size (f bytes) ≡ size′ bytes) (by : (bytes : List ℕ) → BackBy (comes′ bytes) buys sells r → BackBy (comes (f bytes)) buys sells r) where
+  pub back-of : BackOf gives′ size′ comes′ buys sells r → BackOf gives size comes buys sells r
+  back-of (not-read bytes g e) = not-read (f bytes) (given bytes false g) e
+  back-of (too-long bytes w g l e) = too-long (f bytes) w (given bytes w g) (subst (λ (n : ℕ). tooMany ≤ n) (sym (many bytes)) l) e
+  back-of (all-read bytes g e k) = all-read (f bytes) (given bytes true g) e (by bytes k)
+  back-of (bad-met bytes w g t e k) = bad-met (f bytes) w (given bytes w g) t e (by bytes k)
 
 -- what came back behind some pieces is what was to come before them
-pub back-then : {a b : Standing} {buys sells : List ℕ} {r : Back} → Onward a b → BackFrom b buys sells r → BackFrom a buys sells r
-back-then {a} {b} {buys} {sells} {r} p k = record { comes = go (k .comes) }
-  where
-    go : BackOf (toCome b) buys sells r → BackOf (toCome a) buys sells r
-    go (not-read e) = not-read e
-    go (all-read bytes e by) = all-read (p .got ++ bytes) e (subst (λ (x : Rebuilt). BackBy x buys sells r) (sym (p .same bytes)) by)
+pub back-then : {gives gives′ : List ℕ → Bool → Type 0} {got : List ℕ} {a b : Standing} {buys sells : List ℕ} {r : Back} → Onward got a b →
+    ((bytes : List ℕ) (whole : Bool) → gives′ bytes whole → gives (got ++ bytes) whole) → BackFrom gives′ b buys sells r → BackFrom gives a buys sells r
+back-then {gives} {gives′} {got} {a} {b} {buys} {sells} {r} p given k =
+    record {
+      comes = back-of (λ (bytes : List ℕ). got ++ bytes) given (p .count) (λ bytes. subst (λ (x : Rebuilt). BackBy x buys sells r) (sym (p .same bytes))) (k .comes);
+    }
 
-pub back-unread : (a : Standing) (buys sells : List ℕ) {r : Back} → r ≡ unreadBack → BackFrom a buys sells r
-back-unread a buys sells e = record { comes = not-read (ap (λ (z : Back). z .read) e) }
+-- all is told, whatever the reads give behind it
+pub told-from : {gives : List ℕ → Bool → Type 0} {a : Standing} {buys sells : List ℕ} {r : Back} (more : List ℕ) (whole : Bool) → gives more whole →
+    Told a buys sells r → BackFrom gives a buys sells r
+told-from {gives} {a} more w g (told-bad t e k) = record { comes = bad-met more w g t e (k more) }
+told-from {gives} {a} more w g (told-long l e) =
+    let n = length-append (a .kept) more in
+    let m = length-append (a .kept) [] in
+    record { comes = too-long more w g (omega arith) e }
+
+-- a read failed
+pub unread-from : {gives : List ℕ → Bool → Type 0} (a : Standing) (buys sells : List ℕ) {r : Back} → gives [] false → r .read ≡ false → BackFrom gives a buys sells r
+unread-from a buys sells g e = record { comes = not-read [] g e }
 
 -- ---- the start of a line
 
 -- it is short
+pub begins-short : {E : Type 0} (render figures : E → List ℕ) → ((e : E) → length (render e) ≤ lineRoom) → (bytes : List ℕ) → Begins (LineOf render figures) bytes →
+    length bytes ≤ lineRoom
+begins-short render figures most bytes (e, rest, l) =
+    let n = sym (length-append bytes rest) ∙ ap length (l .0) in
+    omega (arith, most e)
+
 pub start-short : {bytes : List ℕ} → Starts bytes → length bytes ≤ lineRoom
-start-short {bytes} s = go ((rw (s .start) at (event-lines .right bytes)) .0)
-  where
-    go : Begins EventLine bytes → length bytes ≤ lineRoom
-    go (e, rest, l) =
-        let n = sym (length-append bytes rest) ∙ ap length (l .0) in
-        omega (arith, event-short e)
+start-short {bytes} s = begins-short renderEvent eventFigures event-short bytes ((rw (s .start) at (event-lines .right bytes)) .0)
 
 -- by how the bytes are read
 module _ (bytes : List ℕ) (a : LineAnswer Event) (read : ReadAs EventLine bytes a) where
@@ -92,17 +117,17 @@ module _ (bytes : List ℕ) (a : LineAnswer Event) (read : ReadAs EventLine byte
   start-unfinished q = record { yes = λ _. record { start = sym (told event-lines bytes a read) ∙ q }; no = λ e. absurd (true≢false e) }
 
 -- at the end of the file it is dropped, and all before it counts
-pub start-ends : (before : ℕ) (s : Session) (buys sells : List ℕ) {kept : List ℕ} {r : Back} → Starts kept → r ≡ backTo (Comeback.Counts before) s →
-    BackFrom (standing before s buys sells kept) buys sells r
+pub start-ends : {gives : List ℕ → Bool → Type 0} (before : ℕ) (s : Session) (buys sells : List ℕ) {kept : List ℕ} {r : Back} → Starts kept → gives [] true →
+    r ≡ backTo (Comeback.Counts before) s → BackFrom gives (standing before s buys sells kept) buys sells r
 unfolding toCome
-start-ends before s buys sells {kept} {r} start e =
+start-ends before s buys sells {kept} {r} start g e =
     let d : Day = dayIn s buys sells in
     let q : readEvent (kept ++ []) ≡ unfinished = ap readEvent (append-nil kept) ∙ start .start in
     let x : toCome (standing before s buys sells kept) [] ≡ rebuilt before false d =
     ap unmoved (line-unfinished before false d (kept ++ []) (length (kept ++ [])) q) in
     record {
       comes =
-          all-read [] (ap (λ (z : Back). z .read) e)
+          all-read [] g (ap (λ (z : Back). z .read) e)
           (subst (λ (z : Rebuilt). BackBy z buys sells r) (sym x)
           (record {
             answer = ap (λ (z : Back). z .answer) e;
@@ -150,27 +175,32 @@ module _ (before : ℕ) (s : Session) (bytes buys sells : List ℕ) where
 
   module _ (buys′ sells′ : List ℕ) where
     -- nothing more is to be read, and what came back is known
-    ended : {r : Passed} {b : Back} → r ≡ passedEnd b → BackFrom here buys′ sells′ b → PassedAs before s bytes buys sells buys′ sells′ r
+    ended : {r : Passed} {b : Back} → r ≡ passedEnd b → Told here buys′ sells′ b → PassedAs before s bytes buys sells buys′ sells′ r
     ended {r} {b} e k =
         subst (PassedAs before s bytes buys sells buys′ sells′) (sym e)
         (record { within = omega arith; on = λ m. absurd (false≢true m); left = λ m. absurd (false≢true m); off = λ m. k })
 
     -- lines were taken, up to the start of one
     took : (used : ℕ) (now : Session) {r : Passed} → used ≤ length bytes → Starts (drop used bytes) →
-        Onward here (standing (before + used) now buys′ sells′ (drop used bytes)) → r ≡ passedTo used (before + used) now →
+        Onward [] here (standing (before + used) now buys′ sells′ (drop used bytes)) → r ≡ passedTo used (before + used) now →
         PassedAs before s bytes buys sells buys′ sells′ r
     took used now {r} h u o e =
         subst (PassedAs before s bytes buys sells buys′ sells′) (sym e)
         (record { within = h; on = λ m. o; left = λ m. u; off = λ m. absurd (true≢false m) })
 
     module _ (t : Replayed) (r : Passed) (started : Bool) (told : StartTold bytes started) (line : started ≡ false) where
-      goes-on : (used : ℕ) (d′ : Day) → dayIn (t .session) buys′ sells′ ≡ d′ →
+      goes-on : (used : ℕ) (d′ : Day) → used ≤ length bytes → dayIn (t .session) buys′ sells′ ≡ d′ →
           ((ys : List ℕ) → linesOf 0 d (bytes ++ ys) ≡ linesFrom (length (drop used bytes ++ ys)) (0 + used) true d′ (drop used bytes ++ ys)) →
-          Onward here (standing (before + used) (t .session) buys′ sells′ (drop used bytes))
+          Onward [] here (standing (before + used) (t .session) buys′ sells′ (drop used bytes))
       unfolding toCome
-      goes-on used d′ e f =
+      goes-on used d′ h e f =
           record {
-            got = [];
+            count =
+                λ more.
+                let n = length-append bytes more in
+                let m = length-append (drop used bytes) more in
+                let l = length-drop used bytes in
+                omega arith;
             same =
                 λ more.
                 let rest : List ℕ = drop used bytes ++ more in
@@ -182,29 +212,33 @@ module _ (before : ℕ) (s : Session) (bytes buys sells : List ℕ) where
                 ∙ ap (λ (x : Day). unmoved (linesOf (before + used) x rest)) (sym e);
           }
 
-      bad-line : (q : Refusal) (n : ℕ) → ((ys : List ℕ) → linesOf 0 d (bytes ++ ys) ≡ refused q n) → t .session ≡ refused q n .day .session →
-          BackFrom here buys′ sells′ (backTo (Comeback.Refused q (before + n)) (t .session))
-      bad-line q n f e =
-          record {
-            comes =
-                all-read [] refl
-                (subst (λ (x : Rebuilt). BackBy x buys′ sells′ (backTo (Comeback.Refused q (before + n)) (t .session)))
-                (sym (by-piece [] ∙ ap (λ (x : Rebuilt). unmoved (laterBy before x)) (f [])))
-                (record { answer = refl; session = e; day = λ m h. counts-or h refl }));
-          }
+      bad-line : (q : Refusal) (n : ℕ) → tellsBad (Comeback.Refused q n) ≡ true → ((ys : List ℕ) → linesOf 0 d (bytes ++ ys) ≡ refused q n) →
+          t .session ≡ refused q n .day .session → Told here buys′ sells′ (backTo (Comeback.Refused q (before + n)) (t .session))
+      bad-line q n b f e =
+          told-bad b refl
+          (λ more.
+          subst (λ (x : Rebuilt). BackBy x buys′ sells′ (backTo (Comeback.Refused q (before + n)) (t .session)))
+          (sym (by-piece more ∙ ap (λ (x : Rebuilt). unmoved (laterBy before x)) (f more)))
+          (record { answer = refl; session = e; day = λ m h. counts-or h refl }))
+
+      -- the place lies within the piece, so its bytes are too many
+      too-far : (n : ℕ) → placeOf (t .answer) ≡ n → n ≤ length bytes → 2 ^ 64 ≤ before + placeOf (t .answer) → Told here buys′ sells′ unreadBack
+      too-far n p h l = let m = length-append bytes [] in told-long (omega arith) refl
 
       passed-by : (x : Rebuilt) → Passes 0 false d bytes x → ReplayedAs x buys′ sells′ t → StoodAs t before r → PassedAs before s bytes buys sells buys′ sells′ r
-      passed-by x p k (over l e) = ended e (record { comes = not-read refl })
+      passed-by x (short u) k (over l e) = absurd (told .no line (record { start = u }))
+      passed-by x (goes used d′ w h u f) k (over l e) = ended e (too-far (0 + used) (ap placeOf (k .answer)) (omega arith) l)
+      passed-by x (bad q n b h f) k (over l e) = ended e (too-far n (ap placeOf (k .answer)) (omega arith) l)
       passed-by x (short u) k (counts n h e) = absurd (told .no line (record { start = u }))
       passed-by x (short u) k (refuses q n h e) = absurd (told .no line (record { start = u }))
       passed-by x (goes used d′ w l u f) k (counts n h e) =
           let same : n ≡ used = counts-are h (k .answer) in
-          took used (t .session) l (record { start = u }) (goes-on used d′ (day-back _ d′ buys′ sells′ t w k) f)
+          took used (t .session) l (record { start = u }) (goes-on used d′ l (day-back _ d′ buys′ sells′ t w k) f)
           (e ∙ ap (λ (m : ℕ). passedTo m (before + m) (t .session)) same)
       passed-by x (goes used d′ w l u f) k (refuses q n h e) = counts-or (k .answer) h
-      passed-by x (bad q n f) k (counts m h e) = counts-or h (k .answer)
-      passed-by x (bad q n f) k (refuses p m h e) =
-          ended (e ∙ ap (λ (a : Comeback). passedEnd (backTo a (t .session))) (same-place h (k .answer))) (bad-line q n f (k .session))
+      passed-by x (bad q n b w f) k (counts m h e) = counts-or h (k .answer)
+      passed-by x (bad q n b w f) k (refuses p m h e) =
+          ended (e ∙ ap (λ (a : Comeback). passedEnd (backTo a (t .session))) (same-place h (k .answer))) (bad-line q n b f (k .session))
         where
           same-place : {p q : Refusal} {m n : ℕ} {a : Comeback} → a ≡ Comeback.Refused p m → a ≡ Comeback.Refused q n → Comeback.Refused p (before + m) ≡ Comeback.Refused q (before + n)
           same-place h j = cc
@@ -219,4 +253,4 @@ module _ (before : ℕ) (s : Session) (bytes buys sells : List ℕ) where
   piece-starts {r} started told t e =
       let z : before + 0 ≡ before = add-zero before in
       subst (λ (n : ℕ). r ≡ passedTo 0 n s → PassedAs before s bytes buys sells buys sells r) z
-      (took buys sells 0 s (omega arith) (told .yes t) (subst (λ (n : ℕ). Onward here (standing n s buys sells bytes)) (sym z) (onward-none here))) e
+      (took buys sells 0 s (omega arith) (told .yes t) (subst (λ (n : ℕ). Onward [] here (standing n s buys sells bytes)) (sym z) (onward-none here))) e

@@ -1,10 +1,13 @@
 -- A file that is read in pieces of any length: what is still to come back, and what came back at its end.
-use Prim.Native.Nat.{ℕ, _+_, _^_, _≤_}
+use Prim.Native.Nat.{ℕ, _+_, _-_, _^_, _≤_}
 use mathlib.Core.Path.{_≡_}
-use mathlib.Core.Bool.{Bool, true, false}
-use mathlib.Core.List.{List, _++_}
+use mathlib.Core.Bool.{Bool, true, false, not}
+use mathlib.Core.List.{List, [], _++_}
 use lib.ListN.{length, take, drop}
+use lib.Dec.{eqb}
 use Rattle.terms.specs.declared.Refusal.{Refusal}
+use Rattle.terms.specs.declared.Refusal.the-variants.{LineUnfinished}
+use Rattle.terms.specs.Refusals.{numberOf}
 use Rattle.lines_text_law.specs.Grammar.{unfinished}
 use Rattle.lines_reading_law.specs.Answers.{readEvent}
 use Rattle.state_law.specs.declared.Session.{Session}
@@ -26,18 +29,31 @@ pub record BackBy (x : Rebuilt) (buys′ sells′ : List ℕ) (r : Back) : Type 
   pub session : r .session ≡ x .day .session
   pub day : (n : ℕ) → x .answer ≡ Comeback.Counts n → dayIn (r .session) buys′ sells′ ≡ x .day
 
--- not all could be read; or there are bytes (the proof takes those that were read) and what came back is theirs
-pub data BackOf (comes : List ℕ → Rebuilt) (buys′ sells′ : List ℕ) (r : Back) : Type 0 where
-  not-read : r .read ≡ false → BackOf comes buys′ sells′ r
-  all-read : (bytes : List ℕ) → r .read ≡ true → BackBy (comes bytes) buys′ sells′ r → BackOf comes buys′ sells′ r
+-- a bad line is told, whatever stands behind it; of an unfinished one the rest may follow
+abbrev pub tellsBad : Comeback → Bool
+tellsBad (Comeback.Counts n) = false
+tellsBad (Comeback.Refused q n) = not (eqb (numberOf q) (numberOf LineUnfinished))
+
+-- so many bytes may not all be read: the machine's numbers end there, and the turns of reading
+abbrev pub tooMany : ℕ
+tooMany = 2 ^ 64 - 1
+
+-- BY WHAT THE READS GIVE, these bytes and then the end (where true) or a read that fails: a read failed; or the bytes are too many; or all were
+-- read, and what came back is theirs; or a bad line was met, and behind it nothing need be read
+pub data BackOf (gives : List ℕ → Bool → Type 0) (size : List ℕ → ℕ) (comes : List ℕ → Rebuilt) (buys′ sells′ : List ℕ) (r : Back) : Type 0 where
+  not-read : (bytes : List ℕ) → gives bytes false → r .read ≡ false → BackOf gives size comes buys′ sells′ r
+  too-long : (bytes : List ℕ) (whole : Bool) → gives bytes whole → tooMany ≤ size bytes → r .read ≡ false → BackOf gives size comes buys′ sells′ r
+  all-read : (bytes : List ℕ) → gives bytes true → r .read ≡ true → BackBy (comes bytes) buys′ sells′ r → BackOf gives size comes buys′ sells′ r
+  bad-met : (bytes : List ℕ) (whole : Bool) → gives bytes whole → tellsBad (r .answer) ≡ true → r .read ≡ true → BackBy (comes bytes) buys′ sells′ r →
+      BackOf gives size comes buys′ sells′ r
 
 -- THE CONTRACT of `come_back`
-pub record BackAs (buys′ sells′ : List ℕ) (r : Back) : Type 0 where
-  pub comes : BackOf resumed buys′ sells′ r
+pub record BackAs (gives : List ℕ → Bool → Type 0) (buys′ sells′ : List ℕ) (r : Back) : Type 0 where
+  pub comes : BackOf gives length resumed buys′ sells′ r
 
--- the same, for a file that begins with these bytes
-pub record BackBehind (bytes buys′ sells′ : List ℕ) (r : Back) : Type 0 where
-  pub comes : BackOf (λ (more : List ℕ). resumed (bytes ++ more)) buys′ sells′ r
+-- the same, for a file that begins with these bytes; behind them the reads give what follows
+pub record BackBehind (gives : List ℕ → Bool → Type 0) (bytes buys′ sells′ : List ℕ) (r : Back) : Type 0 where
+  pub comes : BackOf gives (λ (more : List ℕ). length (bytes ++ more)) (λ (more : List ℕ). resumed (bytes ++ more)) buys′ sells′ r
 
 -- ---- from piece to piece
 
@@ -62,14 +78,23 @@ unmoved x = record { answer = x .answer; moved = false; day = x .day }
 unfoldable pub toCome : Standing → List ℕ → Rebuilt
 toCome a more = unmoved (linesOf (a .before) (a .day) (a .kept ++ more))
 
--- some bytes were read, and the file went from one standing to another: whatever bytes follow, the same is to come back
-pub record Onward (a b : Standing) : Type 0 where
-  pub got : List ℕ
-  pub same : (more : List ℕ) → toCome a (got ++ more) ≡ toCome b more
+-- how many bytes were read, where these are read behind them
+abbrev pub sizeOn : Standing → List ℕ → ℕ
+sizeOn a more = a .before + length (a .kept ++ more)
 
--- THE CONTRACT of all pieces: not all could be read; or bytes came, and what came back is what was to come with them
-pub record BackFrom (a : Standing) (buys′ sells′ : List ℕ) (r : Back) : Type 0 where
-  pub comes : BackOf (toCome a) buys′ sells′ r
+-- these bytes were read, and the file went from one standing to another: whatever bytes follow, the same is to come back, and none is lost
+pub record Onward (got : List ℕ) (a b : Standing) : Type 0 where
+  pub same : (more : List ℕ) → toCome a (got ++ more) ≡ toCome b more
+  pub count : (more : List ℕ) → sizeOn a (got ++ more) ≡ sizeOn b more
+
+-- THE CONTRACT of all pieces, by what the reads give from there on
+pub record BackFrom (gives : List ℕ → Bool → Type 0) (a : Standing) (buys′ sells′ : List ℕ) (r : Back) : Type 0 where
+  pub comes : BackOf gives (sizeOn a) (toCome a) buys′ sells′ r
+
+-- nothing more is to be read: a bad line was met, whatever follows; or the bytes that were read are too many
+pub data Told (a : Standing) (buys′ sells′ : List ℕ) (r : Back) : Type 0 where
+  told-bad : tellsBad (r .answer) ≡ true → r .read ≡ true → ((more : List ℕ) → BackBy (toCome a more) buys′ sells′ r) → Told a buys′ sells′ r
+  told-long : tooMany ≤ sizeOn a [] → r .read ≡ false → Told a buys′ sells′ r
 
 -- ---- one piece
 
@@ -112,9 +137,9 @@ pub data StoodAs (t : Replayed) (before : ℕ) (r : Passed) : Type 0 where
 -- THE CONTRACT of `take_piece`: all whole lines are taken, and what is left is the start of a line; or all is told
 pub record PassedAs (before : ℕ) (s : Session) (bytes buys sells buys′ sells′ : List ℕ) (r : Passed) : Type 0 where
   pub within : r .used ≤ length bytes
-  pub on : r .more ≡ true → Onward (standing before s buys sells bytes) (standing (r .before) (r .back .session) buys′ sells′ (drop (r .used) bytes))
+  pub on : r .more ≡ true → Onward [] (standing before s buys sells bytes) (standing (r .before) (r .back .session) buys′ sells′ (drop (r .used) bytes))
   pub left : r .more ≡ true → Starts (drop (r .used) bytes)
-  pub off : r .more ≡ false → BackFrom (standing before s buys sells bytes) buys′ sells′ (r .back)
+  pub off : r .more ≡ false → Told (standing before s buys sells bytes) buys′ sells′ (r .back)
 
 -- ---- the buffer
 
@@ -127,17 +152,3 @@ comingEnd back = record { have = 0; before = 0; back = back; more = false }
 -- the standing of a file whose next bytes are at a buffer's front
 abbrev pub standsOn : List ℕ → List ℕ → List ℕ → Coming → Standing
 standsOn buf buys sells h = standing (h .before) (h .back .session) buys sells (take (h .have) buf)
-
--- THE CONTRACT of a piece with the read behind it: there are bytes that came, and they are at the buffer's front; or all is told
-pub record Comes (a : Standing) (buf′ buys′ sells′ : List ℕ) (r : Coming) : Type 0 where
-  pub within : r .have ≤ length buf′
-  pub on : r .more ≡ true → Onward a (standsOn buf′ buys′ sells′ r)
-  pub off : r .more ≡ false → BackFrom a buys′ sells′ (r .back)
-
--- THE CONTRACT of `next_piece`, for a file whose bytes stand at the front of a buffer
-pub record ComesOn (h : Coming) (buf buys sells buf′ buys′ sells′ : List ℕ) (r : Coming) : Type 0 where
-  pub comes : Comes (standsOn buf buys sells h) buf′ buys′ sells′ r
-
--- THE CONTRACT of `read_rest`: the same behind the bytes that are left, whatever the tables hold
-pub record RestAs (before : ℕ) (s : Session) (kept buf′ : List ℕ) (r : Coming) : Type 0 where
-  pub comes : (buys sells : List ℕ) → Comes (standing before s buys sells kept) buf′ buys sells r

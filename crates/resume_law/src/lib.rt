@@ -51,7 +51,7 @@ pub struct Replayed {
 
 // ---- a file that is read in pieces
 
-// What a file brought back: the answer and the session, and whether all could be read.
+// What a file brought back: the answer and the session, and whether it could be read, to its end or to a bad line.
 pub struct Back {
     pub answer: Comeback,
     pub session: Session,

@@ -1,7 +1,7 @@
 // resume_pieces: the lines of a piece of saved bytes, replayed behind those of earlier pieces.
 // It may use lines_reading, resume_lines and state, and what these use. It promises, of any bytes: whatever follows the piece, what is still to
 // come back is what was to come back before it, all whole lines are taken, and places and counts are those of all pieces; or nothing more is
-// to be read, and what came back is known.
+// to be read, since a bad line was met and is told, or since the bytes that were read are too many.
 
 use lines_reading_law::ReadEvent;
 use resume_law::Back;

@@ -1,3 +1,4 @@
 pub mod Rests
 pub mod Onwards
 pub mod Openings
+pub mod Lent

@@ -1,12 +1,11 @@
 -- What is kept at the buffer's front, and what was read behind it.
-use Prim.Native.Nat.{ℕ, _+_, _-_, _≤_, _<_}
+use Prim.Native.Nat.{ℕ, zero, suc, _+_, _-_, _≤_, _<_}
 use native.Mathlib.Omega.{arith}
 use mathlib.Core.Path.{_≡_, refl, sym, ap, _∙_, subst}
 use mathlib.Core.Bool.{Bool, true, false, true≢false, false≢true}
 use mathlib.Core.List.{List, _++_}
 use lib.ListN.{length, take, drop, length-drop}
 use lib.Seq.{length-take-le, take-add}
-use lib.Dec.{eqb}
 use borrow.Author.Tests.{eq-eqb, ne-eqb}
 use mir.Syntax.{w64}
 use mir.Val.{Fits}
@@ -19,13 +18,16 @@ use Rattle.soundness_law.specs.Sound.{dayIn}
 use Rattle.resume_law.specs.declared.Comeback.{Comeback}
 use Rattle.resume_law.specs.declared.Back.{Back}
 use Rattle.resume_law.specs.declared.Coming.{Coming}
-use Rattle.resume_law.specs.Pieces.{BackAs, BackBehind, standing, Onward, BackFrom, backTo, unreadBack, Starts, comingTo, comingEnd, RestAs}
-use Rattle.resume_law.specs.Pieces.BackOf.{not-read}
-use Rattle.resume_law.proofs.Standings.{onward-read, start-short, start-ends}
+use Rattle.resume_law.specs.Pieces.{BackAs, BackBehind, standing, Onward, BackFrom, backTo, unreadBack, Starts, comingTo, comingEnd}
+use Rattle.resume_law.proofs.Standings.{onward-read, start-short, start-ends, unread-from}
 use Rattle.resume_law.proofs.Fronts.{unread-as, behind-as}
+use Rattle.stream_law.specs.declared.Source.{Source}
+use Rattle.stream_law.specs.Sources.{Gives, Leads}
 use Rattle.stream_law.specs.Streams.{ToFront}
-use Rattle.stream.specs.Front.{EndsWithin, ReadBehind}
-use Rattle.stream_back.specs.Filled.{stoppedAt, comingAfter, FilledAs}
+use Rattle.stream_law.proofs.Sources.{leads-end}
+use Rattle.stream_source.specs.declared.Read.{Read}
+use Rattle.stream_source.specs.Reads.{cameOf, StandsBy, EndsWithin, ReadBehind, FilledAs}
+use Rattle.stream_back.specs.Filled.{stoppedAt, comingAfter, pieceTo, RestAs, Ended, EndedBy, StartsAs}
 
 -- what is left of a piece is the start of a line, so the buffer has room behind it
 pub left-room : (used have : ℕ) (buf buf₁ : List ℕ) → have ≤ length buf → Starts (drop used (take have buf)) → lineRoom < length buf →
@@ -37,14 +39,19 @@ left-room used have buf buf₁ h start room e =
 
 -- ---- what a read comes to
 
-module _ (before : ℕ) (s : Session) (kept : List ℕ) (left : ℕ) (buf : List ℕ) (front : take left buf ≡ kept) (start : Starts kept) (size : left ≤ length buf) where
+module _ (given : List ℕ) (from from′ : Source) (before : ℕ) (s : Session) (kept : List ℕ) (left : ℕ) (buf : List ℕ) (front : take left buf ≡ kept)
+    (start : Starts kept) (size : left ≤ length buf) where
+  abbrev Rest : Coming → Type 0
+  Rest h = RestAs given from before s kept buf (pieceTo h from′)
+
   -- nothing more is to be read
-  ends-as : {b : Back} → ((buys sells : List ℕ) → BackFrom (standing before s buys sells kept) buys sells b) → RestAs before s kept buf (comingEnd b)
+  ends-as : {b : Back} → ((buys sells : List ℕ) → BackFrom (Gives given from) (standing before s buys sells kept) buys sells b) → Rest (comingEnd b)
   ends-as k = record { comes = λ buys sells. record { within = omega arith; on = λ m. absurd (false≢true m); off = λ m. k buys sells } }
 
   -- n bytes came
-  goes-as : (n : ℕ) → n ≤ length buf - left → RestAs before s kept buf (comingTo (left + n) before s)
-  goes-as n h =
+  goes-as : (n : ℕ) → (n ≡ 0 → ⊥) → n ≤ length buf - left → Leads given from (take n (drop left buf)) from′ → Rest (comingTo (left + n) before s)
+  goes-as n z h p =
+      let l = length-take-le n (drop left buf) (let d = length-drop left buf in omega arith) in
       let all : kept ++ take n (drop left buf) ≡ take (left + n) buf = ap (λ (x : List ℕ). x ++ take n (drop left buf)) (sym front) ∙ sym (take-add left n buf) in
       record {
         comes =
@@ -53,28 +60,38 @@ module _ (before : ℕ) (s : Session) (kept : List ℕ) (left : ℕ) (buf : List
               within = omega arith;
               on =
                   λ m.
-                  subst (λ (x : List ℕ). Onward (standing before s buys sells kept) (standing before s buys sells x)) all
-                  (onward-read before (dayIn s buys sells) kept (take n (drop left buf)));
+                  record {
+                    got = take n (drop left buf);
+                    some = omega arith;
+                    leads = p;
+                    onward =
+                        subst (λ (x : List ℕ). Onward (take n (drop left buf)) (standing before s buys sells kept) (standing before s buys sells x)) all
+                        (onward-read before (dayIn s buys sells) kept (take n (drop left buf)));
+                  };
               off = λ m. absurd (true≢false m);
             };
       }
 
-  by-count : (n : ℕ) (none : Bool) → eqb n 0 ≡ none → n ≤ length buf - left → RestAs before s kept buf (comingAfter (Got.Bytes n) left before s)
-  by-count n true e h = rw e (ends-as (λ buys sells. start-ends before s buys sells start refl))
-  by-count n false e h = rw e (goes-as n h)
-
-  by-got : (g : Got) → GotWithin (length buf - left) g → RestAs before s kept buf (comingAfter g left before s)
-  by-got (Got.Bytes n) h = by-count n (eqb n 0) refl h
-  by-got Got.Failed h = ends-as (λ buys sells. record { comes = not-read refl })
+  by-got : (g : Got) → GotWithin (length buf - left) g → Leads given from (take (cameOf g) (drop left buf)) from′ → StandsBy given from′ g →
+      Rest (comingAfter g left before s)
+  by-got (Got.Bytes zero) h p t = ends-as (λ buys sells. start-ends before s buys sells start (leads-end true p t) refl)
+  by-got (Got.Bytes (suc n)) h p t =
+      let z : suc n ≡ 0 → ⊥ = λ z. omega (arith, z) in
+      rw (ne-eqb (suc n) 0 z) (goes-as (suc n) z h p)
+  by-got Got.Failed h p t = ends-as (λ buys sells. unread-from _ buys sells (leads-end false p t) refl)
 
 -- what is left is moved to the front, and a read is made behind it
-pub rest-read : {before : ℕ} {s : Session} {used have : ℕ} {buf buf₁ buf₂ : List ℕ} {g : Got} {r : Coming} → Starts (drop used (take have buf)) →
-    have ≤ length buf → length buf₁ ≡ length buf → ToFront buf used have buf₁ → ReadBehind (have - used) buf₁ buf₂ g → r ≡ comingAfter g (have - used) before s →
-    RestAs before s (drop used (take have buf)) buf₂ r
-rest-read {before} {s} {used} {have} {buf} {buf₁} {buf₂} {g} {r} start h l moved b e =
-    subst (RestAs before s (drop used (take have buf)) buf₂) (sym e)
-    (by-got before s (drop used (take have buf)) (have - used) buf₂ (b .kept .front ∙ moved .front) start (omega (arith, b .kept .same)) g
-    (subst (λ (n : ℕ). GotWithin (n - (have - used)) g) (sym (b .kept .same)) (b .got)))
+pub rest-read : {given : List ℕ} {from : Source} {before : ℕ} {s : Session} {used have : ℕ} {buf buf₁ buf₂ : List ℕ} {read : Read} {h : Coming} →
+    Starts (drop used (take have buf)) → have ≤ length buf → length buf₁ ≡ length buf → ToFront buf used have buf₁ →
+    ReadBehind given from (have - used) buf₁ buf₂ read → h ≡ comingAfter (read .got) (have - used) before s →
+    RestAs given from before s (drop used (take have buf)) buf₂ (pieceTo h (read .from))
+rest-read {given} {from} {before} {s} {used} {have} {buf} {buf₁} {buf₂} {read} {h} start w l moved b e =
+    subst (λ (x : Coming). RestAs given from before s (drop used (take have buf)) buf₂ (pieceTo x (read .from))) (sym e)
+    (by-got given from (read .from) before s (drop used (take have buf)) (have - used) buf₂ (b .kept .front ∙ moved .front) start (omega (arith, b .kept .same))
+    (read .got) (subst (λ (n : ℕ). GotWithin (n - (have - used)) (read .got)) (sym (b .kept .same)) (b .got)) (b .leads) (b .stands))
+
+pub rest-within : {given : List ℕ} {from : Source} {left : ℕ} {buf buf′ : List ℕ} {read : Read} → ReadBehind given from left buf buf′ read → EndsWithin left (read .got)
+rest-within b = b .within
 
 -- ---- the arms of `after_read`
 
@@ -103,27 +120,34 @@ module _ (n before : ℕ) (s : Session) (b : Back) (e : b ≡ backTo (Comeback.C
 
 -- ---- the first bytes of the file
 
-pub filled-within : (buf buf₀ : List ℕ) (g : Got) → GotWithin (length buf₀) g → length buf ≡ length buf₀ → GotWithin (length buf) g
-filled-within buf buf₀ g k e = subst (λ (n : ℕ). GotWithin n g) (sym e) k
+module _ {given : List ℕ} {from : Source} {buf : List ℕ} {read : Read} (k : FilledAs given from buf read) where
+  pub filled-within : GotWithin (length buf) (read .got)
+  filled-within = k .within
 
-module _ {g : Got} {buf buys′ sells′ : List ℕ} {r : Back} where
-  pub filled-none : g ≡ Got.Failed → r ≡ unreadBack → FilledAs g buf buys′ sells′ r
+  pub filled-ended : EndedBy given (read .from) (read .got) (length buf)
+  filled-ended = record { some = λ end e. record { ended = λ l. k .all end e l } }
+
+  -- in either case it is known what came back
+  pub filled-as : {buys′ sells′ : List ℕ} {r : Back} → StartsAs (Gives given (read .from)) (read .got) buf buys′ sells′ r → BackAs (Gives given from) buys′ sells′ r
+  filled-as {buys′} {sells′} {r} q = go (read .got) refl
+    where
+      go : (x : Got) → read .got ≡ x → BackAs (Gives given from) buys′ sells′ r
+      go (Got.Bytes n) e = behind-as (take n buf) (k .leads n e .behind) (q .some n e)
+      go Got.Failed e = let f = k .failed e in unread-as (f .bytes) buys′ sells′ (f .gives) (q .failed e)
+
+pub ended-at : {given : List ℕ} {from : Source} {g : Got} {end room : ℕ} → EndedBy given from g room → g ≡ Got.Bytes end → Ended given from end room
+ended-at k e = k .some _ e
+
+module _ {gives : List ℕ → Bool → Type 0} {g : Got} {buf buys′ sells′ : List ℕ} {r : Back} where
+  pub filled-none : g ≡ Got.Failed → r ≡ unreadBack → StartsAs gives g buf buys′ sells′ r
   filled-none e q = record { failed = λ _. q; some = λ end h. absurd (let z : _≡_ {A = ℕ} 0 1 = cc in omega arith) }
 
-  pub filled-some : (end : ℕ) → g ≡ Got.Bytes end → BackBehind (take end buf) buys′ sells′ r → FilledAs g buf buys′ sells′ r
+  pub filled-some : (end : ℕ) → g ≡ Got.Bytes end → BackBehind gives (take end buf) buys′ sells′ r → StartsAs gives g buf buys′ sells′ r
   filled-some end e k =
       record {
         failed = λ h. absurd (let z : _≡_ {A = ℕ} 0 1 = cc in omega arith);
-        some = λ n h. subst (λ (x : ℕ). BackBehind (take x buf) buys′ sells′ r) (same h) k;
+        some = λ n h. subst (λ (x : ℕ). BackBehind gives (take x buf) buys′ sells′ r) (same h) k;
       }
     where
       same : {n : ℕ} → g ≡ Got.Bytes n → end ≡ n
       same h = cc
-
-  -- in either case it is known what came back
-  pub filled-as : FilledAs g buf buys′ sells′ r → BackAs buys′ sells′ r
-  filled-as k = go g refl
-    where
-      go : (x : Got) → g ≡ x → BackAs buys′ sells′ r
-      go (Got.Bytes n) e = behind-as (take n buf) (k .some n e)
-      go Got.Failed e = unread-as buys′ sells′ (k .failed e)

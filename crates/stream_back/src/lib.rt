@@ -1,17 +1,18 @@
 // stream_back: the day of a file that is open, brought back in pieces of any length: the file may be longer than the buffer.
-// It may use io, descriptors, lines_reading, resume_pieces, state, stream and stream_feed, and what these use. It promises that it is safe and
-// ends; that the buffer always has room, so that a read of no bytes is the end of the file; and that there are bytes (the proof takes those
-// that were read) and what comes back, the answer, the session and the live orders, is theirs by resume_law; or it answers that not all could
-// be read.
+// It may use io, descriptors, lines_reading, resume_pieces, state, stream_feed and stream_source, and what these use. It promises that it is safe
+// and ends; that the buffer always has room, so that a read of no bytes is the end; and, by what its reads give: where one fails it
+// answers that not all could be read; where they come to the end, that what comes back, the answer, the session and the live orders, is that of
+// all bytes by resume_law; and where a bad line is met first, that this is told. Of a text that is lent it is known what the reads give;
+// of a descriptor the proof takes what was read.
 
 use descriptors::Got;
-use descriptors::reading;
 use lines_reading_law::ReadSettings;
 use resume_law::Back;
 use resume_law::Comeback;
 use resume_law::Coming;
 use state::opening;
 use state_law::Session;
+use stream_law::Source;
 use terms::Refusal;
 use terms::Settings;
 use terms::Verdict;
@@ -23,9 +24,16 @@ ghost use Rattle.state_law.specs.Opening.{fixedSession};
 ghost use Rattle.engine_law.specs.Calls.{LongEnough};
 ghost use Rattle.descriptors.specs.Counted.{GotWithin};
 ghost use Rattle.resume_law.specs.declared.Comeback.{Comeback};
-ghost use Rattle.resume_law.specs.Pieces.{BackAs, BackBehind, standing, BackFrom, backTo, Starts, comingTo, comingEnd, standsOn, ComesOn, RestAs};
-ghost use Rattle.stream.specs.Front.{EndsWithin};
-ghost use Rattle.stream_back.specs.Filled.{stoppedAt, comingAfter, OpensAs, FilledAs};
+ghost use Rattle.resume_law.specs.Pieces.{BackAs, BackBehind, standing, BackFrom, backTo, Starts, comingTo, comingEnd, standsOn};
+ghost use Rattle.stream_law.specs.Sources.{Gives};
+ghost use Rattle.stream_source.specs.Reads.{EndsWithin};
+ghost use Rattle.stream_back.specs.Filled.{stoppedAt, comingAfter, ComesOn, RestAs, OpensAs, Ended, EndedBy, StartsAs};
+
+// What is kept from piece to piece, and where the source stands then.
+pub struct Piece {
+    pub coming: Coming,
+    pub from: Source,
+}
 
 // Nothing comes back.
 fn refused(refusal: Refusal, place: usize) -> Back
@@ -88,37 +96,44 @@ fn after_read(got: Got, left: usize, before: usize, session: Session) -> Coming
 
 // Keeps the bytes that were not taken at the buffer's front, and reads once behind them.
 fn read_rest(
-    fd: i32,
+    from: Source,
+    given: &[u8],
     used: usize,
     have: usize,
     before: usize,
     session: Session,
     buf: &mut [u8],
-) -> Coming
+) -> Piece
     requires { ⌜ (used ≤ have) × (have ≤ length (now buf)) × (lineRoom < length (now buf)) ⌝ }
     requires { ⌜ Starts (drop used (take have (now buf))) ⌝ }
-    ensures { λ r. ⌜ RestAs before session (drop used (take have (now (buf .entry)))) (now (buf .exit)) r ⌝ }
+    ensures { λ r. ⌜ RestAs (now (given .entry)) from before session (drop used (take have (now (buf .entry)))) (now (buf .exit)) r ⌝ }
 {
     stream_feed::to_front(buf, used, have);
     let left = have - used;
-    let got = stream::read_behind(fd, left, buf);
-    after_read(got, left, before, session)
+    let read = stream_source::read_behind(from, given, left, buf);
+    let got = read.got;
+    let next = read.from;
+    Piece {
+        coming: after_read(got, left, before, session),
+        from: next,
+    }
 }
 
 // ---- all pieces
 
 // Replays the bytes at the buffer's front, and reads the next ones behind what is left of them.
 fn next_piece(
-    fd: i32,
+    from: Source,
+    given: &[u8],
     h: Coming,
     buf: &mut [u8],
     buys: &mut [u64],
     sells: &mut [u64],
     room: &mut [u64],
-) -> Coming
+) -> Piece
     requires { ⌜ LongEnough (now buys) (now sells) (now room) ⌝ }
     requires { ⌜ (h .have ≤ length (now buf)) × (lineRoom < length (now buf)) ⌝ }
-    ensures { λ r. ⌜ ComesOn h (now (buf .entry)) (now (buys .entry)) (now (sells .entry)) (now (buf .exit)) (now (buys .exit)) (now (sells .exit)) r ⌝ }
+    ensures { λ r. ⌜ ComesOn (now (given .entry)) from h (now (buf .entry)) (now (buys .entry)) (now (sells .entry)) (now (buf .exit)) (now (buys .exit)) (now (sells .exit)) r ⌝ }
 {
     let have = h.have;
     let before = h.before;
@@ -130,15 +145,19 @@ fn next_piece(
     let came = p.back;
     let more = p.more;
     if !more {
-        return coming_end(came);
+        return Piece {
+            coming: coming_end(came),
+            from: from,
+        };
     }
     let now = came.session;
-    read_rest(fd, used, have, taken, now, buf)
+    read_rest(from, given, used, have, taken, now, buf)
 }
 
 // Takes piece after piece, each behind the unfinished line of the last.
 fn take_pieces(
-    fd: i32,
+    from: Source,
+    given: &[u8],
     first: Coming,
     buf: &mut [u8],
     buys: &mut [u64],
@@ -147,12 +166,15 @@ fn take_pieces(
 ) -> Back
     requires { ⌜ LongEnough (now buys) (now sells) (now room) ⌝ }
     requires { ⌜ (first .have ≤ length (now buf)) × (lineRoom < length (now buf)) ⌝ }
-    ensures { λ r. ⌜ BackFrom (standsOn (now (buf .entry)) (now (buys .entry)) (now (sells .entry)) first) (now (buys .exit)) (now (sells .exit)) r ⌝ }
+    ensures { λ r. ⌜ BackFrom (Gives (now (given .entry)) from) (standsOn (now (buf .entry)) (now (buys .entry)) (now (sells .entry)) first) (now (buys .exit)) (now (sells .exit)) r ⌝ }
 {
+    let mut source = from;
     let mut h = first;
     let mut turns = u64::MAX;
     while turns > 0 {
-        h = next_piece(fd, h, buf, buys, sells, room);
+        let piece = next_piece(source, given, h, buf, buys, sells, room);
+        source = piece.from;
+        h = piece.coming;
         let more = h.more;
         if !more {
             return h.back;
@@ -166,7 +188,8 @@ fn take_pieces(
 
 // Goes on with the events behind a settings line that ends at `first`.
 fn from_opening(
-    fd: i32,
+    from: Source,
+    given: &[u8],
     session: Session,
     first: usize,
     end: usize,
@@ -177,17 +200,18 @@ fn from_opening(
 ) -> Back
     requires { ⌜ LongEnough (now buys) (now sells) (now room) ⌝ }
     requires { ⌜ (first ≤ end) × (end ≤ length (now buf)) × (lineRoom < length (now buf)) ⌝ }
-    ensures { λ r. ⌜ BackFrom (standing first session (now (buys .entry)) (now (sells .entry)) (drop first (take end (now (buf .entry))))) (now (buys .exit)) (now (sells .exit)) r ⌝ }
+    ensures { λ r. ⌜ BackFrom (Gives (now (given .entry)) from) (standing first session (now (buys .entry)) (now (sells .entry)) (drop first (take end (now (buf .entry))))) (now (buys .exit)) (now (sells .exit)) r ⌝ }
 {
     stream_feed::to_front(buf, first, end);
     let have = end - first;
     let h = coming_to(have, first, session);
-    take_pieces(fd, h, buf, buys, sells, room)
+    take_pieces(from, given, h, buf, buys, sells, room)
 }
 
 // The session of a whole settings line goes on with the events behind it, or the settings are refused.
 fn from_settings(
-    fd: i32,
+    from: Source,
+    given: &[u8],
     settings: Settings,
     first: usize,
     end: usize,
@@ -198,20 +222,21 @@ fn from_settings(
 ) -> Back
     requires { ⌜ LongEnough (now buys) (now sells) (now room) ⌝ }
     requires { ⌜ (first ≤ end) × (end ≤ length (now buf)) × (lineRoom < length (now buf)) ⌝ }
-    ensures { λ r. ⌜ OpensAs settings first (take end (now (buf .entry))) (now (buys .exit)) (now (sells .exit)) r ⌝ }
+    ensures { λ r. ⌜ OpensAs (Gives (now (given .entry)) from) settings first (take end (now (buf .entry))) (now (buys .exit)) (now (sells .exit)) r ⌝ }
 {
     let o = opening::begin(settings);
     let verdict = o.verdict;
     let session = o.session;
     match verdict {
-        Verdict::Fine => from_opening(fd, session, first, end, buf, buys, sells, room),
+        Verdict::Fine => from_opening(from, given, session, first, end, buf, buys, sells, room),
         Verdict::Refused(refusal) => refused(Refusal::LineRefused, 0),
     }
 }
 
 // Reads the settings line from the first bytes of the file, of which the buffer holds so many.
 fn from_front(
-    fd: i32,
+    from: Source,
+    given: &[u8],
     end: usize,
     buf: &mut [u8],
     buys: &mut [u64],
@@ -220,11 +245,12 @@ fn from_front(
 ) -> Back
     requires { ⌜ LongEnough (now buys) (now sells) (now room) ⌝ }
     requires { ⌜ (end ≤ length (now buf)) × (lineRoom < length (now buf)) ⌝ }
-    ensures { λ r. ⌜ BackBehind (take end (now (buf .entry))) (now (buys .exit)) (now (sells .exit)) r ⌝ }
+    requires { ⌜ Ended (now given) from end (length (now buf)) ⌝ }
+    ensures { λ r. ⌜ BackBehind (Gives (now (given .entry)) from) (take end (now (buf .entry))) (now (buys .exit)) (now (sells .exit)) r ⌝ }
 {
     match lines_reading::read_settings(&buf[0..end]) {
         ReadSettings::Whole(settings, first) => {
-            from_settings(fd, settings, first, end, buf, buys, sells, room)
+            from_settings(from, given, settings, first, end, buf, buys, sells, room)
         }
         ReadSettings::Unfinished => refused(Refusal::LineUnfinished, 0),
         ReadSettings::Wrong(place) => refused(Refusal::LineWrong, place),
@@ -233,43 +259,53 @@ fn from_front(
 
 // Goes on with the first bytes of the file, more than a settings line can have, where they could be read.
 fn from_filled(
-    fd: i32,
     got: Got,
+    from: Source,
+    given: &[u8],
     buf: &mut [u8],
     buys: &mut [u64],
     sells: &mut [u64],
     room: &mut [u64],
 ) -> Back
     requires { ⌜ LongEnough (now buys) (now sells) (now room) × (lineRoom < length (now buf)) ⌝ }
-    requires { ⌜ GotWithin (length (now buf)) got ⌝ }
-    ensures { λ r. ⌜ FilledAs got (now (buf .entry)) (now (buys .exit)) (now (sells .exit)) r ⌝ }
+    requires { ⌜ GotWithin (length (now buf)) got × EndedBy (now given) from got (length (now buf)) ⌝ }
+    ensures { λ r. ⌜ StartsAs (Gives (now (given .entry)) from) got (now (buf .entry)) (now (buys .exit)) (now (sells .exit)) r ⌝ }
 {
     match got {
         Got::Failed => resume_pieces::unread(),
-        Got::Bytes(end) => from_front(fd, end, buf, buys, sells, room),
+        Got::Bytes(end) => from_front(from, given, end, buf, buys, sells, room),
     }
 }
 
 // Fills the buffer with the first bytes of the file, and goes on from there.
 fn from_start(
-    fd: i32,
+    from: Source,
+    given: &[u8],
     buf: &mut [u8],
     buys: &mut [u64],
     sells: &mut [u64],
     room: &mut [u64],
 ) -> Back
     requires { ⌜ LongEnough (now buys) (now sells) (now room) × (lineRoom < length (now buf)) ⌝ }
-    ensures { λ r. ⌜ BackAs (now (buys .exit)) (now (sells .exit)) r ⌝ }
+    ensures { λ r. ⌜ BackAs (Gives (now (given .entry)) from) (now (buys .exit)) (now (sells .exit)) r ⌝ }
 {
-    let got = reading::fill(fd, buf);
-    from_filled(fd, got, buf, buys, sells, room)
+    let read = stream_source::fill(from, given, buf);
+    let got = read.got;
+    let next = read.from;
+    from_filled(got, next, given, buf, buys, sells, room)
 }
 
 // Brings back the day of a file that is open, from its first byte on.
-pub fn come_back(fd: i32, buys: &mut [u64], sells: &mut [u64], room: &mut [u64]) -> Back
+pub fn come_back(
+    from: Source,
+    given: &[u8],
+    buys: &mut [u64],
+    sells: &mut [u64],
+    room: &mut [u64],
+) -> Back
     requires { ⌜ LongEnough (now buys) (now sells) (now room) ⌝ }
-    ensures { λ r. ⌜ BackAs (now (buys .exit)) (now (sells .exit)) r ⌝ }
+    ensures { λ r. ⌜ BackAs (Gives (now (given .entry)) from) (now (buys .exit)) (now (sells .exit)) r ⌝ }
 {
     let mut buf = io::large_buffer();
-    from_start(fd, &mut buf, buys, sells, room)
+    from_start(from, given, &mut buf, buys, sells, room)
 }

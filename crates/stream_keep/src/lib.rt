@@ -1,10 +1,11 @@
-// stream_keep: a day that is kept in a file. The file's lines bring the day back; then lines are read from a descriptor, and each that the
-// engine accepts is appended to the file, and has reached the disk, before its reports are printed.
-// It may use libc, os, feed, feed_prints, stream, stream_back and stream_sink, and what these use. It promises that it is safe and ends; that
-// the day is kept just where the file could be opened, to be read and to be appended to; and then that the file could not be read, or that there
-// are bytes, of the file and of the input (the proof takes those that were read), for which this holds: the day that goes on is what the file's
-// bytes come back as, the file is cut to those that count, and then the sink is handed what stream_law says, in its order, until something fails.
-// A comparison sees all of that; live the same code runs, down to the calls of the C library (see stream_sink).
+// stream_keep: a day that is kept in a file. The file's lines bring the day back; then lines are read from the input, and each that the engine
+// accepts is appended to the file, and has reached the disk, before its reports are printed.
+// It may use libc, os, feed, feed_prints, stream, stream_back and stream_sink, and what these use. It promises that it is safe and ends, and, of a
+// file and an input that are lent as texts: a comparison answers "same" just where the expected log is that of the two (`keptLog`: the day that
+// goes on is what the file's bytes come back as, the file is cut to those that count, and then comes what stream_law says, in its order); and where
+// a read of the file fails, nothing is cut, saved or shown, unless a bad line is told. Of a file that a path names: the day is kept just where it
+// could be opened, to be read and to be appended to, and then the same code runs, down to the calls of the C library (see stream_source and
+// stream_sink), for some bytes or other.
 
 use feed_law::Run;
 use feed_law::Stage;
@@ -16,6 +17,7 @@ use stream_law::Finish;
 use stream_law::Kept;
 use stream_law::Mode;
 use stream_law::Sink;
+use stream_law::Source;
 use tables::lengths;
 use terms::Refusal;
 use terms::numbers;
@@ -27,8 +29,9 @@ ghost use lib.ListN.{length};
 ghost use Rattle.terms.specs.Sizes.{lineRoom};
 ghost use Rattle.engine_law.specs.Calls.{LongTables, LongEnough};
 ghost use Rattle.stream_law.specs.declared.Sink.{Sink};
+ghost use Rattle.stream_law.specs.Sources.{Gives};
 ghost use Rattle.stream_law.specs.Streams.{holding};
-ghost use Rattle.stream_law.specs.Keeping.{OnAs, tradingRun, isUnbegun, RefusedAs, BadLaid, BadTold, BegunAs, KeptAs, areOpen, OpenedAs, OpensAs};
+ghost use Rattle.stream_law.specs.Keeping.{OnAs, tradingRun, isUnbegun, RefusedAs, BadLaid, BadTold, BegunAs, KeptAs, areOpen, Any, OpenedAs, OpensAs, LogCompared, BrokenCompared};
 
 // ---- a day goes on
 
@@ -42,9 +45,10 @@ fn trading(session: Session) -> Run
     }
 }
 
-// Cuts the file to the bytes that count, and goes on from there with the lines of a descriptor.
+// Cuts the file to the bytes that count, and goes on from there with the lines of the input.
 fn go_on(
-    input: i32,
+    input: Source,
+    given: &[u8],
     file: i32,
     to: Sink,
     expected: &[u8],
@@ -54,13 +58,22 @@ fn go_on(
     sells: &mut [u64],
 ) -> Finish
     requires { ⌜ LongTables (now buys) (now sells) ⌝ }
-    ensures { λ r. ⌜ OnAs (now (expected .entry)) to count (holding run (now (buys .entry)) (now (sells .entry)) []) r ⌝ }
+    ensures { λ r. ⌜ OnAs (now (expected .entry)) (Gives (now (given .entry)) input) to count (holding run (now (buys .entry)) (now (sells .entry)) []) r ⌝ }
 {
     let cut = stream_sink::files::cut(to, expected, file, count);
     if !stream_sink::is_open(cut) {
         return stream_sink::finish(cut, expected);
     }
-    stream::go_on(input, Mode::Keeping(file), cut, expected, run, buys, sells)
+    stream::go_on(
+        input,
+        given,
+        Mode::Keeping(file),
+        cut,
+        expected,
+        run,
+        buys,
+        sells,
+    )
 }
 
 // ---- nothing came back
@@ -100,7 +113,8 @@ fn is_unbegun(refusal: Refusal) -> bool
 
 // Where no day has begun the file is emptied, and the settings come from the input; another bad line is told, and nothing is read.
 fn not_back(
-    input: i32,
+    input: Source,
+    given: &[u8],
     file: i32,
     to: Sink,
     expected: &[u8],
@@ -110,11 +124,11 @@ fn not_back(
     sells: &mut [u64],
 ) -> Finish
     requires { ⌜ LongTables (now buys) (now sells) ⌝ }
-    ensures { λ r. ⌜ RefusedAs (now (expected .entry)) to refusal place r ⌝ }
+    ensures { λ r. ⌜ RefusedAs (now (expected .entry)) (Gives (now (given .entry)) input) to refusal place r ⌝ }
 {
     if is_unbegun(refusal) {
         let fresh = feed::start();
-        return go_on(input, file, to, expected, 0, fresh, buys, sells);
+        return go_on(input, given, file, to, expected, 0, fresh, buys, sells);
     }
     tell_bad(to, expected, refusal, place)
 }
@@ -123,7 +137,8 @@ fn not_back(
 
 // By what the file brought back: the day goes on, or nothing came back.
 fn begin(
-    input: i32,
+    input: Source,
+    given: &[u8],
     file: i32,
     to: Sink,
     expected: &[u8],
@@ -132,25 +147,37 @@ fn begin(
     sells: &mut [u64],
 ) -> Finish
     requires { ⌜ LongTables (now buys) (now sells) ⌝ }
-    ensures { λ r. ⌜ BegunAs (now (expected .entry)) to back (now (buys .entry)) (now (sells .entry)) r ⌝ }
+    ensures { λ r. ⌜ BegunAs (now (expected .entry)) (Gives (now (given .entry)) input) to back (now (buys .entry)) (now (sells .entry)) r ⌝ }
 {
     let answer = back.answer;
     let session = back.session;
     match answer {
         Comeback::Counts(count) => {
             let run = trading(session);
-            go_on(input, file, to, expected, count, run, buys, sells)
+            go_on(input, given, file, to, expected, count, run, buys, sells)
         }
         Comeback::Refused(refusal, place) => {
-            not_back(input, file, to, expected, refusal, place, buys, sells)
+            not_back(
+                input,
+                given,
+                file,
+                to,
+                expected,
+                refusal,
+                place,
+                buys,
+                sells,
+            )
         }
     }
 }
 
 // Brings back the day of a file that is open, and goes on, with the tables and the room that are lent.
 fn keep_from(
-    input: i32,
-    saved: i32,
+    saved: Source,
+    kept: &[u8],
+    input: Source,
+    given: &[u8],
     file: i32,
     to: Sink,
     expected: &[u8],
@@ -159,27 +186,37 @@ fn keep_from(
     room: &mut [u64],
 ) -> Kept
     requires { ⌜ LongEnough (now buys) (now sells) (now room) ⌝ }
-    ensures { λ r. ⌜ KeptAs (now (expected .entry)) to r ⌝ }
+    ensures { λ r. ⌜ KeptAs (now (expected .entry)) (Gives (now (kept .entry)) saved) (Gives (now (given .entry)) input) to r ⌝ }
 {
-    let back = stream_back::come_back(saved, buys, sells, room);
+    let back = stream_back::come_back(saved, kept, buys, sells, room);
     let read = back.read;
     if !read {
         return Kept::NotRead;
     }
-    let ran = begin(input, file, to, expected, back, buys, sells);
+    let ran = begin(input, given, file, to, expected, back, buys, sells);
     Kept::Ran(ran)
 }
 
 // The same, with tables and a room of its own.
-fn keep_open(input: i32, saved: i32, file: i32, to: Sink, expected: &[u8]) -> Kept
-    ensures { λ r. ⌜ KeptAs (now (expected .entry)) to r ⌝ }
+fn keep_open(
+    saved: Source,
+    kept: &[u8],
+    input: Source,
+    given: &[u8],
+    file: i32,
+    to: Sink,
+    expected: &[u8],
+) -> Kept
+    ensures { λ r. ⌜ KeptAs (now (expected .entry)) (Gives (now (kept .entry)) saved) (Gives (now (given .entry)) input) to r ⌝ }
 {
     let mut buys = [0u64; lengths::TABLE];
     let mut sells = [0u64; lengths::TABLE];
     let mut room = [0u64; lengths::ROOM];
     keep_from(
-        input,
         saved,
+        kept,
+        input,
+        given,
         file,
         to,
         expected,
@@ -198,12 +235,27 @@ fn are_open(saved: i32, file: i32) -> bool
     (saved >= 0) & (file >= 0)
 }
 
+// Keeps the day of a file that is open; no text is lent, and none is expected.
+fn keep_live(input: i32, saved: i32, file: i32, none: &[u8]) -> Kept
+    ensures { λ r. ⌜ KeptAs (now (none .entry)) Any Any Sink.Print r ⌝ }
+{
+    keep_open(
+        Source::Live(saved),
+        none,
+        Source::Live(input),
+        none,
+        file,
+        Sink::Print,
+        none,
+    )
+}
+
 // Keeps the day of a file that is open to be read and to be appended to, and closes both.
 fn keep_both(input: i32, saved: i32, file: i32) -> Kept
-    ensures { λ r. ⌜ KeptAs [] Sink.Print r ⌝ }
+    ensures { λ r. ⌜ KeptAs [] Any Any Sink.Print r ⌝ }
 {
     let none = [0u8; 1];
-    let kept = keep_open(input, saved, file, Sink::Print, &none[0..0]);
+    let kept = keep_live(input, saved, file, &none[0..0]);
     libc::close(saved);
     libc::close(file);
     kept
@@ -236,9 +288,33 @@ pub fn keep(input: i32, path: &[u8]) -> Kept
     keep_opened(input, saved, file)
 }
 
-// Holds all that keeping a day would hand on, to its file and to the output, against an expected log; nothing is written.
-pub fn compare(input: i32, saved: i32, expected: &[u8]) -> Kept
-    ensures { λ r. ⌜ KeptAs (now (expected .entry)) (Sink.Match 0) r ⌝ }
+// Holds all that keeping a day would hand on, to its file and to the output, against an expected log, for a file and an input that are lent as
+// texts; nothing is written.
+pub fn compare(kept: &[u8], given: &[u8], expected: &[u8]) -> Kept
+    ensures { λ r. ⌜ LogCompared (now (kept .entry)) (now (given .entry)) (now (expected .entry)) r ⌝ }
 {
-    keep_open(input, saved, -1, Sink::Match(0), expected)
+    keep_open(
+        Source::Text(0),
+        kept,
+        Source::Text(0),
+        given,
+        -1,
+        Sink::Match(0),
+        expected,
+    )
+}
+
+// The same, where a read of the file fails behind the text.
+pub fn compare_broken(kept: &[u8], given: &[u8], expected: &[u8]) -> Kept
+    ensures { λ r. ⌜ BrokenCompared (now (kept .entry)) (now (given .entry)) (now (expected .entry)) r ⌝ }
+{
+    keep_open(
+        Source::Broken(0),
+        kept,
+        Source::Text(0),
+        given,
+        -1,
+        Sink::Match(0),
+        expected,
+    )
 }

@@ -1,9 +1,9 @@
 -- A day that is kept: what the log is of, and what each way of the program comes to.
 use Prim.Native.Nat.{ℕ, _-_}
 use mathlib.Core.Path.{_≡_, refl, sym, ap, _∙_, subst}
-use mathlib.Core.Bool.{Bool, true, false, not, false≢true}
+use mathlib.Core.Bool.{Bool, true, false, not, true≢false, false≢true}
 use mathlib.Core.List.{List, [], _∷_, _++_, append-assoc, append-nil}
-use lib.ListN.{take}
+use lib.ListN.{length, take}
 use lib.IntN.{ℤ}
 use borrow.Author.Tests.{not-true, not-false}
 use mir.Syntax.{w32}
@@ -24,17 +24,17 @@ use Rattle.feed_law.proofs.Says.{said-map}
 use Rattle.resume_law.specs.declared.Comeback.{Comeback}
 use Rattle.resume_law.specs.declared.Back.{Back}
 use Rattle.resume_law.specs.Rebuilt.{Rebuilt, resumed}
-use Rattle.resume_law.specs.Pieces.{BackBy, BackAs, BackOf}
-use Rattle.resume_law.specs.Pieces.BackOf.{not-read, all-read}
+use Rattle.resume_law.specs.Pieces.{BackBy, tellsBad, tooMany, BackAs, BackOf}
+use Rattle.resume_law.specs.Pieces.BackOf.{not-read, too-long, all-read, bad-met}
 use Rattle.promises.specs.Printed.{Holding}
 use Rattle.stream_law.specs.declared.Sink.{Sink}
 use Rattle.stream_law.specs.declared.Finish.{Finish}
 use Rattle.stream_law.specs.declared.Kept.{Kept}
 use Rattle.stream_law.specs.Sinks.{SentAs, CutAs, isOpen, finishOf, savedPart, shownPart}
 use Rattle.stream_law.specs.Streams.{logging, holding, ThroughAs}
-use Rattle.stream_law.specs.Keeping.{Part, save, show, handing, savesOf, showsOf, logOf, LogsTell, GoesOnFrom, OnAs, tradingRun, noDay, isUnbegun, RefusedAs, BadLaid, BadTold, KeepsAs, BegunAs, KeptAs, areOpen, OpenedAs, OpensAs}
+use Rattle.stream_law.specs.Keeping.{Part, save, show, handing, savesOf, showsOf, logOf, LogsTell, GoesOnFrom, OnAs, tradingRun, noDay, isUnbegun, RefusedAs, BadLaid, BadTold, KeepsAs, BegunAs, KeptAs, areOpen, Any, OpenedAs, OpensAs}
 use Rattle.stream_law.specs.Keeping.GoesOnFrom.{uncut, on}
-use Rattle.stream_law.specs.Keeping.KeptAs.{ran}
+use Rattle.stream_law.specs.Keeping.KeptAs.{unread, long, ran, told}
 use Rattle.stream_law.proofs.Goes.{room-text}
 
 -- ---- the parts, one after the other
@@ -72,11 +72,11 @@ logs-tell stage d input =
 
 -- ---- a day goes on
 
-module _ {expected : List ℕ} {to cut : Sink} {n : ℕ} {r : Finish} (c : CutAs expected to n cut) where
-  pub on-uncut : (a : Holding) {wide : Bool} → wide ≡ isOpen cut → not wide ≡ true → r ≡ finishOf expected cut → OnAs expected to n a r
+module _ {expected : List ℕ} {gives : List ℕ → Bool → Type 0} {to cut : Sink} {n : ℕ} {r : Finish} (c : CutAs expected to n cut) where
+  pub on-uncut : (a : Holding) {wide : Bool} → wide ≡ isOpen cut → not wide ≡ true → r ≡ finishOf expected cut → OnAs expected gives to n a r
   on-uncut a {wide} e s f = record { goes = uncut cut c (sym e ∙ not-true wide s) f }
 
-  pub on-through : {run : Run} {buys sells : List ℕ} → ThroughAs logging expected (holding run buys sells []) cut r → OnAs expected to n (holding run buys sells []) r
+  pub on-through : {run : Run} {buys sells : List ℕ} → ThroughAs logging expected gives (holding run buys sells []) cut r → OnAs expected gives to n (holding run buys sells []) r
   on-through {run} {buys} {sells} k = record { goes = on cut (holding run buys sells []) c (record { stage = refl; day = refl; none = refl }) k }
 
 -- ---- a bad line is told
@@ -95,42 +95,63 @@ fresh-day : (buys sells : List ℕ) → dayIn fixedSession buys sells ≡ noDay
 unfolding fixedSession decode
 fresh-day buys sells = refl
 
-module _ {expected : List ℕ} {to : Sink} {q : Refusal} {place : ℕ} {r : Finish} {told : Bool} where
-  pub refused-fresh : {run : Run} {buys sells : List ℕ} → told ≡ isUnbegun q → told ≡ true → run ≡ freshRun → OnAs expected to 0 (holding run buys sells []) r →
-      RefusedAs expected to q place r
+module _ {expected : List ℕ} {gives : List ℕ → Bool → Type 0} {to : Sink} {q : Refusal} {place : ℕ} {r : Finish} {told : Bool} where
+  pub refused-fresh : {run : Run} {buys sells : List ℕ} → told ≡ isUnbegun q → told ≡ true → run ≡ freshRun → OnAs expected gives to 0 (holding run buys sells []) r →
+      RefusedAs expected gives to q place r
   refused-fresh {run} {buys} {sells} e t f k =
-      let k′ : OnAs expected to 0 (holding freshRun buys sells []) r = subst (λ (x : Run). OnAs expected to 0 (holding x buys sells []) r) f k in
-      record { refused = rw (sym e ∙ t) (subst (λ (d : Day). GoesOnFrom expected to 0 Stage.Awaiting d r) (fresh-day buys sells) (k′ .goes)) }
+      let k′ : OnAs expected gives to 0 (holding freshRun buys sells []) r = subst (λ (x : Run). OnAs expected gives to 0 (holding x buys sells []) r) f k in
+      record { refused = rw (sym e ∙ t) (subst (λ (d : Day). GoesOnFrom expected gives to 0 Stage.Awaiting d r) (fresh-day buys sells) (k′ .goes)) }
 
-  pub refused-told : told ≡ isUnbegun q → told ≡ false → BadTold expected to q place r → RefusedAs expected to q place r
+  pub refused-told : told ≡ isUnbegun q → told ≡ false → BadTold expected to q place r → RefusedAs expected gives to q place r
   refused-told e t k = record { refused = rw (sym e ∙ t) (k .told) }
 
-module _ {expected : List ℕ} {to : Sink} {back : Back} {buys sells : List ℕ} {r : Finish} where
+module _ {expected : List ℕ} {gives : List ℕ → Bool → Type 0} {to : Sink} {back : Back} {buys sells : List ℕ} {r : Finish} where
   pub begun-counts : {n : ℕ} {run : Run} → back .answer ≡ Comeback.Counts n → run ≡ tradingRun (back .session) →
-      OnAs expected to n (holding run buys sells []) r → BegunAs expected to back buys sells r
+      OnAs expected gives to n (holding run buys sells []) r → BegunAs expected gives to back buys sells r
   begun-counts {n} e f k =
-      let k′ : OnAs expected to n (holding (tradingRun (back .session)) buys sells []) r = subst (λ (x : Run). OnAs expected to n (holding x buys sells []) r) f k in
+      let k′ : OnAs expected gives to n (holding (tradingRun (back .session)) buys sells []) r = subst (λ (x : Run). OnAs expected gives to n (holding x buys sells []) r) f k in
       record { keeps = rw e (k′ .goes) }
 
-  pub begun-refused : {q : Refusal} {place : ℕ} → back .answer ≡ Comeback.Refused q place → RefusedAs expected to q place r → BegunAs expected to back buys sells r
+  pub begun-refused : {q : Refusal} {place : ℕ} → back .answer ≡ Comeback.Refused q place → RefusedAs expected gives to q place r → BegunAs expected gives to back buys sells r
   begun-refused e k = record { keeps = rw e (k .refused) }
 
--- THE WHOLE: what came back is that of the file's bytes, and so is what the program did then
-module _ (expected : List ℕ) (to : Sink) {back : Back} {buys sells : List ℕ} (f : Finish) where
-  keeps-day : (x : Rebuilt) (c : Comeback) → x .answer ≡ c → BackBy x buys sells back → KeepsAs expected to c (dayIn (back .session) buys sells) f →
-      KeepsAs expected to c (x .day) f
-  keeps-day x (Comeback.Counts n) e b k = subst (λ (d : Day). GoesOnFrom expected to n Stage.Trading d f) (b .day n e) k
-  keeps-day x (Comeback.Refused q place) e b k = k
+-- THE WHOLE: what came back is that of the file's bytes, and so is what the program did then; or not all could be read
+module _ (expected : List ℕ) {saves : List ℕ → Bool → Type 0} (gives : List ℕ → Bool → Type 0) (to : Sink) {back : Back} {buys sells : List ℕ} (a : BackAs saves buys sells back) where
+  module _ (f : Finish) where
+    keeps-day : (x : Rebuilt) (c : Comeback) → x .answer ≡ c → BackBy x buys sells back → KeepsAs expected gives to c (dayIn (back .session) buys sells) f →
+        KeepsAs expected gives to c (x .day) f
+    keeps-day x (Comeback.Counts n) e b k = subst (λ (d : Day). GoesOnFrom expected gives to n Stage.Trading d f) (b .day n e) k
+    keeps-day x (Comeback.Refused q place) e b k = k
 
-  pub kept-ran : BackAs buys sells back → not (back .read) ≡ false → BegunAs expected to back buys sells f → KeptAs expected to (Kept.Ran f)
-  kept-ran a read k = go (a .comes)
+    keeps : (bytes : List ℕ) → BackBy (resumed bytes) buys sells back → BegunAs expected gives to back buys sells f →
+        KeepsAs expected gives to (resumed bytes .answer) (resumed bytes .day) f
+    keeps bytes b k =
+        keeps-day (resumed bytes) (resumed bytes .answer) refl b
+        (subst (λ (c : Comeback). KeepsAs expected gives to c (dayIn (back .session) buys sells) f) (b .answer) (k .keeps))
+
+    pub kept-ran : not (back .read) ≡ false → BegunAs expected gives to back buys sells f → KeptAs expected saves gives to (Kept.Ran f)
+    kept-ran read k = go (a .comes)
+      where
+        was-read : back .read ≡ false → KeptAs expected saves gives to (Kept.Ran f)
+        was-read e = absurd (false≢true (sym e ∙ not-false (back .read) read))
+
+        go : BackOf saves length resumed buys sells back → KeptAs expected saves gives to (Kept.Ran f)
+        go (not-read bytes g e) = was-read e
+        go (too-long bytes whole g l e) = was-read e
+        go (all-read bytes g e b) = ran bytes f g refl (keeps bytes b k)
+        go (bad-met bytes whole g t e b) = told bytes whole f g (ap tellsBad (sym (b .answer)) ∙ t) refl (keeps bytes b k)
+
+  pub kept-unread : not (back .read) ≡ true → KeptAs expected saves gives to Kept.NotRead
+  kept-unread read = go (a .comes)
     where
-      go : BackOf resumed buys sells back → KeptAs expected to (Kept.Ran f)
-      go (not-read e) = absurd (false≢true (sym e ∙ not-false (back .read) read))
-      go (all-read bytes e b) =
-          ran bytes f refl
-          (keeps-day (resumed bytes) (resumed bytes .answer) refl b
-          (subst (λ (c : Comeback). KeepsAs expected to c (dayIn (back .session) buys sells) f) (b .answer) (k .keeps)))
+      not-all : back .read ≡ true → KeptAs expected saves gives to Kept.NotRead
+      not-all e = absurd (true≢false (sym e ∙ not-true (back .read) read))
+
+      go : BackOf saves length resumed buys sells back → KeptAs expected saves gives to Kept.NotRead
+      go (not-read bytes g e) = unread bytes g refl
+      go (too-long bytes whole g l e) = long bytes whole g l refl
+      go (all-read bytes g e b) = not-all e
+      go (bad-met bytes whole g t e b) = not-all e
 
 -- ---- the file is opened
 
@@ -145,7 +166,7 @@ module _ {saved file : ℤ} {wide : Bool} (f : SFits w32 saved) (g : SFits w32 f
   pub opened-not : {r : Kept} → not wide ≡ true → r ≡ Kept.NotOpened → OpenedAs saved file r
   opened-not n h = record { kept = rw (as-told false (not-true wide n)) h }
 
-  pub opened-both : {r : Kept} → not wide ≡ false → KeptAs [] Sink.Print r → OpenedAs saved file r
+  pub opened-both : {r : Kept} → not wide ≡ false → KeptAs [] Any Any Sink.Print r → OpenedAs saved file r
   opened-both n h = record { kept = rw (as-told true (not-false wide n)) h }
 
 pub opens-as : {saved file : ℤ} {r : Kept} → OpenedAs saved file r → OpensAs r

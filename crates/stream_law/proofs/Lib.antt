@@ -1,3 +1,4 @@
+pub mod Sources
 pub mod Beginnings
 pub mod Sends
 pub mod Statuses
@@ -11,3 +12,4 @@ pub mod Hearing
 pub mod Ending
 pub mod Through
 pub mod Keeping
+pub mod Logs

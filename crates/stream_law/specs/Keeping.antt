@@ -1,10 +1,10 @@
 -- A DAY THAT IS KEPT IN A FILE. Document 02, item 4: "The app saves each accepted event as its line, after the settings line, before showing
 -- any report."
-use Prim.Native.Nat.{ℕ, _≤_}
+use Prim.Native.Nat.{ℕ, _≤_, _<_}
 use mathlib.Core.Path.{_≡_}
-use mathlib.Core.Bool.{Bool, true, false, _&&_}
+use mathlib.Core.Bool.{Bool, true, false, cond, _&&_}
 use mathlib.Core.List.{List, [], _∷_, _++_}
-use lib.ListN.{length}
+use lib.ListN.{length, take}
 use lib.Dec.{eqb}
 use lib.IntN.{ℤ}
 use lib.Signed.{nonNeg}
@@ -25,12 +25,13 @@ use Rattle.feed_law.specs.Feeds.{Prints}
 use Rattle.resume_law.specs.declared.Comeback.{Comeback}
 use Rattle.resume_law.specs.declared.Back.{Back}
 use Rattle.resume_law.specs.Rebuilt.{resumed}
+use Rattle.resume_law.specs.Pieces.{tellsBad, tooMany}
 use Rattle.promises.specs.Printed.{Holding, dayOn}
 use Rattle.stream_law.specs.declared.Sink.{Sink}
 use Rattle.stream_law.specs.declared.Finish.{Finish}
 use Rattle.stream_law.specs.declared.Kept.{Kept}
-use Rattle.stream_law.specs.Sinks.{CutAs, isOpen, finishOf, savedPart, shownPart}
-use Rattle.stream_law.specs.Streams.{logging, ThroughAs, Finished}
+use Rattle.stream_law.specs.Sinks.{CutAs, isOpen, finishOf, settled, savedPart, shownPart}
+use Rattle.stream_law.specs.Streams.{logging, ThroughAs, Finished, Tells}
 
 -- ---- what is handed on, and in which order
 
@@ -79,13 +80,14 @@ pub record StandsAt (s : Stage) (d : Day) (a : Holding) : Type 0 where
 
 -- the file is cut to its first n bytes, and then the input's lines are taken from where the day stands; or it could not be cut, and nothing is
 -- read
-pub data GoesOnFrom (expected : List ℕ) (to : Sink) (n : ℕ) (stage : Stage) (d : Day) (r : Finish) : Type 0 where
-  uncut : (cut : Sink) → CutAs expected to n cut → isOpen cut ≡ false → r ≡ finishOf expected cut → GoesOnFrom expected to n stage d r
-  on : (cut : Sink) (a : Holding) → CutAs expected to n cut → StandsAt stage d a → ThroughAs logging expected a cut r → GoesOnFrom expected to n stage d r
+pub data GoesOnFrom (expected : List ℕ) (gives : List ℕ → Bool → Type 0) (to : Sink) (n : ℕ) (stage : Stage) (d : Day) (r : Finish) : Type 0 where
+  uncut : (cut : Sink) → CutAs expected to n cut → isOpen cut ≡ false → r ≡ finishOf expected cut → GoesOnFrom expected gives to n stage d r
+  on : (cut : Sink) (a : Holding) → CutAs expected to n cut → StandsAt stage d a → ThroughAs logging expected gives a cut r →
+      GoesOnFrom expected gives to n stage d r
 
 -- THE CONTRACT of `go_on`
-pub record OnAs (expected : List ℕ) (to : Sink) (n : ℕ) (a : Holding) (r : Finish) : Type 0 where
-  pub goes : GoesOnFrom expected to n (a .run .stage) (dayOn a) r
+pub record OnAs (expected : List ℕ) (gives : List ℕ → Bool → Type 0) (to : Sink) (n : ℕ) (a : Holding) (r : Finish) : Type 0 where
+  pub goes : GoesOnFrom expected gives to n (a .run .stage) (dayOn a) r
 
 -- the run of a session that came back
 abbrev pub tradingRun : Session → Run
@@ -100,13 +102,13 @@ abbrev pub isUnbegun : Refusal → Bool
 isUnbegun q = eqb (numberOf q) (numberOf LineUnfinished)
 
 -- where none has begun the file is emptied, and the settings come from the input; any other first bad line is told, and nothing is read
-abbrev pub RefusedBy : Bool → List ℕ → Sink → Refusal → ℕ → Finish → Type 0
-RefusedBy true expected to q place r = GoesOnFrom expected to 0 Stage.Awaiting noDay r
-RefusedBy false expected to q place r = Finished expected to (shownPart (badText q place)) r
+abbrev pub RefusedBy : Bool → List ℕ → (List ℕ → Bool → Type 0) → Sink → Refusal → ℕ → Finish → Type 0
+RefusedBy true expected gives to q place r = GoesOnFrom expected gives to 0 Stage.Awaiting noDay r
+RefusedBy false expected gives to q place r = Finished expected to (shownPart (badText q place)) r
 
 -- THE CONTRACT of `not_back`
-pub record RefusedAs (expected : List ℕ) (to : Sink) (q : Refusal) (place : ℕ) (r : Finish) : Type 0 where
-  pub refused : RefusedBy (isUnbegun q) expected to q place r
+pub record RefusedAs (expected : List ℕ) (gives : List ℕ → Bool → Type 0) (to : Sink) (q : Refusal) (place : ℕ) (r : Finish) : Type 0 where
+  pub refused : RefusedBy (isUnbegun q) expected gives to q place r
 
 -- THE CONTRACTS of the line of a bad line, which lies within the room, and of `tell_bad`
 pub record BadLaid (q : Refusal) (place : ℕ) (out : List ℕ) (n : ℕ) (out′ : List ℕ) : Type 0 where
@@ -117,19 +119,54 @@ pub record BadTold (expected : List ℕ) (to : Sink) (q : Refusal) (place : ℕ)
   pub told : Finished expected to (shownPart (badText q place)) r
 
 -- WHAT THE PROGRAM DOES by what the file comes back as: the day goes on behind the bytes that count, or nothing came back
-abbrev pub KeepsAs : List ℕ → Sink → Comeback → Day → Finish → Type 0
-KeepsAs expected to (Comeback.Counts n) d r = GoesOnFrom expected to n Stage.Trading d r
-KeepsAs expected to (Comeback.Refused q place) d r = RefusedBy (isUnbegun q) expected to q place r
+abbrev pub KeepsAs : List ℕ → (List ℕ → Bool → Type 0) → Sink → Comeback → Day → Finish → Type 0
+KeepsAs expected gives to (Comeback.Counts n) d r = GoesOnFrom expected gives to n Stage.Trading d r
+KeepsAs expected gives to (Comeback.Refused q place) d r = RefusedBy (isUnbegun q) expected gives to q place r
 
 -- THE CONTRACT of `begin`: so for the day that the tables hold
-pub record BegunAs (expected : List ℕ) (to : Sink) (back : Back) (buys sells : List ℕ) (r : Finish) : Type 0 where
-  pub keeps : KeepsAs expected to (back .answer) (dayIn (back .session) buys sells) r
+pub record BegunAs (expected : List ℕ) (gives : List ℕ → Bool → Type 0) (to : Sink) (back : Back) (buys sells : List ℕ) (r : Finish) : Type 0 where
+  pub keeps : KeepsAs expected gives to (back .answer) (dayIn (back .session) buys sells) r
 
--- THE CONTRACT of a day whose file is open: it could not be read; or there are bytes, those of the file, and the program did what they come
--- back as
-pub data KeptAs (expected : List ℕ) (to : Sink) (r : Kept) : Type 0 where
-  unread : r ≡ Kept.NotRead → KeptAs expected to r
-  ran : (bytes : List ℕ) (f : Finish) → r ≡ Kept.Ran f → KeepsAs expected to (resumed bytes .answer) (resumed bytes .day) f → KeptAs expected to r
+-- THE CONTRACT of a day whose file is open, by what the reads of the file and those of the input give: one of the file failed, or it has too
+-- many bytes; or the program did what the file's bytes come back as, and where those were not all, they have a bad line
+pub data KeptAs (expected : List ℕ) (saves gives : List ℕ → Bool → Type 0) (to : Sink) (r : Kept) : Type 0 where
+  unread : (bytes : List ℕ) → saves bytes false → r ≡ Kept.NotRead → KeptAs expected saves gives to r
+  long : (bytes : List ℕ) (whole : Bool) → saves bytes whole → tooMany ≤ length bytes → r ≡ Kept.NotRead → KeptAs expected saves gives to r
+  ran : (bytes : List ℕ) (f : Finish) → saves bytes true → r ≡ Kept.Ran f → KeepsAs expected gives to (resumed bytes .answer) (resumed bytes .day) f →
+      KeptAs expected saves gives to r
+  told : (bytes : List ℕ) (whole : Bool) (f : Finish) → saves bytes whole → tellsBad (resumed bytes .answer) ≡ true → r ≡ Kept.Ran f →
+      KeepsAs expected gives to (resumed bytes .answer) (resumed bytes .day) f → KeptAs expected saves gives to r
+
+-- ---- a comparison, with a file and an input that are lent as texts
+
+-- the file is cut to its first n bytes, for which as many of the expected log stand; then there is a wait for the disk, and what is said of the
+-- input from where the day stands
+abbrev pub logBehind : ℕ → Stage → Day → List ℕ → List ℕ → List ℕ
+logBehind n stage d given expected = (take n expected ++ settled) ++ saidFrom days logging stage d given
+
+-- THE LOG of a day that is kept, by what its file comes back as
+abbrev pub keptLog : Comeback → Day → List ℕ → List ℕ → List ℕ
+keptLog (Comeback.Counts n) d given expected = logBehind n Stage.Trading d given expected
+keptLog (Comeback.Refused q place) d given expected = cond (isUnbegun q) (logBehind 0 Stage.Awaiting noDay given expected) (shownPart (badText q place))
+
+abbrev pub KeptTells : List ℕ → List ℕ → Kept → Type 0
+KeptTells text expected Kept.NotOpened = ⊥
+KeptTells text expected Kept.NotRead = ⊥
+KeptTells text expected (Kept.Ran f) = Tells text expected f
+
+-- THE CONTRACT of `compare`: the answer is right for the log of the two texts
+pub record LogCompared (kept given expected : List ℕ) (r : Kept) : Type 0 where
+  pub tells : length kept < tooMany → length given < tooMany → KeptTells (keptLog (resumed kept .answer) (resumed kept .day) given expected) expected r
+
+-- the file could not be read; or it has a bad line, and the answer is right for what is told of that
+pub data BrokenTells (kept given expected : List ℕ) (r : Kept) : Type 0 where
+  not-read : r ≡ Kept.NotRead → BrokenTells kept given expected r
+  bad-line : tellsBad (resumed kept .answer) ≡ true → KeptTells (keptLog (resumed kept .answer) (resumed kept .day) given expected) expected r →
+      BrokenTells kept given expected r
+
+-- THE CONTRACT of `compare_broken`
+pub record BrokenCompared (kept given expected : List ℕ) (r : Kept) : Type 0 where
+  pub tells : length kept < tooMany → length given < tooMany → BrokenTells kept given expected r
 
 -- ---- the file is opened, to be read and to be appended to
 
@@ -137,8 +174,12 @@ pub data KeptAs (expected : List ℕ) (to : Sink) (r : Kept) : Type 0 where
 abbrev pub areOpen : ℤ → ℤ → Bool
 areOpen saved file = nonNeg saved && nonNeg file
 
+-- a descriptor gives some bytes or other
+abbrev pub Any : List ℕ → Bool → Type 0
+Any bytes whole = Unit {0}
+
 abbrev pub KeptBy : Bool → Kept → Type 0
-KeptBy true r = KeptAs [] Sink.Print r
+KeptBy true r = KeptAs [] Any Any Sink.Print r
 KeptBy false r = r ≡ Kept.NotOpened
 
 -- THE CONTRACT of `keep_opened`: the day is kept just where both could be opened

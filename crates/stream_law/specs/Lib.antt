@@ -1,3 +1,4 @@
+pub mod Sources
 pub mod Sinks
 pub mod Streams
 pub mod Keeping

@@ -14,13 +14,16 @@ use Rattle.feed_law.specs.declared.Turned.{Turned}
 use Rattle.feed_law.specs.Texts.{textMost, endText}
 use Rattle.feed_law.specs.Turns.{Says, printing, printed}
 use Rattle.feed_law.specs.Feeds.{freshRun, TurnTaken}
+use Rattle.resume_law.specs.Pieces.{tooMany}
 use Rattle.promises.specs.Printed.{Holding, toSay}
+use Rattle.stream_law.specs.declared.Source.{Source}
 use Rattle.stream_law.specs.declared.Sink.{Sink}
 use Rattle.stream_law.specs.declared.Finish.{Finish}
 use Rattle.stream_law.specs.declared.Handed.{Handed}
 use Rattle.stream_law.specs.declared.Buffered.{Buffered}
 use Rattle.stream_law.specs.declared.Reading.{Reading}
 use Rattle.stream_law.specs.declared.Mode.{Mode}
+use Rattle.stream_law.specs.Sources.{Gives, Leads}
 use Rattle.stream_law.specs.Sinks.{SentAs, isOpen, finishOf, savedPart, shownPart}
 
 -- ---- what a program hands on
@@ -143,15 +146,28 @@ pub record FrontKept (have : ℕ) (buf buf′ : List ℕ) : Type 0 where
   pub same : length buf′ ≡ length buf
   pub front : take have buf′ ≡ take have buf
 
--- THE CONTRACT of a read, and of many: there are bytes that came, and what they come to was sent or is still to be said
-pub record Hears (says : Says ℕ) (expected : List ℕ) (a : Holding) (to : Sink) (buf′ buys′ sells′ : List ℕ) (r : Buffered) : Type 0 where
+-- WHY NO MORE IS READ: the source is at its end; or the run is over or the sink is shut; or a read failed
+pub data StopsAs (given : List ℕ) (from : Source) (h : Buffered) : Type 0 where
+  goes-on : h .reading ≡ Reading.On → StopsAs given from h
+  ended : h .reading ≡ Reading.Done → Gives given from [] true → StopsAs given from h
+  over : h .reading ≡ Reading.Done → readingAfter (h .run .stage) (h .to) ≡ Reading.Done → StopsAs given from h
+  failed : h .reading ≡ Reading.Failed → Gives given from [] false → StopsAs given from h
+
+-- THE CONTRACT of a read, and of many: bytes came, and what they come to was sent or is still to be said; where more is to be read, at least so
+-- many came
+pub record Hears (says : Says ℕ) (expected given : List ℕ) (least : ℕ) (a : Holding) (from : Source) (to : Sink) (buf′ buys′ sells′ : List ℕ) (r : Buffered)
+    (from′ : Source) : Type 0 where
   pub room : BufferRoom buf′ r
   pub got : List ℕ
   pub goes : Goes says expected a to got (heldOn buf′ buys′ sells′ r) (r .to)
+  pub leads : Leads given from got from′
+  pub stops : StopsAs given from′ r
+  pub some : r .reading ≡ Reading.On → least ≤ length got
 
 -- the same, for a run that holds an unfinished line at the front of a buffer
-pub record HearsOn (says : Says ℕ) (expected : List ℕ) (h : Buffered) (buf buys sells buf′ buys′ sells′ : List ℕ) (r : Buffered) : Type 0 where
-  pub hears : Hears says expected (heldOn buf buys sells h) (h .to) buf′ buys′ sells′ r
+pub record HearsOn (says : Says ℕ) (expected given : List ℕ) (least : ℕ) (h : Buffered) (from : Source) (buf buys sells buf′ buys′ sells′ : List ℕ) (r : Buffered)
+    (from′ : Source) : Type 0 where
+  pub hears : Hears says expected given least (heldOn buf buys sells h) from (h .to) buf′ buys′ sells′ r from′
 
 -- ---- the end
 
@@ -172,37 +188,56 @@ isDone Reading.On = false
 isDone Reading.Done = true
 isDone Reading.Failed = false
 
+-- THE CONTRACT of the end of a run, by what is kept of it: not all could be read; or all is sent that is said of what is held
+pub data EndedAs (says : Says ℕ) (expected : List ℕ) (b : Holding) (h : Buffered) (r : Finish) : Type 0 where
+  broken : isDone (h .reading) ≡ false → r ≡ Finish.Unread → EndedAs says expected b h r
+  sent : (last : Sink) → isDone (h .reading) ≡ true → SentAs expected (h .to) (toSay says b []) last → r ≡ finishOf expected last → EndedAs says expected b h r
+
 -- how a run ends that sends this text
 pub record Finished (expected : List ℕ) (to : Sink) (text : List ℕ) (r : Finish) : Type 0 where
   pub sink : Sink
   pub sent : SentAs expected to text sink
   pub finish : r ≡ finishOf expected sink
 
--- THE CONTRACT of a whole run from a standing on: there are bytes, those that came, and a read failed behind them, when what they come to was
--- sent or was still to be said; or all was sent that is said of them and of the end
-pub data ThroughAs (says : Says ℕ) (expected : List ℕ) (a : Holding) (to : Sink) (r : Finish) : Type 0 where
-  unread : (input : List ℕ) (b : Holding) (to′ : Sink) → Goes says expected a to input b to′ → r ≡ Finish.Unread → ThroughAs says expected a to r
-  whole : (input : List ℕ) → Finished expected to (toSay says a input) r → ThroughAs says expected a to r
+-- the run was over, or the sink was shut, before all of some bytes were taken
+pub record Stops (says : Says ℕ) (expected : List ℕ) (a : Holding) (to : Sink) (input : List ℕ) : Type 0 where
+  pub got : List ℕ
+  pub rest : List ℕ
+  pub all : input ≡ got ++ rest
+  pub b : Holding
+  pub to′ : Sink
+  pub goes : Goes says expected a to got b to′
+  pub over : readingAfter (b .run .stage) to′ ≡ Reading.Done
+
+-- THE CONTRACT of a whole run from a standing on, by what the reads give: a read failed, when what had come was sent or was still to be said; or
+-- there are too many bytes; or all was sent that is said of all bytes and of the end, though a read might have failed behind those that the run
+-- needed
+pub data ThroughAs (says : Says ℕ) (expected : List ℕ) (gives : List ℕ → Bool → Type 0) (a : Holding) (to : Sink) (r : Finish) : Type 0 where
+  unread : (input : List ℕ) (b : Holding) (to′ : Sink) → gives input false → Goes says expected a to input b to′ → r ≡ Finish.Unread →
+      ThroughAs says expected gives a to r
+  too-long : (input : List ℕ) (whole : Bool) → gives input whole → tooMany ≤ length input → r ≡ Finish.Unread → ThroughAs says expected gives a to r
+  all-read : (input : List ℕ) → gives input true → Finished expected to (toSay says a input) r → ThroughAs says expected gives a to r
+  stopped : (input : List ℕ) (whole : Bool) → gives input whole → Stops says expected a to input → Finished expected to (toSay says a input) r →
+      ThroughAs says expected gives a to r
 
 -- THE CONTRACT of `through`: a day from its first line on, of which only what THE PROGRAM prints is sent; the tables may hold anything
-pub record FreshThrough (expected : List ℕ) (to : Sink) (r : Finish) : Type 0 where
+pub record FreshThrough (expected : List ℕ) (gives : List ℕ → Bool → Type 0) (to : Sink) (r : Finish) : Type 0 where
   pub buys : List ℕ
   pub sells : List ℕ
-  pub run : ThroughAs printing expected (holding freshRun buys sells []) to r
+  pub run : ThroughAs printing expected gives (holding freshRun buys sells []) to r
 
 -- what the answer of a comparison says of the text that was sent
 abbrev pub Tells : List ℕ → List ℕ → Finish → Type 0
 Tells text expected Finish.Printed = ⊥
 Tells text expected Finish.Same = text ≡ expected
 Tells text expected Finish.Differs = text ≡ expected → ⊥
-Tells text expected Finish.Unread = Unit {0}
+Tells text expected Finish.Unread = ⊥
 Tells text expected Finish.Unsaved = ⊥
 Tells text expected Finish.Unwritten = ⊥
 
--- THE CONTRACT of `compare`: there are bytes, and the answer is right for all that THE PROGRAM prints for them
-pub record Compares (expected : List ℕ) (r : Finish) : Type 0 where
-  pub input : List ℕ
-  pub tells : Tells (printed input) expected r
+-- THE CONTRACT of `compare`: the answer is right for all that THE PROGRAM prints for a text
+pub record Compares (given expected : List ℕ) (r : Finish) : Type 0 where
+  pub tells : length given < tooMany → Tells (printed given) expected r
 
 -- THE CONTRACT of `print`: it answers whether all was read and printed, and never as a comparison does
 abbrev pub PrintedAs : Finish → Type 0

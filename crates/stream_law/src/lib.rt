@@ -1,10 +1,19 @@
 // stream_law: what a run comes to that reads its input in pieces and prints what it comes to, or saves each line in a file before it shows its
 // text; or that holds all of it against an expected text.
-// It has no code, and may use feed_law, resume_law and promises, and what these use. It promises: in whatever pieces some bytes come, all is
-// sent that the program says of them, and a comparison answers "same" just where that is what was expected; and of a day that is kept, all that
-// is saved and all that is shown is what feed_law says.
+// It has no code, and may use feed_law, resume_law and promises, and what these use. It promises: in whatever pieces a source gives its bytes, all
+// is sent that the program says of them, and a comparison answers "same" just where that is what was expected; where a read fails that is told;
+// and of a day that is kept, a comparison answers "same" just where the log is that of its file and its input, and all that is saved and all that
+// is shown in it is what feed_law says.
 
 use feed_law::Run;
+
+// Where a run's bytes come from: a descriptor; or a text that is lent, of which so many bytes were read, and behind which is the end of the
+// input, or a read that fails.
+pub enum Source {
+    Live(i32),
+    Text(usize),
+    Broken(usize),
+}
 
 // Where a run's bytes go, and how they fared: all that was handed went to the file and to standard output; or is held against an expected
 // text, and is its first so many bytes; or is not what was expected; or some could not be saved, or not be printed.

@@ -6,11 +6,9 @@ use Rattle.stream.proofs.compare.Tie as tie
 
 ruleset answers = (needs, through-compares)
 
-through-requires : tie.Need-through-requires
-through-requires c κs = search answers
-
-returns : tie.Need-returns
-returns c = search answers
-
 pub compare-spec : {M : Type 1} → statement M
-compare-spec = tie.close (tie.spec through-requires returns)
+compare-spec =
+    tie.close
+    (tie.spec
+    (λ c κs. search answers)
+    (λ c. search answers))

@@ -1,11 +1,11 @@
 -- The first bytes could be read or not.
 use Rattle.descriptors.proofs.Parts.{got-within}
-use Rattle.stream_back.proofs.Rests.{filled-none, filled-some}
+use Rattle.stream_back.proofs.Rests.{ended-at, filled-none, filled-some}
 use borrow.Author.Needs.{needs}
 use Rattle.stream_back.proofs.from_filled.Statement.{statement}
 use Rattle.stream_back.proofs.from_filled.Tie as tie
 
-ruleset answers = (needs, got-within, filled-none, filled-some)
+ruleset answers = (needs, got-within, ended-at, filled-none, filled-some)
 
 pub from-filled-spec : {M : Type 1} → statement M
 from-filled-spec =
@@ -14,7 +14,7 @@ from-filled-spec =
     (λ c. search answers)
     (λ c κs. search answers)
     (λ c. search answers)
-    (λ c κs. search answers)
+    (λ c κs. (search answers, ((search answers, search answers), search answers)))
     (λ c. search answers)
     (λ c. search answers)
     (λ c. search answers)

@@ -1,21 +1,20 @@
--- The loop keeps that the same is still to come; the number of turns left falls.
+-- The loop keeps that the same is still to come, and that a byte was read in each turn; the number of turns left falls.
 use Prim.Native.Nat.{_<_}
 use mathlib.Core.Path.{_≡_}
 use lib.ListN.{length}
 use Rattle.terms.specs.Sizes.{lineRoom}
 use Rattle.engine_law.specs.Calls.{LongEnough}
-use Rattle.resume_law.proofs.Standings.{back-unread}
 use Rattle.resume_law.proofs.Replays.{long-kept}
-use Rattle.stream_back.proofs.Onwards.{OnwardFrom, pieces-start, pieces-there, pieces-on, pieces-back}
+use Rattle.stream_back.proofs.Onwards.{WentOn, pieces-start, pieces-there, pieces-on, pieces-back, pieces-out}
 use borrow.Author.Needs.{needs}
 use Rattle.stream_back.proofs.take_pieces.Statement.{statement}
 use Rattle.stream_back.proofs.take_pieces.Tie as tie
 
-ruleset answers = (needs, back-unread, long-kept, pieces-start, pieces-there, pieces-on, pieces-back)
+ruleset answers = (needs, long-kept, pieces-start, pieces-there, pieces-on, pieces-back, pieces-out)
 
 abbrev Inv-loop : tie.InvT-loop
-Inv-loop fd buf₀ buys₀ sells₀ room₀ h₀ turns₀ buf buys sells room h turns =
-    OnwardFrom h₀ buf₀ buys₀ sells₀ h buf buys sells
+Inv-loop given buf₀ buys₀ sells₀ room₀ from₀ h₀ turns₀ buf buys sells room from h turns =
+    WentOn given turns from₀ h₀ buf₀ buys₀ sells₀ from h buf buys sells
     × LongEnough buys sells room
     × (lineRoom < length buf)
     × (length buf ≡ length buf₀)
@@ -24,7 +23,7 @@ Inv-loop fd buf₀ buys₀ sells₀ room₀ h₀ turns₀ buf buys sells room h 
     × (length room ≡ length room₀)
 
 abbrev μ-loop : tie.MeasureT-loop
-μ-loop fd buf₀ buys₀ sells₀ room₀ h₀ turns₀ buf buys sells room h turns = turns
+μ-loop given buf₀ buys₀ sells₀ room₀ from₀ h₀ turns₀ buf buys sells room from h turns = turns
 
 loop-holds : tie.Need-loop-holds Inv-loop μ-loop
 loop-holds c = search answers

@@ -1,10 +1,10 @@
 -- At each turn fewer turns are left.
-use Rattle.descriptors.proofs.Numbers.{moved-within}
+use Rattle.descriptors.proofs.Numbers.{wrote-settled, settled-over}
 use borrow.Author.Needs.{needs}
-use Rattle.descriptors.proofs.writing.write_some.Statement.{statement}
-use Rattle.descriptors.proofs.writing.write_some.Tie as tie
+use Rattle.descriptors.proofs.writing.write_settled.Statement.{statement}
+use Rattle.descriptors.proofs.writing.write_settled.Tie as tie
 
-ruleset answers = (needs, moved-within)
+ruleset answers = (needs, wrote-settled, settled-over)
 
 abbrev Inv-loop : tie.InvT-loop
 Inv-loop fd bytes turns₀ turns = Unit {0}
@@ -12,8 +12,8 @@ Inv-loop fd bytes turns₀ turns = Unit {0}
 abbrev μ-loop : tie.MeasureT-loop
 μ-loop fd bytes turns₀ turns = turns
 
-pub write-some-spec : {M : Type 1} → statement M
-write-some-spec =
+pub write-settled-spec : {M : Type 1} → statement M
+write-settled-spec =
     tie.close
     (tie.spec
     Inv-loop
@@ -22,10 +22,7 @@ write-some-spec =
     (λ c κs. search answers)
     (λ c κs. search answers)
     (λ c κs. search answers)
-    (λ c. search answers)
-    (λ c. search answers)
-    (λ c. search answers)
-    (λ c. search answers)
+    (λ c κs. search answers)
     (λ c. search answers)
     (λ c κs. search answers)
     (λ c. search answers)

@@ -1,0 +1,27 @@
+-- What was read lies within its room.
+use Rattle.descriptors.proofs.Parts.{load-there}
+use borrow.Author.Needs.{needs}
+use Rattle.days_kept.proofs.hold_behind.Statement.{statement}
+use Rattle.days_kept.proofs.hold_behind.Tie as tie
+
+ruleset answers = (needs, load-there)
+
+pub hold-behind-spec : {M : Type 1} → statement M
+hold-behind-spec =
+    tie.close
+    (tie.spec
+    (λ c κs. search answers)
+    (λ c. search answers)
+    (λ c. search answers)
+    (λ c. search answers)
+    (λ c. search answers)
+    (λ c κs. search answers)
+    (λ c. search answers)
+    (λ c. search answers)
+    (λ c. search answers)
+    (λ c. search answers)
+    (λ c. search answers)
+    (λ c. search answers)
+    (λ c. search answers)
+    (λ c. search answers)
+    (λ c. search answers))
