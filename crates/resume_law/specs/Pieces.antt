@@ -29,10 +29,14 @@ pub record BackBy (x : Rebuilt) (buys′ sells′ : List ℕ) (r : Back) : Type 
   pub session : r .session ≡ x .day .session
   pub day : (n : ℕ) → x .answer ≡ Comeback.Counts n → dayIn (r .session) buys′ sells′ ≡ x .day
 
+-- not even the settings line is whole, so that no day has begun
+abbrev pub isUnbegun : Refusal → Bool
+isUnbegun q = eqb (numberOf q) (numberOf LineUnfinished)
+
 -- a bad line is told, whatever stands behind it; of an unfinished one the rest may follow
 abbrev pub tellsBad : Comeback → Bool
 tellsBad (Comeback.Counts n) = false
-tellsBad (Comeback.Refused q n) = not (eqb (numberOf q) (numberOf LineUnfinished))
+tellsBad (Comeback.Refused q n) = not (isUnbegun q)
 
 -- so many bytes may not all be read: the machine's numbers end there, and the turns of reading
 abbrev pub tooMany : ℕ

@@ -14,7 +14,7 @@ ghost use mathlib.Core.Path.{_≡_};
 ghost use Rattle.engine_law.specs.Calls.{LongEnough};
 ghost use Rattle.resume_law.specs.Pieces.{backTo, unreadBack, passedTo, passedEnd, StartTold, StoodAs, PassedAs};
 
-// What came back, where all could be read.
+// What came back, where it could be read.
 pub fn back_to(answer: Comeback, session: Session) -> Back
     ensures { λ r. ⌜ r ≡ backTo answer session ⌝ }
 {

@@ -28,10 +28,11 @@ ghost use mathlib.Core.List.{[]};
 ghost use lib.ListN.{length};
 ghost use Rattle.terms.specs.Sizes.{lineRoom};
 ghost use Rattle.engine_law.specs.Calls.{LongTables, LongEnough};
+ghost use Rattle.resume_law.specs.Pieces.{isUnbegun};
 ghost use Rattle.stream_law.specs.declared.Sink.{Sink};
 ghost use Rattle.stream_law.specs.Sources.{Gives};
 ghost use Rattle.stream_law.specs.Streams.{holding};
-ghost use Rattle.stream_law.specs.Keeping.{OnAs, tradingRun, isUnbegun, RefusedAs, BadLaid, BadTold, BegunAs, KeptAs, areOpen, Any, OpenedAs, OpensAs, LogCompared, BrokenCompared};
+ghost use Rattle.stream_law.specs.Keeping.{OnAs, tradingRun, RefusedAs, BadLaid, BadTold, BegunAs, KeptAs, areOpen, Any, OpenedAs, OpensAs, LogCompared, BrokenCompared};
 
 // ---- a day goes on
 

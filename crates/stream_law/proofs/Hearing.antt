@@ -45,8 +45,8 @@ on-is Reading.On e = refl
 on-is Reading.Done e = absurd (false≢true e)
 on-is Reading.Failed e = absurd (false≢true e)
 
--- ---- reads, one after the other, while more is to be read: each gave a byte at least, so that with the turns that are left there are as many as
--- turns
+-- ---- reads, one after the other, while more is to be read: each gave a byte at least, so the bytes that came and the turns that are left are
+-- together no fewer than all turns
 
 pub record Listens (says : Says ℕ) (expected given : List ℕ) (left : ℕ) (h₀ : Buffered) (from₀ : Source) (buf₀ buys₀ sells₀ buf buys sells : List ℕ) (h : Buffered)
     (from : Source) : Type 0 where
@@ -86,9 +86,9 @@ module _ {says : Says ℕ} {expected given : List ℕ} {left : ℕ} {h₀ : Buff
   module _ {buf′ buys′ sells′ : List ℕ} {r : Buffered} {from′ : Source} (q : HearsOn says expected given 1 h from buf buys sells buf′ buys′ sells′ r from′) {reads : Bool}
       (e : reads ≡ isOn (r .reading)) where
     -- one read more
-    abbrev then : (least : ℕ) → (r .reading ≡ Reading.On → least ≤ length (p .heard .hears .got ++ q .hears .got)) →
+    abbrev heard-then : (least : ℕ) → (r .reading ≡ Reading.On → least ≤ length (p .heard .hears .got ++ q .hears .got)) →
         HearsOn says expected given least h₀ from₀ buf₀ buys₀ sells₀ buf′ buys′ sells′ r from′
-    then least some =
+    heard-then least some =
         let a = p .heard .hears in
         let b = q .hears in
         record {
@@ -110,12 +110,12 @@ module _ {says : Says ℕ} {expected given : List ℕ} {left : ℕ} {h₀ : Buff
         let m = q .hears .some was in
         let k = p .count in
         let all : tooMany ≤ left - 1 + length (p .heard .hears .got ++ q .hears .got) = omega arith in
-        record { on = was; heard = then 0 (λ _. omega arith); count = all }
+        record { on = was; heard = heard-then 0 (λ _. omega arith); count = all }
 
     -- the last read: it does not matter how many bytes came
     pub listens-off : {least : ℕ} {run : Run} {to : Sink} {reading : Reading} → h₀ ≡ heldAs run 0 to reading → not reads ≡ true →
         Hears says expected given least (holding run buys₀ sells₀ []) from₀ to buf′ buys′ sells′ r from′
-    listens-off {least} f n = hears-first f (then least (λ g. absurd (true≢false (sym (ap isOn g) ∙ sym e ∙ not-true reads n))))
+    listens-off {least} f n = hears-first f (heard-then least (λ g. absurd (true≢false (sym (ap isOn g) ∙ sym e ∙ not-true reads n))))
 
   -- the turns are over
   pub listens-all : {run : Run} {to : Sink} {reading : Reading} → h₀ ≡ heldAs run 0 to reading → left ≤ 0 →

@@ -24,7 +24,7 @@ use Rattle.feed_law.proofs.Says.{said-map}
 use Rattle.resume_law.specs.declared.Comeback.{Comeback}
 use Rattle.resume_law.specs.declared.Back.{Back}
 use Rattle.resume_law.specs.Rebuilt.{Rebuilt, resumed}
-use Rattle.resume_law.specs.Pieces.{BackBy, tellsBad, tooMany, BackAs, BackOf}
+use Rattle.resume_law.specs.Pieces.{BackBy, isUnbegun, tellsBad, tooMany, BackAs, BackOf}
 use Rattle.resume_law.specs.Pieces.BackOf.{not-read, too-long, all-read, bad-met}
 use Rattle.promises.specs.Printed.{Holding}
 use Rattle.stream_law.specs.declared.Sink.{Sink}
@@ -32,7 +32,7 @@ use Rattle.stream_law.specs.declared.Finish.{Finish}
 use Rattle.stream_law.specs.declared.Kept.{Kept}
 use Rattle.stream_law.specs.Sinks.{SentAs, CutAs, isOpen, finishOf, savedPart, shownPart}
 use Rattle.stream_law.specs.Streams.{logging, holding, ThroughAs}
-use Rattle.stream_law.specs.Keeping.{Part, save, show, handing, savesOf, showsOf, logOf, LogsTell, GoesOnFrom, OnAs, tradingRun, noDay, isUnbegun, RefusedAs, BadLaid, BadTold, KeepsAs, BegunAs, KeptAs, areOpen, Any, OpenedAs, OpensAs}
+use Rattle.stream_law.specs.Keeping.{Part, save, show, handing, savesOf, showsOf, logOf, LogsTell, GoesOnFrom, OnAs, tradingRun, noDay, RefusedAs, BadLaid, BadTold, KeepsAs, BegunAs, KeptAs, areOpen, Any, OpenedAs, OpensAs}
 use Rattle.stream_law.specs.Keeping.GoesOnFrom.{uncut, on}
 use Rattle.stream_law.specs.Keeping.KeptAs.{unread, long, ran, told}
 use Rattle.stream_law.proofs.Goes.{room-text}

@@ -17,7 +17,7 @@ use Rattle.feed_law.specs.Worlds.{days}
 use Rattle.feed_law.specs.Turns.{saidFrom}
 use Rattle.resume_law.specs.declared.Comeback.{Comeback}
 use Rattle.resume_law.specs.Rebuilt.{resumed}
-use Rattle.resume_law.specs.Pieces.{tooMany, tellsBad}
+use Rattle.resume_law.specs.Pieces.{isUnbegun, tellsBad, tooMany}
 use Rattle.promises.specs.Printed.{Holding}
 use Rattle.stream_law.specs.declared.Source.{Source}
 use Rattle.stream_law.specs.declared.Sink.{Sink}
@@ -26,7 +26,7 @@ use Rattle.stream_law.specs.declared.Kept.{Kept}
 use Rattle.stream_law.specs.Sources.{Gives}
 use Rattle.stream_law.specs.Sinks.{matchedBy, passed, SentAs, CutAs, settled, shownPart, finishOf}
 use Rattle.stream_law.specs.Streams.{logging, Finished, Tells}
-use Rattle.stream_law.specs.Keeping.{GoesOnFrom, StandsAt, noDay, isUnbegun, RefusedBy, KeepsAs, KeptAs, logBehind, keptLog, KeptTells, LogCompared, BrokenTells, BrokenCompared}
+use Rattle.stream_law.specs.Keeping.{GoesOnFrom, StandsAt, noDay, RefusedBy, KeepsAs, KeptAs, logBehind, keptLog, KeptTells, LogCompared, BrokenTells, BrokenCompared}
 use Rattle.stream_law.specs.Keeping.GoesOnFrom.{uncut, on}
 use Rattle.stream_law.specs.Keeping.KeptAs.{unread, long, ran, told}
 use Rattle.stream_law.specs.Keeping.BrokenTells.{not-read, bad-line}

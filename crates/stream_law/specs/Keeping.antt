@@ -5,12 +5,9 @@ use mathlib.Core.Path.{_≡_}
 use mathlib.Core.Bool.{Bool, true, false, cond, _&&_}
 use mathlib.Core.List.{List, [], _∷_, _++_}
 use lib.ListN.{length, take}
-use lib.Dec.{eqb}
 use lib.IntN.{ℤ}
 use lib.Signed.{nonNeg}
 use Rattle.terms.specs.declared.Refusal.{Refusal}
-use Rattle.terms.specs.declared.Refusal.the-variants.{LineUnfinished}
-use Rattle.terms.specs.Refusals.{numberOf}
 use Rattle.state_law.specs.declared.Session.{Session}
 use Rattle.state_law.specs.Opening.{fixedSession}
 use Rattle.state_law.specs.Day.{Day}
@@ -25,7 +22,7 @@ use Rattle.feed_law.specs.Feeds.{Prints}
 use Rattle.resume_law.specs.declared.Comeback.{Comeback}
 use Rattle.resume_law.specs.declared.Back.{Back}
 use Rattle.resume_law.specs.Rebuilt.{resumed}
-use Rattle.resume_law.specs.Pieces.{tellsBad, tooMany}
+use Rattle.resume_law.specs.Pieces.{isUnbegun, tellsBad, tooMany}
 use Rattle.promises.specs.Printed.{Holding, dayOn}
 use Rattle.stream_law.specs.declared.Sink.{Sink}
 use Rattle.stream_law.specs.declared.Finish.{Finish}
@@ -96,10 +93,6 @@ tradingRun s = record { stage = Stage.Trading; session = s }
 -- no day yet
 abbrev pub noDay : Day
 noDay = record { session = fixedSession; buys = []; sells = [] }
-
--- not even the settings line is whole, so that no day has begun
-abbrev pub isUnbegun : Refusal → Bool
-isUnbegun q = eqb (numberOf q) (numberOf LineUnfinished)
 
 -- where none has begun the file is emptied, and the settings come from the input; any other first bad line is told, and nothing is read
 abbrev pub RefusedBy : Bool → List ℕ → (List ℕ → Bool → Type 0) → Sink → Refusal → ℕ → Finish → Type 0

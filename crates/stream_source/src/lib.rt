@@ -21,8 +21,8 @@ pub struct Read {
 
 // ---- a text that is lent
 
-// How many bytes of a text stand behind its first ones, and fit in a room.
-fn next(given: &[u8], at: usize, room: usize) -> usize
+// How many bytes of a text are to be copied: those behind its first ones, as many as fit in a room.
+fn to_copy(given: &[u8], at: usize, room: usize) -> usize
     ensures { λ r. ⌜ r ≡ min (length (now (given .entry)) - at) room ⌝ }
 {
     if given.len() < at {
@@ -39,7 +39,7 @@ fn next(given: &[u8], at: usize, room: usize) -> usize
 fn copy(given: &[u8], at: usize, buf: &mut [u8]) -> usize
     ensures { λ r. ⌜ CopiedAs (now (given .entry)) at (now (buf .exit)) r ⌝ }
 {
-    let n = next(given, at, buf.len());
+    let n = to_copy(given, at, buf.len());
     let mut i: usize = 0;
     while i < n {
         buf[i] = given[at + i];
