@@ -2,6 +2,8 @@
 // It may use terms, tables and book_sound_law. It promises: the answer IS document 01's condition on the orders that the tables hold, whatever
 // their numbers are and whatever lies behind them, found by one pass over each table.
 
+#![tactic(auto)]
+
 pub mod marks;
 pub mod pass;
 

@@ -2,8 +2,10 @@
 // It has no code and may use terms, tables, rules_law and book_law. It promises: the pass finds what the conditions say; an incoming order,
 // a cancelled order and a wider band leave a sound book sound.
 
+#![tactic(auto)]
+
 // What live orders are judged by: the numbers given, the tick and its factor, and the ends of the band.
-#[derive(Drop)]
+#[derive(Clone, Copy)]
 pub struct Limits {
     pub given: u64,
     pub tick: u64,

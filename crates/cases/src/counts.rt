@@ -1,7 +1,7 @@
 // How cases ended, told and counted.
 
 // How a case ended: as it must, or not, or a file of it could not be read.
-#[derive(Drop)]
+#[derive(Clone, Copy)]
 pub enum Ending {
     Right,
     Wrong,
@@ -9,7 +9,7 @@ pub enum Ending {
 }
 
 // How many cases ended in each way.
-#[derive(Drop)]
+#[derive(Clone, Copy)]
 pub struct Count {
     pub right: u64,
     pub wrong: u64,

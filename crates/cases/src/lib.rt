@@ -2,6 +2,8 @@
 // opened by their names, and told and counted by how they ended.
 // It may use io and os. It promises that it is safe and ends, and that reading a line always moves on.
 
+#![tactic(auto)]
+
 pub mod counts;
 pub mod files;
 pub mod nine;

@@ -1,13 +1,13 @@
 // Lines of nine numbers, each with one byte behind it.
 ghost use Rattle.std.specs.Prelude.{◌<◌, ◌≤◌, length};
 
-#[derive(Drop)]
+#[derive(Clone, Copy)]
 pub struct Line {
     pub words: [u64; 9],
     pub next: usize,
 }
 
-#[derive(Drop)]
+#[derive(Clone, Copy)]
 pub struct Word {
     pub value: u64,
     pub next: usize,

@@ -9,6 +9,8 @@
 //   5 side                                prints the view, and how many numbers behind it are not 0, up to the table's end and past it
 // A side is 0 for buy and 1 for sell; a kind is 0 for market and 1 for limit.
 
+#![tactic(auto)]
+
 mod says;
 mod steps;
 

@@ -20,7 +20,7 @@ pub const LONG: usize = lengths::TABLE + 132;
 const ROOM: usize = lengths::RECORD * sizes::SLOTS + 64;
 
 // How many orders are live: on the side that a line names, and on the other.
-#[derive(Drop)]
+#[derive(Clone, Copy)]
 pub struct Counts {
     pub own: usize,
     pub other: usize,

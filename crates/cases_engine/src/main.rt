@@ -13,6 +13,8 @@
 //                                         added up), 8 cancel x, 9 under x, 10 clock, 11 close with settlement x
 //   5 side buys sells                     prints the view of a side: its length and its sum, with that many numbers of each table
 
+#![tactic(auto)]
+
 mod calling;
 mod says;
 mod setting;

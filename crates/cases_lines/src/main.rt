@@ -1,5 +1,8 @@
 // cases_lines: reads the lines of document 01's listing from standard input and writes them again; then reads each of them cut after every
 // byte and with every byte changed; then single lines, for their places; then writes the listing's reports from their records, and refusals.
+
+#![tactic(auto)]
+
 ghost use Rattle.std.specs.Prelude.{◌<◌, ◌≤◌, length};
 
 use libc::{STDIN_FILENO, STDOUT_FILENO};

@@ -14,7 +14,7 @@ pub const LONG: usize = lengths::TABLE + 12;
 pub const ROOMY: usize = lengths::ROOM + 12;
 
 // What `resume_lent` answered, and whether its scratch is zero up to its length and as lent past it.
-#[derive(Drop)]
+#[derive(Clone, Copy)]
 pub struct Lent {
     pub resumed: Resumed,
     pub scrubbed: bool,

@@ -6,6 +6,8 @@
 // A case is right when both calls, `resume` and `resume_lent`, print just that text, leave alike tables, and have touched no number of the
 // tables and the scratch that they must not. At last each lent slice is lent too short once, and each check is handed a table that must fail.
 
+#![tactic(auto)]
+
 mod alike;
 mod controls;
 mod holding;

@@ -1,5 +1,8 @@
 // cases_settings: settings of many sorts, judged by terms::judge::check: each field in turn at its ends, just past them, off the tick, at 0
 // and at the largest 64-bit number. It prints a line for each: the field, its value, and the refusal's number, 0 for none.
+
+#![tactic(auto)]
+
 use terms::{Category, Settings, Verdict};
 
 const FIELDS: usize = 7;

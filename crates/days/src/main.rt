@@ -1,5 +1,8 @@
 // days: runs whole days from files and compares what each prints with its expected output. The arguments name the days: NAME.in and NAME.out.
 // Both files are read first, so that what the comparison answers is right for their bytes (`Compares` in stream_law).
+
+#![tactic(auto)]
+
 use cases::counts::{Count, Ending};
 use cases::{counts, files};
 use descriptors::{Load, reading};

@@ -5,6 +5,9 @@
 // It may use io, libc, os, cases, descriptors, stream_law and stream_keep. It promises that it is safe and ends. All three are read first, so that
 // what a comparison answers is right for their bytes (`LogCompared` in stream_law). No file is written, and of the bytes that stay only their
 // number is compared (`kept_log`).
+
+#![tactic(auto)]
+
 use cases::counts::{Count, Ending};
 use cases::{counts, files};
 use descriptors::{Load, reading};

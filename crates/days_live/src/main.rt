@@ -2,6 +2,9 @@
 // stand there. The arguments name the cases: NAME.in is the input, NAME.day the file, which need not be there, and NAME.saved what it must hold
 // in the end. What a day shows goes to standard output. A case named `wrong-..` has a NAME.saved that is wrong on purpose.
 // It may use check, io, libc, os, cases, descriptors, stream_law and stream_keep. It promises that it is safe and ends.
+
+#![tactic(auto)]
+
 ghost use Rattle.std.specs.Prelude.{◌≤◌, length};
 
 use cases::counts::{Count, Ending};

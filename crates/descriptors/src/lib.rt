@@ -5,12 +5,14 @@
 // read that failed is answered as one); and that no count is more than there is room for. That it is the call that was made of which is
 // answered, and which bytes are read and written, no contract can say: those of the C library name neither.
 
+#![tactic(auto)]
+
 mod calls;
 pub mod reading;
 pub mod writing;
 
 // What a call came to: a number of bytes were moved; or it failed; or it is to be made again.
-#[derive(Drop)]
+#[derive(Clone, Copy)]
 pub enum Outcome {
     Moved(usize),
     Failed,
@@ -18,14 +20,14 @@ pub enum Outcome {
 }
 
 // What a read came to: a number of bytes, 0 at the end of the input; or it failed.
-#[derive(Drop)]
+#[derive(Clone, Copy)]
 pub enum Got {
     Bytes(usize),
     Failed,
 }
 
 // What reading a whole input came to: a number of bytes; or there are more than fit; or a read failed.
-#[derive(Drop)]
+#[derive(Clone, Copy)]
 pub enum Load {
     Whole(usize),
     TooLong,

@@ -3,6 +3,8 @@
 // byte afterwards, are those of desk_law; a refusal writes nothing, except that a refused opening writes the fixed session, and a refused
 // resume the fixed session, its place and, where scratch is lent, zeros in it. Whatever the refusal, the tables are as lent.
 
+#![tactic(auto)]
+
 pub mod calls;
 pub mod line_calls;
 pub mod resumes;

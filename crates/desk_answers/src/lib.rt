@@ -1,6 +1,8 @@
 // desk_answers: what a call answers, as one number: a code and a count.
 // It may use terms and desk_packing_law. It promises: the number is the definition of desk_packing_law, so code and count can be read from it.
 
+#![tactic(auto)]
+
 ghost use Rattle.std.specs.Prelude.{◌≡◌, ◌≤◌, ◌<◌};
 ghost use Rattle.terms.specs.declared.Refusal.TheVariants.{LineWrong};
 ghost use Rattle.terms.specs.declared.Verdict.TheVariants.{Fine, Refused};

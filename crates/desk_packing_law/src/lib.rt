@@ -3,10 +3,12 @@
 // whatever follows the numbers; numbers that are no session's, or of another layout, are the paper's fixed session, numbers that are no
 // event's a clock event that no session accepts, numbers that are no run's a run that is over; an answer gives back its code and its count.
 
+#![tactic(auto)]
+
 use terms::Event;
 
 // An event, or that some numbers are no event's.
-#[derive(Drop)]
+#[derive(Clone, Copy)]
 pub enum FoundEvent {
     Told(Event),
     Nothing,

@@ -1,6 +1,9 @@
 // desk_runs: a run of the program between two pieces of its input, as 45 numbers, for apps that keep and hand over nothing else.
 // It may use feed_law, desk_packing_law and desk_packing, and what these use. It promises: packing and unpacking are the definitions of
 // desk_packing_law, for any numbers whatever; numbers that are no run's are a run that is over, which takes no byte and prints none.
+
+#![tactic(auto)]
+
 ghost use Rattle.std.specs.Prelude.{◌≡◌, ◌≤◌, ◌<◌, ◌∷◌, length};
 ghost use Rattle.tables.specs.Put.{put};
 ghost use Rattle.desk_packing_law.specs.Stages.{run_length, stage_number, run_numbers, is_run, stage_from, run_from};

@@ -2,6 +2,8 @@
 // It may use every crate below it. It promises, of any session, event, tables and room: the answer, the session and each lent
 // number afterwards are those of engine_law; a refusal changes nothing; time comes from the events alone.
 
+#![tactic(auto)]
+
 pub mod apply;
 pub mod looking;
 pub mod standings;

@@ -2,25 +2,27 @@
 // It has no code, and may use acts_law and what that uses. It promises: an accepted event leaves a sound day, a refused one changes nothing,
 // and calls on a session lead from sound day to sound day; where a session stands is told by the definitions that judge orders.
 
+#![tactic(auto)]
+
 use state_law::Session;
 use terms::{Band, Refusal, Verdict};
 
 // The answer to an event: the count of its reports, or the refusal.
-#[derive(Drop)]
+#[derive(Clone, Copy)]
 pub enum Answer {
     Reported(u64),
     Refused(Refusal),
 }
 
 // The answer to an event, and the session after it.
-#[derive(Drop)]
+#[derive(Clone, Copy)]
 pub struct Applied {
     pub answer: Answer,
     pub session: Session,
 }
 
 // An event that has begun: the session after the clock steps, and the place behind their reports.
-#[derive(Drop)]
+#[derive(Clone, Copy)]
 pub struct Begun {
     pub session: Session,
     pub at: usize,
@@ -29,7 +31,7 @@ pub struct Begun {
 // Where a session stands: the percent in force with its band, the execution range with the reference that it lies around, whether a
 // cooling-off runs and when it ends (0 where none runs), the last trade's price and lots (0 before any trade), live orders a side,
 // order numbers given so far, trades made.
-#[derive(Drop)]
+#[derive(Clone, Copy)]
 pub struct Standing {
     pub percent: u64,
     pub band: Band,
@@ -46,7 +48,7 @@ pub struct Standing {
 }
 
 // The answer to the question where a session stands: a refusal or none, and the standing.
-#[derive(Drop)]
+#[derive(Clone, Copy)]
 pub struct Stood {
     pub verdict: Verdict,
     pub standing: Standing,

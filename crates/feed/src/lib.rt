@@ -2,6 +2,8 @@
 // It may use every crate below it. It promises, of any bytes, tables and rooms: what is printed, taken and left is that of feed_law, and so
 // does not depend on how the input is cut into pieces.
 
+#![tactic(auto)]
+
 pub mod lines;
 
 ghost use Rattle.std.specs.Prelude.{◌≡◌};

@@ -2,11 +2,13 @@
 // It has no code, and may use engine_law, records_law and the laws of lines, and what these use. It promises: in whatever way the input is
 // cut into pieces, what is printed in all is `printed` of the whole.
 
+#![tactic(auto)]
+
 use state_law::Session;
 use terms::Refusal;
 
 // What the next line of a run has to be: settings, an event, or nothing more.
-#[derive(Drop)]
+#[derive(Clone, Copy)]
 pub enum Stage {
     Awaiting,
     Trading,
@@ -14,7 +16,7 @@ pub enum Stage {
 }
 
 // Where a run stands: all that is kept from line to line, except the live orders, which lie in the lent tables.
-#[derive(Drop)]
+#[derive(Clone, Copy)]
 pub struct Run {
     pub stage: Stage,
     pub session: Session,
@@ -22,7 +24,7 @@ pub struct Run {
 
 // Why no further line was taken: the bytes hold no whole one; the output room must be emptied first; the run is over; something that was
 // lent is too short.
-#[derive(Drop)]
+#[derive(Clone, Copy)]
 pub enum Stop {
     Waits,
     Full,
@@ -32,7 +34,7 @@ pub enum Stop {
 
 // What one line came to: where the run stands after it, how many bytes it has (0 where none was taken), how many of them are to be saved, and
 // how many were printed.
-#[derive(Drop)]
+#[derive(Clone, Copy)]
 pub struct Turned {
     pub run: Run,
     pub used: usize,
@@ -41,7 +43,7 @@ pub struct Turned {
 }
 
 // What many lines came to, and why no more were taken.
-#[derive(Drop)]
+#[derive(Clone, Copy)]
 pub struct Taken {
     pub run: Run,
     pub used: usize,

@@ -2,6 +2,8 @@
 // It may use terms, lines_text_law, lines_reading_law and lines_reading. It promises, for any bytes and any place: what the reader of events
 // answers on the bytes from that place on, or on no bytes where the place is past their end.
 
+#![tactic(auto)]
+
 ghost use Rattle.std.specs.Prelude.{◌≡◌};
 ghost use Rattle.lines_reading_law.specs.Answers.{event_answer};
 ghost use Rattle.lines_reading_law.specs.Walk.{read_at};
@@ -9,7 +11,7 @@ ghost use Rattle.lines_reading_law.specs.Walk.{read_at};
 use lines_reading_law::ReadEvent;
 
 // A walker: the caller's bytes, and a place in them.
-#[derive(Drop)]
+#[derive(Clone, Copy)]
 pub struct Walker<'a> {
     pub bytes: &'a [u8],
     pub at: usize,

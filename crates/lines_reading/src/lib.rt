@@ -3,6 +3,8 @@
 // line; 14 exactly where the bytes begin a line and hold no whole one; 15 else, with the length of the longest start that begins a line.
 // The line of a value is what is written for it.
 
+#![tactic(auto)]
+
 pub mod events;
 
 ghost use Rattle.lines_reading_law.specs.Answers.{EventRead, SettingsRead};

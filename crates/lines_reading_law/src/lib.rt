@@ -2,10 +2,12 @@
 // It has no code, and may use terms and lines_text_law. It promises: the answer by the grammar is the one right answer for any bytes, each
 // line is read back as its value, and two values never share a line.
 
+#![tactic(auto)]
+
 use terms::{Event, Settings};
 
 // What the reader of events answers: an event and how many bytes its line took, 14, or 15 with the place.
-#[derive(Drop)]
+#[derive(Clone, Copy)]
 pub enum ReadEvent {
     Whole(Event, usize),
     Unfinished,
@@ -13,7 +15,7 @@ pub enum ReadEvent {
 }
 
 // What the reader of settings answers: settings and how many bytes their line took, 14, or 15 with the place.
-#[derive(Drop)]
+#[derive(Clone, Copy)]
 pub enum ReadSettings {
     Whole(Settings, usize),
     Unfinished,
@@ -21,7 +23,7 @@ pub enum ReadSettings {
 }
 
 // The acts that carry one number.
-#[derive(Drop)]
+#[derive(Clone, Copy)]
 pub enum Single {
     Withdraw,
     Under,

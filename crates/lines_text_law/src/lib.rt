@@ -2,8 +2,10 @@
 // It has no code, and may use terms and tables. It promises: reading by a grammar gives the one right answer for any bytes, so a line is read
 // back as its value; and putting a form byte by byte puts the line that it makes with its numbers.
 
+#![tactic(auto)]
+
 // What reading a word finds: the place after it, that the bytes end within it, or the place of the first byte that is wrong.
-#[derive(Drop)]
+#[derive(Clone, Copy)]
 pub enum Reached {
     To(usize),
     Short,
@@ -11,7 +13,7 @@ pub enum Reached {
 }
 
 // What reading a number finds: its value and the place after it, that the bytes end within it, or the place of the first wrong byte.
-#[derive(Drop)]
+#[derive(Clone, Copy)]
 pub enum Found {
     Value { value: u64, next: usize },
     Short,
@@ -19,7 +21,7 @@ pub enum Found {
 }
 
 // Where writing stands: the next place of the room, and how many numbers were used.
-#[derive(Drop)]
+#[derive(Clone, Copy)]
 pub struct Spot {
     pub at: usize,
     pub used: usize,

@@ -3,6 +3,8 @@
 // then 17 for a number that is too long, with the room as it was; else the room starts with the value's line, its length is answered, and the
 // rest is as it was.
 
+#![tactic(auto)]
+
 pub mod forms;
 
 ghost use Rattle.std.specs.Prelude.{◌++◌, ◌≡◌, ◌≤◌};

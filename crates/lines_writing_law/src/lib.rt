@@ -2,10 +2,12 @@
 // It has no code, and may use terms, tables, lines_text_law and lines_reading_law. It promises: settings and events that were written are
 // read back, two reports never share a line, and the lines of settings, events and reports fit a line room.
 
+#![tactic(auto)]
+
 use terms::Refusal;
 
 // What a writer answers: the line's length, or a refusal.
-#[derive(Drop)]
+#[derive(Clone, Copy)]
 pub enum Wrote {
     Written(usize),
     Refused(Refusal),

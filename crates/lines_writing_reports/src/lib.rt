@@ -1,6 +1,8 @@
 // lines_writing_reports: what is said is written into a lent line room: the line of a report, of a refused event, of a bad line.
 // It may use terms, lines_writing and lines_writing_law, and what these use. It promises of any value and room what lines_writing does.
 
+#![tactic(auto)]
+
 ghost use Rattle.std.specs.Prelude.{◌++◌};
 ghost use Rattle.lines_writing_law.specs.Lines.{said_head, report_figures, render_report, refused_figures, render_refused, bad_figures, render_bad};
 ghost use Rattle.lines_writing_law.specs.Writes.{Writes, WritesForm, Formed};

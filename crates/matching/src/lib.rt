@@ -3,6 +3,8 @@
 // says of the counter orders, with one function for both sides, whatever the orders are. It asks for a table that holds them, a range within
 // its bounds, and room for a report of each of them.
 
+#![tactic(auto)]
+
 pub mod crossing;
 pub mod deals;
 pub mod prices;

@@ -1,6 +1,8 @@
 // records: reports read back from the numbers of a report room.
 // It may use terms, tables and records_law. It promises, for any room and place: the report whose record stands there, or that none does.
 
+#![tactic(auto)]
+
 ghost use Rattle.std.specs.Prelude.{◌≡◌, [], ◌∷◌, take, drop};
 ghost use Rattle.tables.specs.Lengths.{record_length};
 ghost use Rattle.records_law.specs.Back.{RecordRead, why_by, report_if, report_from};

@@ -1,10 +1,12 @@
 // records_law: records read back: which report six numbers stand for, or that they stand for none.
 // It has no code and may use terms and tables. It promises: a report's record is read back as that report, and no other answer is right.
 
+#![tactic(auto)]
+
 use terms::Report;
 
 // A report, or that some numbers are no report's.
-#[derive(Drop)]
+#[derive(Clone, Copy)]
 pub enum ReadRecord {
     Told(Report),
     Nothing,

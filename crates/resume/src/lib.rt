@@ -4,6 +4,8 @@
 // Its scratch, two tables and a report room, is lent to `resume_lent`. `resume` has it on the stack: 37,248 bytes; with items 9, 11 and 12 of
 // document 02 it will be 82,688.
 
+#![tactic(auto)]
+
 ghost use Rattle.std.specs.Prelude.{◌≤◌, true, ◌≡◌, length};
 ghost use Rattle.terms.specs.Settings.{settings_verdict};
 ghost use Rattle.state_law.specs.Opening.{fixed_session};

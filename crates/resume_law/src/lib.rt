@@ -3,18 +3,20 @@
 // after any byte, come back as the settings and all whole events; any bytes are answered in exactly one way, by their first bad line; and in
 // whatever pieces a file is read, the same comes back.
 
+#![tactic(auto)]
+
 use state_law::Session;
 use terms::Refusal;
 
 // What saved bytes are answered: how many of them count, or a refusal and its place, counted from the first saved byte.
-#[derive(Drop)]
+#[derive(Clone, Copy)]
 pub enum Comeback {
     Counts(usize),
     Refused(Refusal, usize),
 }
 
 // The answer, and the session that comes back.
-#[derive(Drop)]
+#[derive(Clone, Copy)]
 pub struct Resumed {
     pub answer: Comeback,
     pub session: Session,
@@ -22,7 +24,7 @@ pub struct Resumed {
 
 // What the next event line of saved bytes comes to: applied, with its length; refused by the engine; the start of a line or nothing at all;
 // wrong, with the place in the line.
-#[derive(Drop)]
+#[derive(Clone, Copy)]
 pub enum SavedLine {
     Applied(usize),
     Refused,
@@ -31,7 +33,7 @@ pub enum SavedLine {
 }
 
 // The line, and the session after it.
-#[derive(Drop)]
+#[derive(Clone, Copy)]
 pub struct LineReplayed {
     pub line: SavedLine,
     pub session: Session,
@@ -39,7 +41,7 @@ pub struct LineReplayed {
 
 // Where the replay of lines halts: at a line that is not applied, or at the end of the bytes; its place, the session, and whether an event
 // was among the lines before it.
-#[derive(Drop)]
+#[derive(Clone, Copy)]
 pub struct Halted {
     pub line: SavedLine,
     pub at: usize,
@@ -48,7 +50,7 @@ pub struct Halted {
 }
 
 // The answer, the session, and whether an event was among the lines.
-#[derive(Drop)]
+#[derive(Clone, Copy)]
 pub struct Replayed {
     pub answer: Comeback,
     pub session: Session,
@@ -58,7 +60,7 @@ pub struct Replayed {
 // ---- a file that is read in pieces
 
 // What a file brought back: the answer and the session, and whether it could be read, to its end or to a bad line.
-#[derive(Drop)]
+#[derive(Clone, Copy)]
 pub struct Back {
     pub answer: Comeback,
     pub session: Session,
@@ -66,7 +68,7 @@ pub struct Back {
 }
 
 // What the lines of a piece came to: how many of its bytes were taken, how many of all, what came back, and whether more may follow.
-#[derive(Drop)]
+#[derive(Clone, Copy)]
 pub struct Passed {
     pub used: usize,
     pub before: usize,
@@ -76,7 +78,7 @@ pub struct Passed {
 
 // What is kept from piece to piece: how many bytes stand at the buffer's front, how many were taken before them, what came back, and whether
 // to go on.
-#[derive(Drop)]
+#[derive(Clone, Copy)]
 pub struct Coming {
     pub have: usize,
     pub before: usize,

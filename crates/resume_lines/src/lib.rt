@@ -2,6 +2,8 @@
 // It may use engine, lines_reading and state, and what these use. It promises, of any bytes and of tables and a room that are long enough: the
 // answer, the session and, where an event was among the lines, both tables are those of resume_law.
 
+#![tactic(auto)]
+
 ghost use Rattle.std.specs.Prelude.{◌+◌, ◌^◌, ◌≤◌, ◌<◌, false, ◌≡◌, length};
 ghost use Rattle.state_law.specs.Opening.{fixed_session};
 ghost use Rattle.resume_law.specs.declared.Comeback.{Comeback};

@@ -3,6 +3,8 @@
 // come back is what was to come back before it, all whole lines are taken, and places and counts are those of all pieces; or nothing more is
 // to be read, since a bad line was met and is told, or since the bytes that were read are too many.
 
+#![tactic(auto)]
+
 ghost use Rattle.std.specs.Prelude.{◌≡◌};
 ghost use Rattle.engine_law.specs.Calls.{LongEnough};
 ghost use Rattle.resume_law.specs.Pieces.{back_to, unread_back, passed_to, passed_end, StartTold, StoodAs, PassedAs};

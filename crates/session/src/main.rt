@@ -1,6 +1,9 @@
 // session: reads a day's lines from standard input and prints its report lines to standard output. With `--resume FILE` the day is kept in a
 // file: its lines bring the day back, and each accepted line is appended to it before its reports are printed. Where reading, saving or
 // printing fails the program stops, says so on standard error in one line, and prints nothing more.
+
+#![tactic(auto)]
+
 use stream_law::{Finish, Kept};
 
 // Says how a run ended, where it failed.

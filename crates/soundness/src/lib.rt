@@ -2,6 +2,8 @@
 // It may use book_sound, state and soundness_law, and what these use. It promises: the answer IS document 01's paragraph, for any numbers
 // whatever and for any tables that are long enough; nothing is written.
 
+#![tactic(auto)]
+
 pub mod numbers;
 
 ghost use Rattle.std.specs.Prelude.{◌≡◌, ◌≤◌, length};

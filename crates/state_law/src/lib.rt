@@ -2,12 +2,14 @@
 // It has no code and may use terms and rules_law. It promises: an opened session begins as document 01 says; a trade at an end of the
 // initial band widens it fifteen minutes later and no sooner; two steps of the clock are one.
 
+#![tactic(auto)]
+
 use rules_law::{Reckoning, Tape};
 use terms::{Settings, Verdict};
 
 // What the clock goes by: the time of the last accepted event and whether it was the close; how often the band has been widened and
 // when the cooling-off ends, 0 where none runs; the underlying now, 0 where none is known.
-#[derive(Drop)]
+#[derive(Clone, Copy)]
 pub struct Dial {
     pub time: u64,
     pub closed: bool,
@@ -17,7 +19,7 @@ pub struct Dial {
 }
 
 // How many orders are live on each side, and how many order numbers have been given.
-#[derive(Drop)]
+#[derive(Clone, Copy)]
 pub struct Live {
     pub buys: u64,
     pub sells: u64,
@@ -25,7 +27,7 @@ pub struct Live {
 }
 
 // Everything that is kept of a day except its live orders, which lie in the lent tables.
-#[derive(Drop)]
+#[derive(Clone, Copy)]
 pub struct Session {
     pub settings: Settings,
     pub clock: Dial,
@@ -35,7 +37,7 @@ pub struct Session {
 }
 
 // What an opening answers: whether the settings are refused, and the session.
-#[derive(Drop)]
+#[derive(Clone, Copy)]
 pub struct Opened {
     pub verdict: Verdict,
     pub session: Session,

@@ -5,6 +5,8 @@
 // it, in its order, a comparison answers "same" just where that is what was expected, and a read that fails before the run is over is told as
 // one. Of a descriptor it promises the same for some bytes or other: which it gives, and whether a read fails, no contract can say.
 
+#![tactic(auto)]
+
 ghost use Rattle.std.specs.Prelude.{◌≤◌, ◌<◌, ◌≡◌, [], length};
 ghost use Rattle.terms.specs.Sizes.{line_room};
 ghost use Rattle.engine_law.specs.Calls.{LongTables};
@@ -18,7 +20,7 @@ use stream_law::{Buffered, Finish, Mode, Reading, Sink, Source};
 use tables::lengths;
 
 // What is kept from read to read, and where the source stands.
-#[derive(Drop)]
+#[derive(Clone, Copy)]
 pub struct Heard {
     pub held: Buffered,
     pub from: Source,

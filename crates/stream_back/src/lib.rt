@@ -5,6 +5,8 @@
 // all bytes by resume_law; and where a bad line is met first, that this is told. Of a text that is lent it is known what the reads give;
 // of a descriptor the proof takes what was read.
 
+#![tactic(auto)]
+
 ghost use Rattle.std.specs.Prelude.{◌≤◌, ◌<◌, ◌≡◌, length, take, drop};
 ghost use Rattle.terms.specs.Sizes.{line_room};
 ghost use Rattle.state_law.specs.Opening.{fixed_session};
@@ -25,7 +27,7 @@ use stream_law::Source;
 use terms::{Refusal, Settings, Verdict};
 
 // What is kept from piece to piece, and where the source stands then.
-#[derive(Drop)]
+#[derive(Clone, Copy)]
 pub struct Piece {
     pub coming: Coming,
     pub from: Source,

@@ -4,6 +4,8 @@
 // and what is still to be said make up what the program says; all whole lines are taken, and after a failure none; and at the end all is sent
 // that the program says.
 
+#![tactic(auto)]
+
 ghost use Rattle.std.specs.Prelude.{◌≤◌, ◌≡◌, cond, length, drop};
 ghost use Rattle.terms.specs.Sizes.{line_room};
 ghost use Rattle.feed_law.specs.Texts.{text_most};

@@ -7,6 +7,8 @@
 // could be opened, to be read and to be appended to, and then the same code runs, down to the calls of the C library (see stream_source and
 // stream_sink), for some bytes or other.
 
+#![tactic(auto)]
+
 ghost use Rattle.std.specs.Prelude.{◌≤◌, ◌≡◌, [], length};
 ghost use Rattle.terms.specs.Sizes.{line_room};
 ghost use Rattle.engine_law.specs.Calls.{LongTables, LongEnough};

@@ -5,11 +5,13 @@
 // and of a day that is kept, a comparison answers "same" just where the log is that of its file and its input, and all that is saved and all that
 // is shown in it is what feed_law says.
 
+#![tactic(auto)]
+
 use feed_law::Run;
 
 // Where a run's bytes come from: a descriptor; or a text that is lent, of which so many bytes were read, and behind which is the end of the
 // input, or a read that fails.
-#[derive(Drop)]
+#[derive(Clone, Copy)]
 pub enum Source {
     Live(i32),
     Text(usize),
@@ -18,7 +20,7 @@ pub enum Source {
 
 // Where a run's bytes go, and how they fared: all that was handed went to the file and to standard output; or is held against an expected
 // text, and is its first so many bytes; or is not what was expected; or some could not be saved, or not be printed.
-#[derive(Drop)]
+#[derive(Clone, Copy)]
 pub enum Sink {
     Print,
     Match(usize),
@@ -28,14 +30,14 @@ pub enum Sink {
 }
 
 // Where bytes are handed to: the file of a day, by its descriptor; or standard output.
-#[derive(Drop)]
+#[derive(Clone, Copy)]
 pub enum Place {
     File(i32),
     Output,
 }
 
 // What one write came to: how the sink stands then, and how many bytes were taken.
-#[derive(Drop)]
+#[derive(Clone, Copy)]
 pub struct Wrote {
     pub to: Sink,
     pub taken: usize,
@@ -43,7 +45,7 @@ pub struct Wrote {
 
 // How a run ended: all was printed; what it printed is what was expected, or is not; its input could not be read; some of it
 // could not be saved, or not be printed.
-#[derive(Drop)]
+#[derive(Clone, Copy)]
 pub enum Finish {
     Printed,
     Same,
@@ -54,14 +56,14 @@ pub enum Finish {
 }
 
 // Whether a day is kept: only printed; or kept in the file of a descriptor, so that each line is saved before its text is shown.
-#[derive(Drop)]
+#[derive(Clone, Copy)]
 pub enum Mode {
     Bare,
     Keeping(i32),
 }
 
 // What a call of feed came to: where the run stands, how many bytes were taken, where its output went, whether there are more lines to take.
-#[derive(Drop)]
+#[derive(Clone, Copy)]
 pub struct Handed {
     pub run: Run,
     pub used: usize,
@@ -70,7 +72,7 @@ pub struct Handed {
 }
 
 // Whether to read on: yes; no, since the input or the run is at its end or nothing more may be sent; no, since a read failed.
-#[derive(Drop)]
+#[derive(Clone, Copy)]
 pub enum Reading {
     On,
     Done,
@@ -79,7 +81,7 @@ pub enum Reading {
 
 // What is kept from read to read: the run, how many bytes of an unfinished line stand at the buffer's front, where the output went and how
 // it fared, and whether to read on.
-#[derive(Drop)]
+#[derive(Clone, Copy)]
 pub struct Buffered {
     pub run: Run,
     pub have: usize,
@@ -88,7 +90,7 @@ pub struct Buffered {
 }
 
 // How a day that is kept ended: its file could not be opened, or not be read; or it ran, and how that ended.
-#[derive(Drop)]
+#[derive(Clone, Copy)]
 pub enum Kept {
     NotOpened,
     NotRead,

@@ -3,6 +3,8 @@
 // to a turn of feed_law; it is saved where the turn says so, all of it, and then its text is shown; and where either fails no further line is
 // to be taken.
 
+#![tactic(auto)]
+
 ghost use Rattle.std.specs.Prelude.{◌≤◌, ◌≡◌, length, drop};
 ghost use Rattle.feed_law.specs.Texts.{text_most};
 ghost use Rattle.engine_law.specs.Calls.{LongTables, LongEnough};

@@ -5,6 +5,8 @@
 // number by an equation. That a live sink makes the call that a comparison sees is one line for each: in `write_once`, `settle` and `shorten`.
 // The contracts of the C library name no bytes, so none can say it of those three; days_live runs them, and host/calls holds them to the logs.
 
+#![tactic(auto)]
+
 mod comparing;
 pub mod files;
 mod handing;

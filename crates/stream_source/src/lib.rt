@@ -4,6 +4,8 @@
 // them is answered as one. That a descriptor is read in the same way is one line, in `read_some`; what its reads give no contract can say,
 // since those of the C library name no bytes.
 
+#![tactic(auto)]
+
 ghost use Rattle.std.specs.Prelude.{◌<◌, ◌-◌, min, ◌≡◌, length};
 ghost use Rattle.stream_law.specs.declared.Source.{Source};
 ghost use Rattle.stream_source.specs.Reads.{read_to, CopiedAs, ReadAs, ReadBehind, FilledAs};
@@ -12,7 +14,7 @@ use descriptors::{Got, reading};
 use stream_law::Source;
 
 // What a read came to, and where the source stands then.
-#[derive(Drop)]
+#[derive(Clone, Copy)]
 pub struct Read {
     pub got: Got,
     pub from: Source,

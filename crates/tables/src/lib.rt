@@ -2,6 +2,8 @@
 // It may use terms. It promises: the contract of each call gives the lent numbers afterwards by an equation; behind the live orders a side's
 // table is then zero, and whatever lies past the table is as it was.
 
+#![tactic(auto)]
+
 pub mod flat;
 pub mod lengths;
 pub mod orders;

@@ -9,7 +9,7 @@ use crate::flat;
 use terms::{Report, Said, numbers};
 
 // The fields of a report, in the order of its printed line; zero where there is none.
-#[derive(Drop)]
+#[derive(Clone, Copy)]
 pub struct Four {
     pub first: u64,
     pub second: u64,

@@ -3,6 +3,8 @@
 // carries, each by a definition in specs/ and a function proved equal to it; settings are judged by 12 and then 13, for any 64-bit numbers
 // whatever.
 
+#![tactic(auto)]
+
 pub mod judge;
 pub mod numbers;
 pub mod parts;
@@ -10,7 +12,7 @@ pub mod sizes;
 pub mod ticks;
 
 // What the contract is on (document 01, "Slabs"), in the words of session lines.
-#[derive(Drop)]
+#[derive(Clone, Copy)]
 pub enum Category {
     Broad,
     Narrow,
@@ -23,7 +25,7 @@ pub enum Category {
 }
 
 // One contract on one day. Prices in paise, times in milliseconds from the open; an underlying of 0 means none known.
-#[derive(Drop)]
+#[derive(Clone, Copy)]
 pub struct Settings {
     pub category: Category,
     pub base: u64,
@@ -35,28 +37,28 @@ pub struct Settings {
     pub under: u64,
 }
 
-#[derive(Drop)]
+#[derive(Clone, Copy)]
 pub enum Side {
     Buy,
     Sell,
 }
 
 // A limit order carries its price, a market order carries none.
-#[derive(Drop)]
+#[derive(Clone, Copy)]
 pub enum Kind {
     Limit(u64),
     Market,
 }
 
 // How long an order lives: all day (the paper's "day"), or immediate or cancel.
-#[derive(Drop)]
+#[derive(Clone, Copy)]
 pub enum Life {
     AllDay,
     Ioc,
 }
 
 // An order that comes in.
-#[derive(Drop)]
+#[derive(Clone, Copy)]
 pub struct Entry {
     pub side: Side,
     pub kind: Kind,
@@ -65,7 +67,7 @@ pub struct Entry {
 }
 
 // What an event does: buy or sell, cancel an order by its number, set the underlying, let time pass, or close with today's settlement.
-#[derive(Drop)]
+#[derive(Clone, Copy)]
 pub enum Act {
     Enter(Entry),
     Withdraw(u64),
@@ -74,14 +76,14 @@ pub enum Act {
     Finish(u64),
 }
 
-#[derive(Drop)]
+#[derive(Clone, Copy)]
 pub struct Event {
     pub time: u64,
     pub act: Act,
 }
 
 // An order that rests, with the lots that it has left; or a part of an order, that traded or was cancelled.
-#[derive(Drop)]
+#[derive(Clone, Copy)]
 pub struct Order {
     pub number: u64,
     pub price: u64,
@@ -89,14 +91,14 @@ pub struct Order {
 }
 
 // The lowest and the highest price of the band: a limit outside it is refused.
-#[derive(Drop)]
+#[derive(Clone, Copy)]
 pub struct Band {
     pub low: u64,
     pub high: u64,
 }
 
 // Why an order, or its remainder, was cancelled.
-#[derive(Drop)]
+#[derive(Clone, Copy)]
 pub enum Why {
     Asked,
     Immediate,
@@ -105,7 +107,7 @@ pub enum Why {
     DayEnd,
 }
 
-#[derive(Drop)]
+#[derive(Clone, Copy)]
 pub struct Deal {
     pub buy: u64,
     pub sell: u64,
@@ -113,7 +115,7 @@ pub struct Deal {
     pub price: u64,
 }
 
-#[derive(Drop)]
+#[derive(Clone, Copy)]
 pub struct Ended {
     pub number: u64,
     pub lots: u64,
@@ -121,14 +123,14 @@ pub struct Ended {
 }
 
 // The close price and the next day's base.
-#[derive(Drop)]
+#[derive(Clone, Copy)]
 pub struct Closing {
     pub price: u64,
     pub base: u64,
 }
 
 // What a report says, by its seven kinds.
-#[derive(Drop)]
+#[derive(Clone, Copy)]
 pub enum Said {
     Accept(u64),
     Trade(Deal),
@@ -139,14 +141,14 @@ pub enum Said {
     Close(Closing),
 }
 
-#[derive(Drop)]
+#[derive(Clone, Copy)]
 pub struct Report {
     pub time: u64,
     pub said: Said,
 }
 
 // The rows of document 01's table of refusals, in its order; then those of document 02.
-#[derive(Drop)]
+#[derive(Clone, Copy)]
 pub enum Refusal {
     SmallRoom,
     Unsound,
@@ -169,7 +171,7 @@ pub enum Refusal {
 }
 
 // A judgement: nothing applies, or the first refusal that does.
-#[derive(Drop)]
+#[derive(Clone, Copy)]
 pub enum Verdict {
     Fine,
     Refused(Refusal),

@@ -6,20 +6,20 @@ ghost use Rattle.terms.specs.code.Parts.{number_in, carried_in};
 
 use crate::{Act, Entry, Kind};
 
-#[derive(Drop)]
+#[derive(Clone, Copy)]
 pub enum MaybeNumber {
     Given(u64),
     Missing,
 }
 
-#[derive(Drop)]
+#[derive(Clone, Copy)]
 pub enum MaybeEntry {
     Given(Entry),
     Missing,
 }
 
 // The parts that specs/Carried.antt lists.
-#[derive(Drop)]
+#[derive(Clone, Copy)]
 pub struct Parts {
     pub entry: MaybeEntry,
     pub number: MaybeNumber,

@@ -1,0 +1,15 @@
+-- After j turns the first j numbers are written.
+use Prim.Native.Nat.{◌≤◌, ◌-◌}
+use native.Mathlib.Omega.{arith}
+use mathlib.Core.Path.{◌≡◌}
+use lib.ListN.{length, take}
+use Rattle.tables.specs.Put.{put}
+use Rattle.tables.proofs.Lays.{laid_none, laid_turn, laid-all}
+use borrow.Author.Rules.{rules}
+use Rattle.tables.proofs.flat.lay.Given as goal
+
+abbrev pub invariant-loop-j : goal.invariant-loop-j
+invariant-loop-j l = (l.j ≤ length l.ns) × (length l.run ≡ length l.initial.run) × (l.run ≡ put l.initial.run 0 (take l.j l.ns))
+
+abbrev pub decreases-loop-j : goal.decreases-loop-j
+decreases-loop-j l = length l.ns - l.j
