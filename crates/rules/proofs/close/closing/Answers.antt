@@ -1,0 +1,13 @@
+-- Each return is one case of the close price: the half hour, the last ten, or else the last trade or the previous close.
+use borrow.Author.Rules.{rules}
+use Rattle.rules_law.proofs.Tapes.{closings}
+use Rattle.rules.proofs.close.closing.Goals as goal
+
+pub returns-then-half-ge10 : goal.returns-then-half-ge10
+returns-then-half-ge10 c = search closings
+
+pub returns-then-trades-ge10 : goal.returns-then-trades-ge10
+returns-then-trades-ge10 c = search closings
+
+pub returns : goal.returns
+returns c = search closings

@@ -1,0 +1,12 @@
+-- After i turns the first i trades are in the tally, and the rest added to it gives the tally of all ten; no sum overflows.
+use borrow.Author.Rules.{rules}
+use Prim.Native.Nat.{◌-◌}
+use Rattle.rules_law.proofs.Tapes.{Tallying, ten_turn, ten_end}
+use native.Mathlib.Omega.{arith}
+use Rattle.rules.proofs.close.last_ten.Given as goal
+
+abbrev pub invariant-loop-i : goal.invariant-loop-i
+invariant-loop-i l = Tallying l.prices l.sizes l.t l.i
+
+abbrev pub decreases-loop-i : goal.decreases-loop-i
+decreases-loop-i l = 10 - l.i
