@@ -1,0 +1,17 @@
+-- No order before slot i has the number, so the search goes on from there.
+use borrow.Author.Rules.{rules}
+use Prim.Native.Nat.{◌+◌, ◌-◌, ◌≤◌}
+use mathlib.Core.Path.{◌≡◌}
+use lib.ListN.{drop}
+use Rattle.tables.specs.Tables.{decode}
+use Rattle.book_law.specs.code.Places.{first_where}
+use lib.Dec.{eqb}
+use borrow.Author.Tests.{eq-eqb, ne_eqb}
+use Rattle.book_law.proofs.Search.{search_none, search_found, search_turn}
+use Rattle.book.proofs.side.find.Given as goal
+
+abbrev pub invariant-loop-i : goal.invariant-loop-i
+invariant-loop-i l = (l.i ≤ l.n) × (first_where (λ x. eqb x.number l.number) (decode l.n l.t) ≡ l.i + first_where (λ x. eqb x.number l.number) (drop l.i (decode l.n l.t)))
+
+abbrev pub decreases-loop-i : goal.decreases-loop-i
+decreases-loop-i l = l.n - l.i
