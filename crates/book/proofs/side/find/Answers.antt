@@ -1,11 +1,5 @@
 -- No order before slot i has the number, so the search goes on from there.
 use borrow.Author.Rules.{rules}
-use Prim.Native.Nat.{◌+◌, ◌-◌, ◌≤◌}
-use mathlib.Core.Path.{◌≡◌}
-use lib.ListN.{drop}
-use Rattle.tables.specs.Tables.{decode}
-use Rattle.book_law.specs.code.Places.{first_where}
-use lib.Dec.{eqb}
 use borrow.Author.Tests.{eq-eqb, ne_eqb}
 use Rattle.book_law.proofs.Search.{search_none, search_found, search_turn}
 use Rattle.book.proofs.side.find.Goals as goal

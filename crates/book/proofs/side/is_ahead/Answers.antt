@@ -1,6 +1,5 @@
 -- Each test of the code is one of the definition's.
 use Rattle.book_law.specs.Priority.{ahead}
-use borrow.Author.Rules.{rules}
 use Rattle.book.proofs.side.is_ahead.Goals as goal
 
 pub returns : goal.returns

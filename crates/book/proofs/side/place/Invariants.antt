@@ -1,12 +1,10 @@
 -- The new order goes behind every order in the slots below i, so the search goes on from there.
-use borrow.Author.Rules.{rules}
 use Prim.Native.Nat.{◌+◌, ◌-◌, ◌≤◌}
 use mathlib.Core.Path.{◌≡◌}
 use lib.ListN.{drop}
 use Rattle.tables.specs.Tables.{decode}
 use Rattle.book_law.specs.code.Places.{first_where}
 use Rattle.book_law.specs.Priority.{ahead}
-use Rattle.book_law.proofs.Search.{search_none, search_found, search_turn, told}
 use Rattle.book.proofs.side.place.Given as goal
 
 abbrev pub invariant-loop-i : goal.invariant-loop-i

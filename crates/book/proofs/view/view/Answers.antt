@@ -1,7 +1,6 @@
 -- The lengths are tested in the definition's order, then each arm returns the live part of its side.
 use borrow.Author.Tests.{lt-ltb, le-ltb}
 use Rattle.book_law.specs.View.{view_of}
-use borrow.Author.Rules.{rules}
 use Rattle.book.proofs.view.view.Goals as goal
 
 pub returns-then-buys-lt-TABLE : goal.returns-then-buys-lt-TABLE
@@ -14,8 +13,8 @@ returns-then-sells-lt-TABLE c = simp (le-ltb _ _ c.if-buys-lt-TABLE.false, lt-lt
 
 pub returns-in-Buy : goal.returns-in-Buy
 unfolding view_of
-returns-in-Buy c = simp (le-ltb _ _ c.if-buys-lt-TABLE.false, le-ltb _ _ c.if-sells-lt-TABLE.false, c.enum_told-1.given.1) c.live.ensures
+returns-in-Buy c = simp (le-ltb _ _ c.if-buys-lt-TABLE.false, le-ltb _ _ c.if-sells-lt-TABLE.false, c.in-Buy.is) c.live.ensures
 
 pub returns-in-Sell : goal.returns-in-Sell
 unfolding view_of
-returns-in-Sell c = simp (le-ltb _ _ c.if-buys-lt-TABLE.false, le-ltb _ _ c.if-sells-lt-TABLE.false, c.enum_told-in-Sell-1.given.1) c.live-in-Sell.ensures
+returns-in-Sell c = simp (le-ltb _ _ c.if-buys-lt-TABLE.false, le-ltb _ _ c.if-sells-lt-TABLE.false, c.in-Sell.is) c.live-in-Sell.ensures
