@@ -2,11 +2,9 @@
 use Prim.Native.Nat.{◌-◌, ◌≤◌}
 use mathlib.Core.Path.{◌≡◌}
 use lib.ListN.{length, drop}
-use borrow.Author.Rules.{rules}
 use Rattle.tables.specs.Tables.{decode}
 use Rattle.book_sound_law.specs.code.Marks.{marked}
 use Rattle.book_sound_law.specs.code.Pass.{low_bits, pass_of}
-use Rattle.book_sound_law.proofs.Turns.{fine_keyed, inside, marks_all, marks_turn, pass_all, pass_bad, pass_unsorted, pass-seen, pass-turn}
 use Rattle.book_sound.proofs.pass.side_by.Given as goal
 
 abbrev pub invariant-loop-i : goal.invariant-loop-i

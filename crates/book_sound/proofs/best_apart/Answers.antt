@@ -1,0 +1,15 @@
+-- A side has no order, or the first order of each is its best.
+use borrow.Author.Rules.{rules}
+use Rattle.book_sound_law.proofs.Books.{no-buys, no-sells, bests}
+use Rattle.book_sound.proofs.best_apart.Goals as goal
+
+ruleset answers = (rules, no-buys, no-sells, bests)
+
+pub returns-then-nbuys-eq0 : goal.returns-then-nbuys-eq0
+returns-then-nbuys-eq0 c = search answers
+
+pub returns-then-nsells-eq0 : goal.returns-then-nsells-eq0
+returns-then-nsells-eq0 c = search answers
+
+pub returns : goal.returns
+returns c = search answers
