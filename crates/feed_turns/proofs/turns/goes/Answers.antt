@@ -1,0 +1,15 @@
+-- One arm for each answer of `apply`: the reports are printed, or the refusal is.
+use Rattle.feed_law.proofs.Taking.{reports-held, lines-held, goes-told, goes-refused}
+use borrow.Author.Rules.{rules}
+use Rattle.feed_turns.proofs.turns.goes.Goals as goal
+
+ruleset answers = (rules, reports-held, lines-held, goes-told, goes-refused)
+
+pub tell_records-wrote-requires : goal.tell_records-wrote-requires
+tell_records-wrote-requires c = search answers
+
+pub returns-in-Reported : goal.returns-in-Reported
+returns-in-Reported c = search answers
+
+pub returns-in-Refused : goal.returns-in-Refused
+returns-in-Refused c = search answers
