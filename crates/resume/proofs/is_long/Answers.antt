@@ -2,12 +2,8 @@
 use mathlib.Core.Path.{refl}
 use Rattle.terms.specs.Truth.{◌⊓◌}
 use Rattle.resume_law.specs.Calls.{tables_long}
-use Rattle.resume.proofs.is_long.Statement.{statement}
-use Rattle.resume.proofs.is_long.Tie as tie
+use Rattle.resume.proofs.is_long.Goals as goal
 
-returns : tie.Need-returns
+pub returns : goal.returns
 unfolding tables_long ◌⊓◌
 returns c = refl
-
-pub is-long-spec : {M : Type 1} → statement M
-is-long-spec = tie.close (tie.spec returns)
