@@ -1,0 +1,9 @@
+-- The writer's line is printed, and the count is how many bytes it wrote.
+use borrow.Author.Rules.{rules}
+use Rattle.feed_law.proofs.Prints.{writes_prints}
+use Rattle.feed_law.specs.Texts.{bad_text}
+use Rattle.feed_prints.proofs.printing.tell_bad.Goals as goal
+
+pub returns : goal.returns
+unfolding bad_text
+returns c = writes_prints (search rules) c.write_bad.ensures _ c.length_of.ensures
