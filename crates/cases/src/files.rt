@@ -15,7 +15,13 @@ fn end_with(path: &mut [u8], n: usize, ending: &[u8])
 }
 
 // Opens a file of a case: its name is the first n bytes of a path, followed by an ending.
-pub fn open_file(rt: &HostRuntime, live: &mut Live, path: &mut [u8], n: usize, ending: &[u8]) -> i32 {
+pub fn open_file(
+    rt: &HostRuntime,
+    live: &mut Live,
+    path: &mut [u8],
+    n: usize,
+    ending: &[u8],
+) -> i32 {
     if path.len() < n {
         return -1;
     }
