@@ -1,0 +1,12 @@
+-- Each arm is a case of the verdict: the row that refuses is answered, or the event is carried out.
+use borrow.Author.Rules.{rules}
+use Rattle.engine_law.proofs.Applies.{refused_as, accepted_as}
+use Rattle.engine.proofs.apply.judged.Goals as goal
+
+ruleset answers = (rules, refused_as, accepted_as)
+
+pub returns-in-Refused : goal.returns-in-Refused
+returns-in-Refused c = search answers
+
+pub returns-in-Fine : goal.returns-in-Fine
+returns-in-Fine c = search answers
