@@ -1,9 +1,9 @@
 // descriptors: reads bytes from a descriptor and writes them to one. A call that was interrupted, or that found the other side not ready, is
 // made again; any other failure is reported.
-// It may use os, io and libc. It promises that it is safe and ends; that the outcome of a call is what its number and its error say
+// It may use io and std. It promises that it is safe and ends; that the outcome of a call is what its number and its error say
 // (`outcome_by`), that an answer is not that of a call which is to be made again (`SettledAs`), and is what its outcome says (`got_by`, `taken_by`: a
 // read that failed is answered as one); and that no count is more than there is room for. That it is the call that was made of which is
-// answered, and which bytes are read and written, no contract can say: those of the C library name neither.
+// answered, and which bytes are read and written, no contract can say: those of std name neither.
 
 #![tactic(auto)]
 

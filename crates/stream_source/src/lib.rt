@@ -2,7 +2,7 @@
 // It may use descriptors and the definitions of stream_law. It promises, of any text: a read copies its next bytes, as many as there is room
 // for; behind the last it answers the end, or that it failed, as the source says; and where a buffer is filled in many reads, a failure among
 // them is answered as one. That a descriptor is read in the same way is one line, in `read_some`; what its reads give no contract can say,
-// since those of the C library name no bytes.
+// since those of std name no bytes.
 
 #![tactic(auto)]
 
