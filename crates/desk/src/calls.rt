@@ -39,8 +39,7 @@ fn answer_to(v: Verdict) -> u64
 }
 
 // Opens a session: 0 and the session, or 12 or 13 and the fixed session; 1 if a slice is too short.
-#[unsafe(no_mangle)]
-pub extern "C" fn kakoludar_open(settings: &[u64], session: &mut [u64]) -> u64
+pub fn kakoludar_open(settings: &[u64], session: &mut [u64]) -> u64
     ensures { OpenedAs settings.now session.old session.new result }
 {
     if settings.len() < runs::SETTINGS {
@@ -101,8 +100,7 @@ fn carried(
 }
 
 // Applies an event and answers the count of its reports, or a refusal, which writes nothing.
-#[unsafe(no_mangle)]
-pub extern "C" fn kakoludar_apply(
+pub fn kakoludar_apply(
     session: &mut [u64],
     event: &[u64],
     buys: &mut [u64],
@@ -126,8 +124,7 @@ pub extern "C" fn kakoludar_apply(
 }
 
 // Whether a session is sound, with the orders in its tables: 1 or 0.
-#[unsafe(no_mangle)]
-pub extern "C" fn kakoludar_sound(session: &[u64], buys: &[u64], sells: &[u64]) -> u64
+pub fn kakoludar_sound(session: &[u64], buys: &[u64], sells: &[u64]) -> u64
     ensures { result ≡ sound_on session.now buys.now sells.now }
 {
     if session.len() < runs::SESSION {
@@ -153,13 +150,7 @@ fn view_length<'a>(side: Side, s: Session, buys: &'a [u64], sells: &'a [u64]) ->
 }
 
 // The length of the view of the named side, 1 buy or 2 sell: it starts at number 0 of that side's table.
-#[unsafe(no_mangle)]
-pub extern "C" fn kakoludar_view<'a>(
-    side: u64,
-    session: &[u64],
-    buys: &'a [u64],
-    sells: &'a [u64],
-) -> u64
+pub fn kakoludar_view<'a>(side: u64, session: &[u64], buys: &'a [u64], sells: &'a [u64]) -> u64
     ensures { result ≡ view_on side session.now buys.now sells.now }
 {
     if session.len() < runs::SESSION {

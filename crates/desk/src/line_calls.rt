@@ -25,8 +25,7 @@ pub fn wrote(w: Wrote) -> u64
 }
 
 // Reads the event whose line the bytes start with; answers how many bytes it took, or 14, or 15 with the place.
-#[unsafe(no_mangle)]
-pub extern "C" fn kakoludar_read_event(line: &[u8], event: &mut [u64]) -> u64
+pub fn kakoludar_read_event(line: &[u8], event: &mut [u64]) -> u64
     ensures { EventReadInto line.now event.old event.new result }
 {
     if event.len() < runs::EVENT {
@@ -44,8 +43,7 @@ pub extern "C" fn kakoludar_read_event(line: &[u8], event: &mut [u64]) -> u64
 }
 
 // Reads the settings whose line the bytes start with; answers as for an event.
-#[unsafe(no_mangle)]
-pub extern "C" fn kakoludar_read_settings(line: &[u8], settings: &mut [u64]) -> u64
+pub fn kakoludar_read_settings(line: &[u8], settings: &mut [u64]) -> u64
     ensures { SettingsReadInto line.now settings.old settings.new result }
 {
     if settings.len() < runs::SETTINGS {
@@ -73,8 +71,7 @@ fn no_line(line: &[u8]) -> u64
 }
 
 // Writes the line of a report, from its record; answers how many bytes it has, 0 where the numbers are no report's, or a refusal.
-#[unsafe(no_mangle)]
-pub extern "C" fn kakoludar_write_report(report: &[u64], line: &mut [u8]) -> u64
+pub fn kakoludar_write_report(report: &[u64], line: &mut [u8]) -> u64
     ensures { ReportWrittenOn report.now line.old line.new result }
 {
     if report.len() < lengths::RECORD {
@@ -90,8 +87,7 @@ pub extern "C" fn kakoludar_write_report(report: &[u64], line: &mut [u8]) -> u64
 }
 
 // Writes the line of an event.
-#[unsafe(no_mangle)]
-pub extern "C" fn kakoludar_write_event(event: &[u64], line: &mut [u8]) -> u64
+pub fn kakoludar_write_event(event: &[u64], line: &mut [u8]) -> u64
     ensures { EventWrittenOn event.now line.old line.new result }
 {
     if event.len() < runs::EVENT {
@@ -107,8 +103,7 @@ pub extern "C" fn kakoludar_write_event(event: &[u64], line: &mut [u8]) -> u64
 }
 
 // Writes the line of settings.
-#[unsafe(no_mangle)]
-pub extern "C" fn kakoludar_write_settings(settings: &[u64], line: &mut [u8]) -> u64
+pub fn kakoludar_write_settings(settings: &[u64], line: &mut [u8]) -> u64
     ensures { SettingsWrittenOn settings.now line.old line.new result }
 {
     if settings.len() < runs::SETTINGS {

@@ -46,8 +46,7 @@ fn lay_resumed(session: &mut [u64], place: &mut [u64], resumed: Resumed) -> u64
 
 // Comes back from saved bytes: 0, the session and the tables of the settings and all whole events, and how many bytes count; or the fixed
 // session, with 1 for a short table, 14, 15 or 22, and the place. If the session's slice or the place is too short: 1, and nothing is written.
-#[unsafe(no_mangle)]
-pub extern "C" fn kakoludar_resume(
+pub fn kakoludar_resume(
     saved: &[u8],
     session: &mut [u64],
     buys: &mut [u64],
@@ -67,8 +66,7 @@ pub extern "C" fn kakoludar_resume(
 }
 
 // The same, with lent scratch, two spare tables and a room, for an app whose stack is small. The scratch is zero afterwards.
-#[unsafe(no_mangle)]
-pub extern "C" fn kakoludar_resume_lent(
+pub fn kakoludar_resume_lent(
     saved: &[u8],
     session: &mut [u64],
     buys: &mut [u64],

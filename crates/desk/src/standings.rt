@@ -57,13 +57,7 @@ fn lay_stood(run: &mut [u64], stood: Stood) -> u64
 }
 
 // Where a session stands: 0 and 14 numbers; or 1 if a slice is too short, 2 if the session is not sound, with nothing written.
-#[unsafe(no_mangle)]
-pub extern "C" fn kakoludar_standing(
-    session: &[u64],
-    buys: &[u64],
-    sells: &[u64],
-    standing: &mut [u64],
-) -> u64
+pub fn kakoludar_standing(session: &[u64], buys: &[u64], sells: &[u64], standing: &mut [u64]) -> u64
     ensures { StandingOn session.now buys.now sells.now standing.old standing.new result }
 {
     if session.len() < runs::SESSION {
@@ -78,16 +72,14 @@ pub extern "C" fn kakoludar_standing(
 }
 
 // The number of this library.
-#[unsafe(no_mangle)]
-pub extern "C" fn kakoludar_version() -> u64
+pub fn kakoludar_version() -> u64
     ensures { result ≡ version }
 {
     VERSION
 }
 
 // The number of the layout of stored numbers, which a session begins with.
-#[unsafe(no_mangle)]
-pub extern "C" fn kakoludar_layout() -> u64
+pub fn kakoludar_layout() -> u64
     ensures { result ≡ layout }
 {
     runs::LAYOUT

@@ -11,8 +11,7 @@ use terms::Refusal;
 pub const COUNTS: usize = 2;
 
 // Writes a run that has taken no line yet; 1 if the slice is too short.
-#[unsafe(no_mangle)]
-pub extern "C" fn kakoludar_start(run: &mut [u64]) -> u64
+pub fn kakoludar_start(run: &mut [u64]) -> u64
     ensures { StartedAs run.old run.new result }
 {
     if run.len() < desk_runs::RUN {
@@ -74,8 +73,7 @@ fn lay_taken(run: &mut [u64], counts: &mut [u64], t: Taken) -> u64
 
 // Takes the whole lines of some bytes and prints what they say. Answers why it took no more; the counts are of the bytes taken and the
 // bytes printed. A refusal writes nothing.
-#[unsafe(no_mangle)]
-pub extern "C" fn kakoludar_feed(
+pub fn kakoludar_feed(
     run: &mut [u64],
     bytes: &[u8],
     buys: &mut [u64],
@@ -98,8 +96,7 @@ pub extern "C" fn kakoludar_feed(
 }
 
 // The same with the last bytes of the input: once no whole line is left, the end of the input is judged too, and the run is over.
-#[unsafe(no_mangle)]
-pub extern "C" fn kakoludar_end(
+pub fn kakoludar_end(
     run: &mut [u64],
     bytes: &[u8],
     buys: &mut [u64],
