@@ -66,7 +66,7 @@ fn is_resume(word: &[u8]) -> bool {
 
 // The file that the arguments name, `--resume FILE`.
 fn keep_named(rt: &HostRuntime, live: &mut Live) -> bool {
-    let mut word = io::buffer();
+    let mut word = [0u8; 4096];
     let n = args::arg(rt, 1, &mut word);
     if !is_resume(&word[0..n]) {
         return false;
