@@ -1,6 +1,8 @@
 // The files of a case, by its name.
 ghost use Rattle.std.specs.Prelude.{◌+◌, ◌≤◌, length};
 
+use descriptors::live::Live;
+
 // Puts an ending behind the first n bytes of a path.
 fn end_with(path: &mut [u8], n: usize, ending: &[u8])
     requires { n + length ending.now ≤ length path.old }
@@ -13,7 +15,13 @@ fn end_with(path: &mut [u8], n: usize, ending: &[u8])
 }
 
 // Opens a file of a case: its name is the first n bytes of a path, followed by an ending.
-pub fn open_file(path: &mut [u8], n: usize, ending: &[u8]) -> i32 {
+pub fn open_file(
+    rt: &HostRuntime,
+    live: &mut Live,
+    path: &mut [u8],
+    n: usize,
+    ending: &[u8],
+) -> i32 {
     if path.len() < n {
         return -1;
     }
@@ -22,5 +30,5 @@ pub fn open_file(path: &mut [u8], n: usize, ending: &[u8]) -> i32 {
     }
     let end = n + ending.len();
     end_with(path, n, ending);
-    os::open_read(&path[0..end])
+    live.open_read(rt, &path[0..end])
 }

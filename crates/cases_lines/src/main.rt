@@ -5,12 +5,16 @@
 
 ghost use Rattle.std.specs.Prelude.{◌<◌, ◌≤◌, length};
 
-use libc::{STDIN_FILENO, STDOUT_FILENO};
 use lines_reading_law::{ReadEvent, ReadSettings};
 use lines_writing_law::Wrote;
 use records_law::ReadRecord;
 use tables::lengths;
 use terms::{Act, Event, Refusal, numbers, sizes};
+
+// The descriptors of standard input and standard output.
+const INPUT: i32 = 0;
+
+const OUTPUT: i32 = 1;
 
 // The records of the listing's reports, and two that are no report's: an unknown kind, and an unused number that is not zero.
 const RECORDS: [u64; 90] = [
@@ -25,13 +29,13 @@ fn show(wrote: Wrote, line: &[u8]) {
     match wrote {
         Wrote::Written(n) => {
             if n <= line.len() {
-                io::write_all(STDOUT_FILENO, &line[0..n]);
+                io::write_all(OUTPUT, &line[0..n]);
             }
         }
         Wrote::Refused(r) => {
-            io::write_all(STDOUT_FILENO, b"refused ");
-            io::print_decimal(STDOUT_FILENO, numbers::of_refusal(r));
-            io::write_all(STDOUT_FILENO, b"\n");
+            io::write_all(OUTPUT, b"refused ");
+            io::print_decimal(OUTPUT, numbers::of_refusal(r));
+            io::write_all(OUTPUT, b"\n");
         }
     }
 }
@@ -173,7 +177,7 @@ fn show_report(room: &[u64], at: usize) {
             show(wrote, &line);
         }
         ReadRecord::Nothing => {
-            io::write_all(STDOUT_FILENO, b"no report\n");
+            io::write_all(OUTPUT, b"no report\n");
         }
     }
 }
@@ -207,7 +211,7 @@ fn show_refusals() {
 
 fn main() {
     let mut text = io::buffer();
-    let n = io::read_full(STDIN_FILENO, &mut text);
+    let n = io::read_full(INPUT, &mut text);
     show_lines(&text[0..n]);
     damage(&mut text[0..n]);
     show_places();

@@ -1,6 +1,7 @@
 // The two files of a case, read and judged.
 use crate::{judging, text};
 use cases::counts::Ending;
+use descriptors::live::Live;
 use descriptors::{Load, reading};
 
 // The room for saved bytes; a file that fills its room counts as unreadable.
@@ -15,8 +16,8 @@ fn judged(right: bool) -> Ending {
 }
 
 // Reads the expected answer, and judges what the saved bytes come back as.
-fn hold_to(saved: &[u8], answer: i32, room: &mut [u8]) -> Ending {
-    match reading::read_whole(answer, room) {
+fn hold_to(live: &Live, saved: &[u8], answer: i32, room: &mut [u8]) -> Ending {
+    match reading::read_whole(live, answer, room) {
         Load::Whole(n) => judged(judging::is_right(saved, &room[0..n])),
         Load::TooLong => Ending::Unread,
         Load::Failed => Ending::Unread,
@@ -24,20 +25,20 @@ fn hold_to(saved: &[u8], answer: i32, room: &mut [u8]) -> Ending {
 }
 
 // Reads the saved bytes, and goes on to the answer.
-fn hold(saved: i32, answer: i32, bytes: &mut [u8], room: &mut [u8]) -> Ending {
-    match reading::read_whole(saved, bytes) {
-        Load::Whole(n) => hold_to(&bytes[0..n], answer, room),
+fn hold(live: &Live, saved: i32, answer: i32, bytes: &mut [u8], room: &mut [u8]) -> Ending {
+    match reading::read_whole(live, saved, bytes) {
+        Load::Whole(n) => hold_to(live, &bytes[0..n], answer, room),
         Load::TooLong => Ending::Unread,
         Load::Failed => Ending::Unread,
     }
 }
 
 // Runs the case of two open files, with a room for each.
-pub fn run(saved: i32, answer: i32) -> Ending {
+pub fn run(live: &mut Live, saved: i32, answer: i32) -> Ending {
     let mut bytes = [0u8; SAVED];
     let mut room = [0u8; text::ROOM];
-    let told = hold(saved, answer, &mut bytes, &mut room);
-    libc::close(saved);
-    libc::close(answer);
+    let told = hold(live, saved, answer, &mut bytes, &mut room);
+    live.close(saved);
+    live.close(answer);
     told
 }

@@ -17,24 +17,27 @@ mod text;
 
 use cases::counts;
 use cases::counts::Count;
+use descriptors::args;
+use descriptors::live::Live;
 
 // Runs the case that an argument names, and prints a line that says how it ended.
-fn case(i: usize, count: Count) -> Count {
+fn case(rt: &HostRuntime, live: &mut Live, i: usize, count: Count) -> Count {
     let mut path = io::buffer();
-    let n = os::arg(i, &mut path);
-    let saved = cases::files::open_file(&mut path, n, b".saved");
-    let answer = cases::files::open_file(&mut path, n, b".answer");
-    let told = holding::run(saved, answer);
+    let n = args::arg(rt, i, &mut path);
+    let saved = cases::files::open_file(rt, live, &mut path, n, b".saved");
+    let answer = cases::files::open_file(rt, live, &mut path, n, b".answer");
+    let told = holding::run(live, saved, answer);
     io::write_all(1, &path[0..n]);
     counts::tell(told, count)
 }
 
-fn main() {
-    let n = os::arg_count();
+fn main(rt: HostRuntime) {
+    let mut live = Live::none();
+    let n = args::count(&rt);
     let mut count = counts::none();
     let mut i: usize = 1;
     while i < n {
-        count = case(i, count);
+        count = case(&rt, &mut live, i, count);
         i += 1;
     }
     controls::all();

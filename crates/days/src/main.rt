@@ -5,7 +5,8 @@
 
 use cases::counts::{Count, Ending};
 use cases::{counts, files};
-use descriptors::{Load, reading};
+use descriptors::live::Live;
+use descriptors::{Load, args, reading};
 use feed::lines;
 use stream_law::Finish;
 
@@ -16,8 +17,8 @@ const EXPECTED: usize = lines::TEXT * 4;
 const INPUT: usize = 131_072;
 
 // Compares all that a day prints with all of an expected output.
-fn hold_to(given: &[u8], expected: i32, room: &mut [u8]) -> Finish {
-    match reading::read_whole(expected, room) {
+fn hold_to(live: &Live, given: &[u8], expected: i32, room: &mut [u8]) -> Finish {
+    match reading::read_whole(live, expected, room) {
         Load::Whole(n) => stream::compare(given, &room[0..n]),
         Load::TooLong => Finish::Unread,
         Load::Failed => Finish::Unread,
@@ -25,21 +26,21 @@ fn hold_to(given: &[u8], expected: i32, room: &mut [u8]) -> Finish {
 }
 
 // Reads a day's input, and goes on to its expected output.
-fn hold(input: i32, expected: i32, text: &mut [u8], room: &mut [u8]) -> Finish {
-    match reading::read_whole(input, text) {
-        Load::Whole(n) => hold_to(&text[0..n], expected, room),
+fn hold(live: &Live, input: i32, expected: i32, text: &mut [u8], room: &mut [u8]) -> Finish {
+    match reading::read_whole(live, input, text) {
+        Load::Whole(n) => hold_to(live, &text[0..n], expected, room),
         Load::TooLong => Finish::Unread,
         Load::Failed => Finish::Unread,
     }
 }
 
 // Runs the day of two open files, with a room for each.
-fn run(input: i32, expected: i32) -> Finish {
+fn run(live: &mut Live, input: i32, expected: i32) -> Finish {
     let mut text = [0u8; INPUT];
     let mut room = [0u8; EXPECTED];
-    let told = hold(input, expected, &mut text, &mut room);
-    libc::close(input);
-    libc::close(expected);
+    let told = hold(live, input, expected, &mut text, &mut room);
+    live.close(input);
+    live.close(expected);
     told
 }
 
@@ -53,22 +54,23 @@ fn ending(told: Finish) -> Ending {
 }
 
 // Runs the day that an argument names, and prints a line that says how it ended.
-fn day(i: usize, count: Count) -> Count {
+fn day(rt: &HostRuntime, live: &mut Live, i: usize, count: Count) -> Count {
     let mut path = io::buffer();
-    let n = os::arg(i, &mut path);
-    let input = files::open_file(&mut path, n, b".in");
-    let expected = files::open_file(&mut path, n, b".out");
-    let told = run(input, expected);
+    let n = args::arg(rt, i, &mut path);
+    let input = files::open_file(rt, live, &mut path, n, b".in");
+    let expected = files::open_file(rt, live, &mut path, n, b".out");
+    let told = run(live, input, expected);
     io::write_all(1, &path[0..n]);
     counts::tell(ending(told), count)
 }
 
-fn main() {
-    let n = os::arg_count();
+fn main(rt: HostRuntime) {
+    let mut live = Live::none();
+    let n = args::count(&rt);
     let mut count = counts::none();
     let mut i: usize = 1;
     while i < n {
-        count = day(i, count);
+        count = day(&rt, &mut live, i, count);
         i += 1;
     }
     counts::total(count, b"days");

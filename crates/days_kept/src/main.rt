@@ -2,7 +2,7 @@
 // the cases: NAME.day is the file as it is found, NAME.in the input, and NAME.log the log: first the bytes of the file that stay, then each
 // part in its order, what is saved behind `>` and what is shown behind `<`, and `|` for each wait until all that the file was handed has reached
 // the disk. A case named `wrong-..` has a log that is wrong on purpose; one named `broken-..` has a file of which a read fails behind its last byte.
-// It may use io, libc, os, cases, descriptors, stream_law and stream_keep. It promises that it is safe and ends. All three are read first, so that
+// It may use io, cases, descriptors, stream_law and stream_keep. It promises that it is safe and ends. All three are read first, so that
 // what a comparison answers is right for their bytes (`LogCompared` in stream_law). No file is written, and of the bytes that stay only their
 // number is compared (`kept_log`).
 
@@ -10,7 +10,8 @@
 
 use cases::counts::{Count, Ending};
 use cases::{counts, files};
-use descriptors::{Load, reading};
+use descriptors::live::Live;
+use descriptors::{Load, args, reading};
 use stream_law::{Finish, Kept};
 
 // The room for each text; a longer one counts as unreadable.
@@ -25,8 +26,8 @@ fn compare(broken: bool, kept: &[u8], given: &[u8], expected: &[u8]) -> Kept {
 }
 
 // Reads the expected log, and compares.
-fn hold_to(broken: bool, kept: &[u8], given: &[u8], expected: i32, room: &mut [u8]) -> Kept {
-    match reading::read_whole(expected, room) {
+fn hold_to(live: &Live, broken: bool, kept: &[u8], given: &[u8], expected: i32, room: &mut [u8]) -> Kept {
+    match reading::read_whole(live, expected, room) {
         Load::Whole(n) => compare(broken, kept, given, &room[0..n]),
         Load::TooLong => Kept::NotOpened,
         Load::Failed => Kept::NotOpened,
@@ -35,6 +36,7 @@ fn hold_to(broken: bool, kept: &[u8], given: &[u8], expected: i32, room: &mut [u
 
 // Reads the input, and goes on to the expected log.
 fn hold_behind(
+    live: &Live,
     broken: bool,
     kept: &[u8],
     input: i32,
@@ -42,8 +44,8 @@ fn hold_behind(
     text: &mut [u8],
     room: &mut [u8],
 ) -> Kept {
-    match reading::read_whole(input, text) {
-        Load::Whole(n) => hold_to(broken, kept, &text[0..n], expected, room),
+    match reading::read_whole(live, input, text) {
+        Load::Whole(n) => hold_to(live, broken, kept, &text[0..n], expected, room),
         Load::TooLong => Kept::NotOpened,
         Load::Failed => Kept::NotOpened,
     }
@@ -51,6 +53,7 @@ fn hold_behind(
 
 // Reads the file, and goes on to the input.
 fn hold(
+    live: &Live,
     broken: bool,
     saved: i32,
     input: i32,
@@ -59,24 +62,25 @@ fn hold(
     text: &mut [u8],
     room: &mut [u8],
 ) -> Kept {
-    match reading::read_whole(saved, file) {
-        Load::Whole(n) => hold_behind(broken, &file[0..n], input, expected, text, room),
+    match reading::read_whole(live, saved, file) {
+        Load::Whole(n) => hold_behind(live, broken, &file[0..n], input, expected, text, room),
         Load::TooLong => Kept::NotOpened,
         Load::Failed => Kept::NotOpened,
     }
 }
 
 // Runs the case of three open files, with a room for each.
-fn run(broken: bool, saved: i32, input: i32, expected: i32) -> Kept {
+fn run(live: &mut Live, broken: bool, saved: i32, input: i32, expected: i32) -> Kept {
     let mut file = [0u8; TEXT];
     let mut text = [0u8; TEXT];
     let mut room = [0u8; TEXT];
     let told = hold(
+        live,
         broken, saved, input, expected, &mut file, &mut text, &mut room,
     );
-    libc::close(saved);
-    libc::close(input);
-    libc::close(expected);
+    live.close(saved);
+    live.close(input);
+    live.close(expected);
     told
 }
 
@@ -115,24 +119,25 @@ fn is_broken(name: &[u8]) -> bool {
 }
 
 // Runs the case that an argument names, and prints a line that says how it ended.
-fn case(i: usize, count: Count) -> Count {
+fn case(rt: &HostRuntime, live: &mut Live, i: usize, count: Count) -> Count {
     let mut path = io::buffer();
-    let n = os::arg(i, &mut path);
+    let n = args::arg(rt, i, &mut path);
     let broken = is_broken(&path[0..n]);
-    let saved = files::open_file(&mut path, n, b".day");
-    let input = files::open_file(&mut path, n, b".in");
-    let expected = files::open_file(&mut path, n, b".log");
-    let told = run(broken, saved, input, expected);
+    let saved = files::open_file(rt, live, &mut path, n, b".day");
+    let input = files::open_file(rt, live, &mut path, n, b".in");
+    let expected = files::open_file(rt, live, &mut path, n, b".log");
+    let told = run(live, broken, saved, input, expected);
     io::write_all(1, &path[0..n]);
     counts::tell(ending(broken, told), count)
 }
 
-fn main() {
-    let n = os::arg_count();
+fn main(rt: HostRuntime) {
+    let mut live = Live::none();
+    let n = args::count(&rt);
     let mut count = counts::none();
     let mut i: usize = 1;
     while i < n {
-        count = case(i, count);
+        count = case(&rt, &mut live, i, count);
         i += 1;
     }
     counts::total(count, b"kept days");

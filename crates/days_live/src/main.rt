@@ -1,7 +1,7 @@
 // days_live: keeps days in files of the folder that it is run in, as the program does, and holds what then stands in each file against what must
 // stand there. The arguments name the cases: NAME.in is the input, NAME.day the file, which need not be there, and NAME.saved what it must hold
 // in the end. What a day shows goes to standard output. A case named `wrong-..` has a NAME.saved that is wrong on purpose.
-// It may use check, io, libc, os, cases, descriptors, stream_law and stream_keep. It promises that it is safe and ends.
+// It may use check, io, cases, descriptors, stream_law and stream_keep. It promises that it is safe and ends.
 
 #![tactic(auto)]
 
@@ -9,7 +9,8 @@ ghost use Rattle.std.specs.Prelude.{◌≤◌, length};
 
 use cases::counts::{Count, Ending};
 use cases::{counts, files};
-use descriptors::{Load, reading};
+use descriptors::live::Live;
+use descriptors::{Load, args, reading};
 use stream_law::{Finish, Kept};
 
 // The room for a file; a longer one counts as unreadable.
@@ -26,8 +27,8 @@ fn alike(found: &[u8], expected: &[u8]) -> Ending {
 }
 
 // Reads what must stand in the file.
-fn hold_to(found: &[u8], expected: i32, room: &mut [u8]) -> Ending {
-    match reading::read_whole(expected, room) {
+fn hold_to(live: &Live, found: &[u8], expected: i32, room: &mut [u8]) -> Ending {
+    match reading::read_whole(live, expected, room) {
         Load::Whole(n) => alike(found, &room[0..n]),
         Load::TooLong => Ending::Unread,
         Load::Failed => Ending::Unread,
@@ -35,21 +36,21 @@ fn hold_to(found: &[u8], expected: i32, room: &mut [u8]) -> Ending {
 }
 
 // Reads what stands in the file, and goes on to what must stand there.
-fn hold(file: i32, expected: i32, bytes: &mut [u8], room: &mut [u8]) -> Ending {
-    match reading::read_whole(file, bytes) {
-        Load::Whole(n) => hold_to(&bytes[0..n], expected, room),
+fn hold(live: &Live, file: i32, expected: i32, bytes: &mut [u8], room: &mut [u8]) -> Ending {
+    match reading::read_whole(live, file, bytes) {
+        Load::Whole(n) => hold_to(live, &bytes[0..n], expected, room),
         Load::TooLong => Ending::Unread,
         Load::Failed => Ending::Unread,
     }
 }
 
 // Holds one open file against another, with a room for each.
-fn run(file: i32, expected: i32) -> Ending {
+fn run(live: &mut Live, file: i32, expected: i32) -> Ending {
     let mut bytes = [0u8; FILE];
     let mut room = [0u8; FILE];
-    let told = hold(file, expected, &mut bytes, &mut room);
-    libc::close(file);
-    libc::close(expected);
+    let told = hold(live, file, expected, &mut bytes, &mut room);
+    live.close(file);
+    live.close(expected);
     told
 }
 
@@ -86,27 +87,29 @@ fn day_end(path: &[u8], n: usize) -> usize
 }
 
 // Keeps the day of the case that an argument names, and prints a line that says what stands in its file then.
-fn case(i: usize, count: Count) -> Count {
+fn case(rt: &HostRuntime, live: &mut Live, i: usize, count: Count) -> Count {
     let mut path = io::buffer();
-    let n = os::arg(i, &mut path);
-    let input = files::open_file(&mut path, n, b".in");
-    libc::close(files::open_file(&mut path, n, b".day")); // the path ends in `.day` now
+    let n = args::arg(rt, i, &mut path);
+    let input = files::open_file(rt, live, &mut path, n, b".in");
+    let found = files::open_file(rt, live, &mut path, n, b".day"); // the path ends in `.day` now
+    live.close(found);
     let end = day_end(&path, n);
-    let kept = stream_keep::keep(input, &path[0..end]);
-    libc::close(input);
-    let file = os::open_read(&path[0..end]);
-    let expected = files::open_file(&mut path, n, b".saved");
-    let told = ending(kept, run(file, expected));
+    let kept = stream_keep::keep(rt, live, input, &path[0..end]);
+    live.close(input);
+    let file = live.open_read(rt, &path[0..end]);
+    let expected = files::open_file(rt, live, &mut path, n, b".saved");
+    let told = ending(kept, run(live, file, expected));
     io::write_all(1, &path[0..n]);
     counts::tell(told, count)
 }
 
-fn main() {
-    let n = os::arg_count();
+fn main(rt: HostRuntime) {
+    let mut live = Live::none();
+    let n = args::count(&rt);
     let mut count = counts::none();
     let mut i: usize = 1;
     while i < n {
-        count = case(i, count);
+        count = case(&rt, &mut live, i, count);
         i += 1;
     }
     counts::total(count, b"files");

@@ -3,12 +3,18 @@ ghost use Rattle.std.specs.Prelude.{◌≡◌, length};
 ghost use Rattle.descriptors.specs.Outcomes.{passes, outcome_by, is_again};
 
 use crate::Outcome;
+use std::thread;
+
+// A signal interrupted the call; the other side is not ready.
+const INTERRUPTED: i32 = 4;
+
+const NOT_READY: i32 = 11;
 
 // Whether a call that failed with this error may succeed later: a signal interrupted it, or the other side is not ready.
 fn passes(error: i32) -> bool
     ensures { result ≡ passes error }
 {
-    (error == libc::EINTR) | (error == libc::EAGAIN)
+    (error == INTERRUPTED) | (error == NOT_READY)
 }
 
 // What a call on some bytes came to, by what it answered and the error that it left.
@@ -38,5 +44,5 @@ pub fn is_again(outcome: Outcome) -> bool
 
 // Lets other programs run.
 pub fn pause() {
-    libc::sched_yield();
+    thread::yield_now();
 }

@@ -7,9 +7,16 @@
 
 #![tactic(auto)]
 
+pub mod args;
 mod calls;
+pub mod live;
 pub mod reading;
 pub mod writing;
+
+// The descriptors of standard input and standard output.
+pub const INPUT: i32 = 0;
+
+pub const OUTPUT: i32 = 1;
 
 // What a call came to: a number of bytes were moved; or it failed; or it is to be made again.
 #[derive(Clone, Copy)]

@@ -3,16 +3,17 @@ ghost use Rattle.std.specs.Prelude.{◌≡◌, length};
 ghost use Rattle.descriptors.specs.Outcomes.{SettledAs, got_by};
 ghost use Rattle.descriptors.specs.Counted.{GotWithin, LoadWithin};
 
+use crate::live::Live;
 use crate::{Got, Load, Outcome, calls};
 
 // Makes a read, and makes it again for as long as it is to be.
-fn read_settled(fd: i32, buf: &mut [u8]) -> Outcome
+fn read_settled(live: &Live, fd: i32, buf: &mut [u8]) -> Outcome
     ensures { SettledAs (length buf.old) result }
 {
     let mut turns = u64::MAX;
     while turns > 0 {
-        let answer = libc::read(fd, buf);
-        let outcome = calls::outcome(answer, os::errno(), buf);
+        let answer = live.read(fd, buf);
+        let outcome = calls::outcome(answer.number, answer.error, buf);
         if !calls::is_again(outcome) {
             return outcome;
         }
@@ -34,19 +35,19 @@ fn got_of(outcome: Outcome) -> Got
 }
 
 // Reads once, as soon as there is something to read.
-pub fn read_some(fd: i32, buf: &mut [u8]) -> Got
+pub fn read_some(live: &Live, fd: i32, buf: &mut [u8]) -> Got
     ensures { GotWithin (length buf.old) result }
 {
-    got_of(read_settled(fd, buf))
+    got_of(read_settled(live, fd, buf))
 }
 
 // Reads to the end of the input. An input that fills the buffer counts as too long, since its end was not seen.
-pub fn read_whole(fd: i32, buf: &mut [u8]) -> Load
+pub fn read_whole(live: &Live, fd: i32, buf: &mut [u8]) -> Load
     ensures { LoadWithin (length buf.old) result }
 {
     let mut at: usize = 0;
     while at < buf.len() {
-        match read_some(fd, &mut buf[at..]) {
+        match read_some(live, fd, &mut buf[at..]) {
             Got::Failed => return Load::Failed,
             Got::Bytes(n) => {
                 if n == 0 {

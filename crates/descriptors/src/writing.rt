@@ -2,16 +2,17 @@
 ghost use Rattle.std.specs.Prelude.{◌≤◌, ◌≡◌, length};
 ghost use Rattle.descriptors.specs.Outcomes.{SettledAs, taken_by};
 
+use crate::live::Live;
 use crate::{Outcome, calls};
 
 // Makes a write, and makes it again for as long as it is to be.
-fn write_settled(fd: i32, bytes: &[u8]) -> Outcome
+fn write_settled(live: &Live, fd: i32, bytes: &[u8]) -> Outcome
     ensures { SettledAs (length bytes.now) result }
 {
     let mut turns = u64::MAX;
     while turns > 0 {
-        let answer = libc::write(fd, bytes);
-        let outcome = calls::outcome(answer, os::errno(), bytes);
+        let answer = live.write(fd, bytes);
+        let outcome = calls::outcome(answer.number, answer.error, bytes);
         if !calls::is_again(outcome) {
             return outcome;
         }
@@ -33,8 +34,8 @@ fn taken_of(outcome: Outcome) -> usize
 }
 
 // Writes once, as soon as some bytes are taken. Answers how many were taken, 0 where the write failed.
-pub fn write_some(fd: i32, bytes: &[u8]) -> usize
+pub fn write_some(live: &Live, fd: i32, bytes: &[u8]) -> usize
     ensures { result ≤ length bytes.now }
 {
-    taken_of(write_settled(fd, bytes))
+    taken_of(write_settled(live, fd, bytes))
 }

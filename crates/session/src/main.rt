@@ -4,26 +4,47 @@
 
 #![tactic(auto)]
 
+use descriptors::args;
+use descriptors::live::Live;
+use std::io::Error;
 use stream_law::{Finish, Kept};
 
+// Says what failed and why, in one line; the number behind the reason is left out.
+fn say(rt: &HostRuntime, what: &str, why: &str) {
+    let words = match why.split_once(" (os error ") {
+        Some((before, _)) => before,
+        None => why,
+    };
+    let _ = eprintln!(rt; "{what}: {words}");
+}
+
+// Says what failed, and the error that the last call left that did.
+fn fail(rt: &HostRuntime, live: &Live, what: &str) {
+    let error = Error::from_raw_os_error(live.last_error());
+    match format!(in rt.alloc(); "{error}") {
+        Ok(why) => say(rt, what, why.as_str()),
+        Err(_) => say(rt, what, "Cannot allocate memory"),
+    }
+}
+
 // Says how a run ended, where it failed.
-fn tell(finish: Finish) {
+fn tell(rt: &HostRuntime, live: &Live, finish: Finish) {
     match finish {
         Finish::Printed => {}
         Finish::Same => {}
         Finish::Differs => {}
-        Finish::Unread => os::fail(b"session: standard input cannot be read"),
-        Finish::Unsaved => os::fail(b"session: the file cannot be written"),
-        Finish::Unwritten => os::fail(b"session: standard output cannot be written"),
+        Finish::Unread => fail(rt, live, "session: standard input cannot be read"),
+        Finish::Unsaved => fail(rt, live, "session: the file cannot be written"),
+        Finish::Unwritten => fail(rt, live, "session: standard output cannot be written"),
     }
 }
 
 // A day that is kept in the file that a path names.
-fn keep(path: &[u8]) {
-    match stream_keep::keep(libc::STDIN_FILENO, path) {
-        Kept::NotOpened => os::fail(b"session: the file cannot be opened"),
-        Kept::NotRead => os::fail(b"session: the file cannot be read"),
-        Kept::Ran(finish) => tell(finish),
+fn keep(rt: &HostRuntime, live: &mut Live, path: &[u8]) {
+    match stream_keep::keep(rt, live, descriptors::INPUT, path) {
+        Kept::NotOpened => fail(rt, live, "session: the file cannot be opened"),
+        Kept::NotRead => fail(rt, live, "session: the file cannot be read"),
+        Kept::Ran(finish) => tell(rt, live, finish),
     }
 }
 
@@ -44,30 +65,29 @@ fn is_resume(word: &[u8]) -> bool {
 }
 
 // The file that the arguments name, `--resume FILE`.
-fn keep_named() -> bool {
+fn keep_named(rt: &HostRuntime, live: &mut Live) -> bool {
     let mut word = io::buffer();
-    let n = os::arg(1, &mut word);
+    let n = args::arg(rt, 1, &mut word);
     if !is_resume(&word[0..n]) {
         return false;
     }
-    let m = os::arg(2, &mut word);
-    keep(&word[0..m]);
+    let m = args::arg(rt, 2, &mut word);
+    keep(rt, live, &word[0..m]);
     true
 }
 
-fn main() {
-    let given = os::arg_count();
+fn main(rt: HostRuntime) {
+    let mut live = Live::standard(&rt);
+    let given = args::count(&rt);
     if given < 2 {
-        tell(stream::print(libc::STDIN_FILENO));
+        let finish = stream::print(&live, descriptors::INPUT);
+        tell(&rt, &live, finish);
         return;
     }
     if given == 3 {
-        if keep_named() {
+        if keep_named(&rt, &mut live) {
             return;
         }
     }
-    io::write_all(
-        libc::STDERR_FILENO,
-        b"session: the arguments are none, or --resume FILE\n",
-    );
+    let _ = eprintln!(rt; "session: the arguments are none, or --resume FILE");
 }

@@ -14,6 +14,7 @@ ghost use Rattle.resume_law.specs.Pieces.{too_many};
 ghost use Rattle.stream_law.specs.Sources.{Gives};
 ghost use Rattle.stream_law.specs.Streams.{says_of, holding, is_on, held_as, held_on, Hears, HearsOn, is_done, EndedAs, ThroughAs, FreshThrough, Compares, PrintedAs};
 
+use descriptors::live::Live;
 use descriptors::Got;
 use feed_law::Run;
 use stream_law::{Buffered, Finish, Mode, Reading, Sink, Source};
@@ -41,6 +42,7 @@ fn held(run: Run, have: usize, to: Sink, reading: Reading) -> Buffered
 
 // Reads once behind what is kept, hands the whole lines over, and keeps the bytes that are left.
 fn read_on(
+    live: &Live,
     mode: Mode,
     expected: &[u8],
     given: &[u8],
@@ -58,7 +60,7 @@ fn read_on(
     let have = h.have;
     let to = h.to;
     let source = last.from;
-    let read = stream_source::read_behind(source, given, have, buf);
+    let read = stream_source::read_behind(live, source, given, have, buf);
     let got = read.got;
     let from = read.from;
     match got {
@@ -78,7 +80,7 @@ fn read_on(
                 };
             }
             let end = have + n;
-            let on = stream_feed::take_in(mode, to, expected, run, buf, end, buys, sells);
+            let on = stream_feed::take_in(live, mode, to, expected, run, buf, end, buys, sells);
             Heard {
                 held: on,
                 from: from,
@@ -99,6 +101,7 @@ fn is_on(reading: Reading) -> bool
 
 // Reads to the end of the input or of the run, or until something fails.
 fn read_all(
+    live: &Live,
     from: Source,
     given: &[u8],
     mode: Mode,
@@ -120,7 +123,7 @@ fn read_all(
     };
     let mut turns = u64::MAX;
     while turns > 0 {
-        h = read_on(mode, expected, given, h, buf, buys, sells);
+        h = read_on(live, mode, expected, given, h, buf, buys, sells);
         let now = h.held;
         let reading = now.reading;
         if !is_on(reading) {
@@ -145,6 +148,7 @@ fn is_done(reading: Reading) -> bool
 
 // The end of a run, by what is kept of it: not all could be read, or the end is told behind all that was.
 fn end_run(
+    live: &Live,
     mode: Mode,
     expected: &[u8],
     h: Buffered,
@@ -163,12 +167,13 @@ fn end_run(
     if !is_done(reading) {
         return Finish::Unread;
     }
-    let last = stream_feed::ending(mode, to, expected, run, &buf[0..have], buys, sells);
+    let last = stream_feed::ending(live, mode, to, expected, run, &buf[0..have], buys, sells);
     stream_sink::finish(last, expected)
 }
 
 // Makes a whole run from where one stands, with the buffer and the tables that are lent.
 fn run_all(
+    live: &Live,
     from: Source,
     given: &[u8],
     mode: Mode,
@@ -183,13 +188,14 @@ fn run_all(
     requires line_room_in_bounds { line_room < length buf.old }
     ensures { ThroughAs (says_of mode) expected.now (Gives given.now from) (holding run buys.old sells.old []) to result }
 {
-    let heard = read_all(from, given, mode, to, expected, run, buf, buys, sells);
+    let heard = read_all(live, from, given, mode, to, expected, run, buf, buys, sells);
     let h = heard.held;
-    end_run(mode, expected, h, buf, buys, sells)
+    end_run(live, mode, expected, h, buf, buys, sells)
 }
 
 // Takes all lines of a source from where a run stands, with the tables that are lent.
 pub fn go_on(
+    live: &Live,
     from: Source,
     given: &[u8],
     mode: Mode,
@@ -203,17 +209,17 @@ pub fn go_on(
     ensures { ThroughAs (says_of mode) expected.now (Gives given.now from) (holding run buys.old sells.old []) to result }
 {
     let mut buf = io::large_buffer();
-    run_all(from, given, mode, to, expected, run, &mut buf, buys, sells)
+    run_all(live, from, given, mode, to, expected, run, &mut buf, buys, sells)
 }
 
 // A day from its first line on, kept nowhere.
-fn through(from: Source, given: &[u8], to: Sink, expected: &[u8]) -> Finish
+fn through(live: &Live, from: Source, given: &[u8], to: Sink, expected: &[u8]) -> Finish
     ensures { FreshThrough expected.now (Gives given.now from) to result }
 {
     let mut buys = [0u64; lengths::TABLE];
     let mut sells = [0u64; lengths::TABLE];
     let run = feed::start();
-    go_on(
+    go_on(live,
         from,
         given,
         Mode::Bare,
@@ -226,23 +232,24 @@ fn through(from: Source, given: &[u8], to: Sink, expected: &[u8]) -> Finish
 }
 
 // Prints what the program says to a descriptor's bytes; no text is given, and none is expected.
-fn print_live(fd: i32, none: &[u8]) -> Finish
+fn print_live(live: &Live, fd: i32, none: &[u8]) -> Finish
     ensures { PrintedAs result }
 {
-    through(Source::Live(fd), none, Sink::Print, none)
+    through(live, Source::Live(fd), none, Sink::Print, none)
 }
 
 // Prints on standard output what the program says to a descriptor's bytes.
-pub fn print(fd: i32) -> Finish
+pub fn print(live: &Live, fd: i32) -> Finish
     ensures { PrintedAs result }
 {
     let none = [0u8; 1];
-    print_live(fd, &none[0..0])
+    print_live(live, fd, &none[0..0])
 }
 
 // Holds what the program says to a text against an expected output.
 pub fn compare(given: &[u8], expected: &[u8]) -> Finish
     ensures { Compares given.now expected.now result }
 {
-    through(Source::Text(0), given, Sink::Match(0), expected)
+    let live = Live::none();
+    through(&live, Source::Text(0), given, Sink::Match(0), expected)
 }

@@ -18,6 +18,7 @@ ghost use Rattle.stream_law.specs.Sources.{Gives};
 ghost use Rattle.stream_source.specs.Reads.{EndsWithin};
 ghost use Rattle.stream_back.specs.Filled.{stopped_at, coming_after, ComesOn, RestAs, OpensAs, Ended, EndedBy, StartsAs};
 
+use descriptors::live::Live;
 use descriptors::Got;
 use lines_reading_law::ReadSettings;
 use resume_law::{Back, Comeback, Coming};
@@ -94,6 +95,7 @@ fn after_read(got: Got, left: usize, before: usize, session: Session) -> Coming
 
 // Keeps the bytes that were not taken at the buffer's front, and reads once behind them.
 fn read_rest(
+    live: &Live,
     from: Source,
     given: &[u8],
     used: usize,
@@ -108,7 +110,7 @@ fn read_rest(
 {
     stream_feed::to_front(buf, used, have);
     let left = have - used;
-    let read = stream_source::read_behind(from, given, left, buf);
+    let read = stream_source::read_behind(live, from, given, left, buf);
     let got = read.got;
     let next = read.from;
     Piece {
@@ -121,6 +123,7 @@ fn read_rest(
 
 // Replays the bytes at the buffer's front, and reads the next ones behind what is left of them.
 fn next_piece(
+    live: &Live,
     from: Source,
     given: &[u8],
     h: Coming,
@@ -149,11 +152,12 @@ fn next_piece(
         };
     }
     let now = came.session;
-    read_rest(from, given, used, have, taken, now, buf)
+    read_rest(live, from, given, used, have, taken, now, buf)
 }
 
 // Takes piece after piece, each behind the unfinished line of the last.
 fn take_pieces(
+    live: &Live,
     from: Source,
     given: &[u8],
     first: Coming,
@@ -170,7 +174,7 @@ fn take_pieces(
     let mut h = first;
     let mut turns = u64::MAX;
     while turns > 0 {
-        let piece = next_piece(source, given, h, buf, buys, sells, room);
+        let piece = next_piece(live, source, given, h, buf, buys, sells, room);
         source = piece.from;
         h = piece.coming;
         let more = h.more;
@@ -186,6 +190,7 @@ fn take_pieces(
 
 // Goes on with the events behind a settings line that ends at `first`.
 fn from_opening(
+    live: &Live,
     from: Source,
     given: &[u8],
     session: Session,
@@ -203,11 +208,12 @@ fn from_opening(
     stream_feed::to_front(buf, first, end);
     let have = end - first;
     let h = coming_to(have, first, session);
-    take_pieces(from, given, h, buf, buys, sells, room)
+    take_pieces(live, from, given, h, buf, buys, sells, room)
 }
 
 // The session of a whole settings line goes on with the events behind it, or the settings are refused.
 fn from_settings(
+    live: &Live,
     from: Source,
     given: &[u8],
     settings: Settings,
@@ -226,13 +232,14 @@ fn from_settings(
     let verdict = o.verdict;
     let session = o.session;
     match verdict {
-        Verdict::Fine => from_opening(from, given, session, first, end, buf, buys, sells, room),
+        Verdict::Fine => from_opening(live, from, given, session, first, end, buf, buys, sells, room),
         Verdict::Refused(refusal) => refused(Refusal::LineRefused, 0),
     }
 }
 
 // Reads the settings line from the first bytes of the file, of which the buffer holds so many.
 fn from_front(
+    live: &Live,
     from: Source,
     given: &[u8],
     end: usize,
@@ -248,7 +255,7 @@ fn from_front(
 {
     match lines_reading::read_settings(&buf[0..end]) {
         ReadSettings::Whole(settings, first) => {
-            from_settings(from, given, settings, first, end, buf, buys, sells, room)
+            from_settings(live, from, given, settings, first, end, buf, buys, sells, room)
         }
         ReadSettings::Unfinished => refused(Refusal::LineUnfinished, 0),
         ReadSettings::Wrong(place) => refused(Refusal::LineWrong, place),
@@ -257,6 +264,7 @@ fn from_front(
 
 // Goes on with the first bytes of the file, more than a settings line can have, where they could be read.
 fn from_filled(
+    live: &Live,
     got: Got,
     from: Source,
     given: &[u8],
@@ -271,12 +279,13 @@ fn from_filled(
 {
     match got {
         Got::Failed => resume_pieces::unread(),
-        Got::Bytes(end) => from_front(from, given, end, buf, buys, sells, room),
+        Got::Bytes(end) => from_front(live, from, given, end, buf, buys, sells, room),
     }
 }
 
 // Fills the buffer with the first bytes of the file, and goes on from there.
 fn from_start(
+    live: &Live,
     from: Source,
     given: &[u8],
     buf: &mut [u8],
@@ -287,14 +296,15 @@ fn from_start(
     requires { LongEnough buys.old sells.old room.old × (line_room < length buf.old) }
     ensures { BackAs (Gives given.now from) buys.new sells.new result }
 {
-    let read = stream_source::fill(from, given, buf);
+    let read = stream_source::fill(live, from, given, buf);
     let got = read.got;
     let next = read.from;
-    from_filled(got, next, given, buf, buys, sells, room)
+    from_filled(live, got, next, given, buf, buys, sells, room)
 }
 
 // Brings back the day of a file that is open, from its first byte on.
 pub fn come_back(
+    live: &Live,
     from: Source,
     given: &[u8],
     buys: &mut [u64],
@@ -305,5 +315,5 @@ pub fn come_back(
     ensures { BackAs (Gives given.now from) buys.new sells.new result }
 {
     let mut buf = io::large_buffer();
-    from_start(from, given, &mut buf, buys, sells, room)
+    from_start(live, from, given, &mut buf, buys, sells, room)
 }

@@ -15,6 +15,7 @@ ghost use Rattle.stream_law.specs.Sinks.{SentAs, is_open};
 ghost use Rattle.engine_law.specs.Calls.{LongTables, LongEnough};
 ghost use Rattle.stream_law.specs.Streams.{says_of, is_full, more_after, holding, HandsOn, OverAs, reading_after, ToFront, TakesIn, end_by, EndsAs};
 
+use descriptors::live::Live;
 use feed::lines;
 use feed_law::{Run, Stage, Stop};
 use feed_prints::printing;
@@ -47,6 +48,7 @@ fn has_more(stop: Stop, to: Sink) -> bool
 
 // Calls feed once, in lent rooms, and sends on what it prints.
 fn hand_in(
+    live: &Live,
     to: Sink,
     expected: &[u8],
     run: Run,
@@ -65,7 +67,7 @@ fn hand_in(
     let used = t.used;
     let wrote = t.wrote;
     let stop = t.stop;
-    let sent = stream_sink::send(to, expected, &out[0..wrote]);
+    let sent = stream_sink::send(live, to, expected, &out[0..wrote]);
     let more = has_more(stop, sent);
     Handed {
         run: after,
@@ -77,6 +79,7 @@ fn hand_in(
 
 // Calls feed once on the bytes from `at` on, in rooms in which all is zero before the call.
 fn hand_some(
+    live: &Live,
     to: Sink,
     expected: &[u8],
     run: Run,
@@ -91,7 +94,7 @@ fn hand_some(
 {
     let mut room = [0u64; lengths::ROOM];
     let mut out = [0u8; OUT];
-    hand_in(
+    hand_in(live,
         to,
         expected,
         run,
@@ -105,6 +108,7 @@ fn hand_some(
 
 // Hands on lines of the bytes from `at` on: as many as feed takes at once; or one, where the day is kept.
 fn hand_next(
+    live: &Live,
     mode: Mode,
     to: Sink,
     expected: &[u8],
@@ -119,9 +123,9 @@ fn hand_next(
     ensures { HandsOn (says_of mode) expected.now (holding run buys.old sells.old (drop at bytes.now)) to buys.new sells.new result }
 {
     match mode {
-        Mode::Bare => hand_some(to, expected, run, bytes, at, buys, sells),
+        Mode::Bare => hand_some(live, to, expected, run, bytes, at, buys, sells),
         Mode::Keeping(file) => {
-            stream_line::keep_line(to, expected, file, run, bytes, at, buys, sells)
+            stream_line::keep_line(live, to, expected, file, run, bytes, at, buys, sells)
         }
     }
 }
@@ -130,6 +134,7 @@ fn hand_next(
 
 // Hands all whole lines over, as long as more may be sent.
 fn hand_over(
+    live: &Live,
     mode: Mode,
     to: Sink,
     expected: &[u8],
@@ -145,7 +150,7 @@ fn hand_over(
     let mut sink = to;
     let mut at: usize = 0;
     while at < bytes.len() {
-        let h = hand_next(mode, sink, expected, now, bytes, at, buys, sells);
+        let h = hand_next(live, mode, sink, expected, now, bytes, at, buys, sells);
         let used = h.used;
         let more = h.more;
         now = h.run;
@@ -205,6 +210,7 @@ fn reading_after(stage: Stage, to: Sink) -> Reading
 
 // Hands over what stands in the buffer before `end`, and keeps the bytes that are left at its front.
 pub fn take_in(
+    live: &Live,
     mode: Mode,
     to: Sink,
     expected: &[u8],
@@ -218,7 +224,7 @@ pub fn take_in(
     requires end_in_bounds { end ≤ length buf.old }
     ensures { TakesIn (says_of mode) expected.now run buf.old end buys.old sells.old to buf.new buys.new sells.new result }
 {
-    let h = hand_over(mode, to, expected, run, &buf[0..end], buys, sells);
+    let h = hand_over(live, mode, to, expected, run, &buf[0..end], buys, sells);
     let used = h.used;
     let after = h.run;
     let sink = h.to;
@@ -237,17 +243,18 @@ pub fn take_in(
 // ---- the end of the input
 
 // Sends what the end prints; where the day is kept, as what is shown.
-fn send_end(mode: Mode, to: Sink, expected: &[u8], text: &[u8]) -> Sink
+fn send_end(live: &Live, mode: Mode, to: Sink, expected: &[u8], text: &[u8]) -> Sink
     ensures { SentAs expected.now to (end_by mode text.now) result }
 {
     match mode {
-        Mode::Bare => stream_sink::send(to, expected, text),
-        Mode::Keeping(_) => stream_sink::show(to, expected, text),
+        Mode::Bare => stream_sink::send(live, to, expected, text),
+        Mode::Keeping(_) => stream_sink::show(live, to, expected, text),
     }
 }
 
 // Sends what the end of the input says where no whole line is left.
 fn end_with(
+    live: &Live,
     mode: Mode,
     to: Sink,
     expected: &[u8],
@@ -259,18 +266,19 @@ fn end_with(
     ensures { SentAs expected.now to ((says_of mode).end stage (length rest.now)) result }
 {
     let n = printing::tell_end(stage, rest.len(), out);
-    send_end(mode, to, expected, &out[0..n])
+    send_end(live, mode, to, expected, &out[0..n])
 }
 
-fn tell_end(mode: Mode, to: Sink, expected: &[u8], stage: Stage, rest: &[u8]) -> Sink
+fn tell_end(live: &Live, mode: Mode, to: Sink, expected: &[u8], stage: Stage, rest: &[u8]) -> Sink
     ensures { SentAs expected.now to ((says_of mode).end stage (length rest.now)) result }
 {
     let mut line = [0u8; sizes::LINE];
-    end_with(mode, to, expected, stage, rest, &mut line)
+    end_with(live, mode, to, expected, stage, rest, &mut line)
 }
 
 // Ends the input: takes the lines that are left, and sends all that is still to be said.
 pub fn ending(
+    live: &Live,
     mode: Mode,
     to: Sink,
     expected: &[u8],
@@ -282,10 +290,10 @@ pub fn ending(
     requires { LongTables buys.old sells.old }
     ensures { EndsAs (says_of mode) expected.now (holding run buys.old sells.old rest.now) to result }
 {
-    let h = hand_over(mode, to, expected, run, rest, buys, sells);
+    let h = hand_over(live, mode, to, expected, run, rest, buys, sells);
     let used = h.used;
     let after = h.run;
     let stage = after.stage;
     let sink = h.to;
-    tell_end(mode, sink, expected, stage, &rest[used..])
+    tell_end(live, mode, sink, expected, stage, &rest[used..])
 }

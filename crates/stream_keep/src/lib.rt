@@ -1,6 +1,6 @@
 // stream_keep: a day that is kept in a file. The file's lines bring the day back; then lines are read from the input, and each that the engine
 // accepts is appended to the file, and has reached the disk, before its reports are printed.
-// It may use libc, os, feed, feed_prints, stream, stream_back and stream_sink, and what these use. It promises that it is safe and ends, and, of a
+// It may use descriptors, feed, feed_prints, stream, stream_back and stream_sink, and what these use. It promises that it is safe and ends, and, of a
 // file and an input that are lent as texts: a comparison answers "same" just where the expected log is that of the two (`kept_log`: the day that
 // goes on is what the file's bytes come back as, the file is cut to those that count, and then comes what stream_law says, in its order); and where
 // a read of the file fails, nothing is cut, saved or shown, unless a bad line is told. Of a file that a path names: the day is kept just where it
@@ -18,6 +18,7 @@ ghost use Rattle.stream_law.specs.Sources.{Gives};
 ghost use Rattle.stream_law.specs.Streams.{holding};
 ghost use Rattle.stream_law.specs.Keeping.{OnAs, trading_run, RefusedAs, BadLaid, BadTold, BegunAs, KeptAs, are_open, Any, OpenedAs, OpensAs, LogCompared, BrokenCompared};
 
+use descriptors::live::Live;
 use feed_law::{Run, Stage};
 use feed_prints::printing;
 use resume_law::{Back, Comeback};
@@ -40,6 +41,7 @@ fn trading(session: Session) -> Run
 
 // Cuts the file to the bytes that count, and goes on from there with the lines of the input.
 fn go_on(
+    live: &Live,
     input: Source,
     given: &[u8],
     file: i32,
@@ -53,11 +55,11 @@ fn go_on(
     requires { LongTables buys.old sells.old }
     ensures { OnAs expected.now (Gives given.now input) to count (holding run buys.old sells.old []) result }
 {
-    let cut = stream_sink::files::cut(to, expected, file, count);
+    let cut = stream_sink::files::cut(live, to, expected, file, count);
     if !stream_sink::is_open(cut) {
         return stream_sink::finish(cut, expected);
     }
-    stream::go_on(
+    stream::go_on(live, 
         input,
         given,
         Mode::Keeping(file),
@@ -80,21 +82,21 @@ fn bad_line(refusal: Refusal, place: usize, out: &mut [u8]) -> usize
 }
 
 // Tells of a bad line of the file, with a room for what is told.
-fn tell_in(to: Sink, expected: &[u8], refusal: Refusal, place: usize, out: &mut [u8]) -> Finish
+fn tell_in(live: &Live, to: Sink, expected: &[u8], refusal: Refusal, place: usize, out: &mut [u8]) -> Finish
     requires { line_room ≤ length out.old }
     ensures { BadTold expected.now to refusal place result }
 {
     let n = bad_line(refusal, place, out);
-    let shown = stream_sink::show(to, expected, &out[0..n]);
+    let shown = stream_sink::show(live, to, expected, &out[0..n]);
     stream_sink::finish(shown, expected)
 }
 
 // Tells of the file's first bad line.
-fn tell_bad(to: Sink, expected: &[u8], refusal: Refusal, place: usize) -> Finish
+fn tell_bad(live: &Live, to: Sink, expected: &[u8], refusal: Refusal, place: usize) -> Finish
     ensures { BadTold expected.now to refusal place result }
 {
     let mut line = [0u8; sizes::LINE];
-    tell_in(to, expected, refusal, place, &mut line)
+    tell_in(live, to, expected, refusal, place, &mut line)
 }
 
 // Whether not even the settings line is whole, so that no day has begun.
@@ -106,6 +108,7 @@ fn is_unbegun(refusal: Refusal) -> bool
 
 // Where no day has begun the file is emptied, and the settings come from the input; another bad line is told, and nothing is read.
 fn not_back(
+    live: &Live,
     input: Source,
     given: &[u8],
     file: i32,
@@ -121,15 +124,16 @@ fn not_back(
 {
     if is_unbegun(refusal) {
         let fresh = feed::start();
-        return go_on(input, given, file, to, expected, 0, fresh, buys, sells);
+        return go_on(live, input, given, file, to, expected, 0, fresh, buys, sells);
     }
-    tell_bad(to, expected, refusal, place)
+    tell_bad(live, to, expected, refusal, place)
 }
 
 // ---- a whole day
 
 // By what the file brought back: the day goes on, or nothing came back.
 fn begin(
+    live: &Live,
     input: Source,
     given: &[u8],
     file: i32,
@@ -147,10 +151,10 @@ fn begin(
     match answer {
         Comeback::Counts(count) => {
             let run = trading(session);
-            go_on(input, given, file, to, expected, count, run, buys, sells)
+            go_on(live, input, given, file, to, expected, count, run, buys, sells)
         }
         Comeback::Refused(refusal, place) => {
-            not_back(
+            not_back(live,
                 input, given, file, to, expected, refusal, place, buys, sells,
             )
         }
@@ -159,6 +163,7 @@ fn begin(
 
 // Brings back the day of a file that is open, and goes on, with the tables and the room that are lent.
 fn keep_from(
+    live: &Live,
     saved: Source,
     kept: &[u8],
     input: Source,
@@ -173,17 +178,18 @@ fn keep_from(
     requires { LongEnough buys.old sells.old room.old }
     ensures { KeptAs expected.now (Gives kept.now saved) (Gives given.now input) to result }
 {
-    let back = stream_back::come_back(saved, kept, buys, sells, room);
+    let back = stream_back::come_back(live, saved, kept, buys, sells, room);
     let read = back.read;
     if !read {
         return Kept::NotRead;
     }
-    let ran = begin(input, given, file, to, expected, back, buys, sells);
+    let ran = begin(live, input, given, file, to, expected, back, buys, sells);
     Kept::Ran(ran)
 }
 
 // The same, with tables and a room of its own.
 fn keep_open(
+    live: &Live,
     saved: Source,
     kept: &[u8],
     input: Source,
@@ -197,7 +203,7 @@ fn keep_open(
     let mut buys = [0u64; lengths::TABLE];
     let mut sells = [0u64; lengths::TABLE];
     let mut room = [0u64; lengths::ROOM];
-    keep_from(
+    keep_from(live,
         saved, kept, input, given, file, to, expected, &mut buys, &mut sells, &mut room,
     )
 }
@@ -212,10 +218,10 @@ fn are_open(saved: i32, file: i32) -> bool
 }
 
 // Keeps the day of a file that is open; no text is lent, and none is expected.
-fn keep_live(input: i32, saved: i32, file: i32, none: &[u8]) -> Kept
+fn keep_live(live: &Live, input: i32, saved: i32, file: i32, none: &[u8]) -> Kept
     ensures { KeptAs none.now Any Any Sink.Print result }
 {
-    keep_open(
+    keep_open(live,
         Source::Live(saved),
         none,
         Source::Live(input),
@@ -227,41 +233,42 @@ fn keep_live(input: i32, saved: i32, file: i32, none: &[u8]) -> Kept
 }
 
 // Keeps the day of a file that is open to be read and to be appended to, and closes both.
-fn keep_both(input: i32, saved: i32, file: i32) -> Kept
+fn keep_both(live: &mut Live, input: i32, saved: i32, file: i32) -> Kept
     ensures { KeptAs [] Any Any Sink.Print result }
 {
     let none = [0u8; 1];
-    let kept = keep_live(input, saved, file, &none[0..0]);
-    libc::close(saved);
-    libc::close(file);
+    let kept = keep_live(live, input, saved, file, &none[0..0]);
+    live.close(saved);
+    live.close(file);
     kept
 }
 
 // The same, of a file that was opened twice or could not be; then nothing is called that would change the error.
-fn keep_opened(input: i32, saved: i32, file: i32) -> Kept
+fn keep_opened(live: &mut Live, input: i32, saved: i32, file: i32) -> Kept
     ensures { OpenedAs saved file result }
 {
     if !are_open(saved, file) {
         return Kept::NotOpened;
     }
-    keep_both(input, saved, file)
+    keep_both(live, input, saved, file)
 }
 
 // Makes the file that a path names where it is missing, and opens it to read it. Answers a descriptor, or -1.
-fn open_or_make(path: &[u8]) -> i32 {
-    libc::close(os::create(path));
-    os::open_read(path)
+fn open_or_make(rt: &HostRuntime, live: &mut Live, path: &[u8]) -> i32 {
+    let made = live.create(rt, path);
+    live.close(made);
+    live.open_read(rt, path)
 }
 
 // ---- a whole day, from its file on
 
 // Keeps the day of the file that a path names: brings it back, and goes on with the lines of a descriptor.
-pub fn keep(input: i32, path: &[u8]) -> Kept
+pub fn keep(rt: &HostRuntime, live: &mut Live, input: i32, path: &[u8]) -> Kept
     ensures { OpensAs result }
 {
-    let saved = open_or_make(path);
-    let file = os::open_append(path);
-    keep_opened(input, saved, file)
+    let saved = open_or_make(rt, live, path);
+    let file = live.open_append(rt, path);
+    keep_opened(live, input, saved, file)
 }
 
 // Holds all that keeping a day would hand on, to its file and to the output, against an expected log, for a file and an input that are lent as
@@ -269,7 +276,9 @@ pub fn keep(input: i32, path: &[u8]) -> Kept
 pub fn compare(kept: &[u8], given: &[u8], expected: &[u8]) -> Kept
     ensures { LogCompared kept.now given.now expected.now result }
 {
+    let live = Live::none();
     keep_open(
+        &live,
         Source::Text(0),
         kept,
         Source::Text(0),
@@ -284,7 +293,9 @@ pub fn compare(kept: &[u8], given: &[u8], expected: &[u8]) -> Kept
 pub fn compare_broken(kept: &[u8], given: &[u8], expected: &[u8]) -> Kept
     ensures { BrokenCompared kept.now given.now expected.now result }
 {
+    let live = Live::none();
     keep_open(
+        &live,
         Source::Broken(0),
         kept,
         Source::Text(0),

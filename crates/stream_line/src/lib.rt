@@ -11,6 +11,7 @@ ghost use Rattle.engine_law.specs.Calls.{LongTables, LongEnough};
 ghost use Rattle.stream_law.specs.Sinks.{SentAs};
 ghost use Rattle.stream_law.specs.Streams.{logging, TurnLong, holding, still_going, HandsOn};
 
+use descriptors::live::Live;
 use feed::lines;
 use feed_law::{Run, Turned};
 use feed_turns::turns;
@@ -25,11 +26,11 @@ fn goes_on(used: usize, to: Sink) -> bool
 }
 
 // Saves what is to be saved of a line, and only then shows its text: never the other way round.
-fn save_then_show(to: Sink, expected: &[u8], file: i32, saved: &[u8], text: &[u8]) -> Sink
+fn save_then_show(live: &Live, to: Sink, expected: &[u8], file: i32, saved: &[u8], text: &[u8]) -> Sink
     ensures { SentAs expected.now to (logging.line saved.now text.now) result }
 {
-    let kept = stream_sink::files::save(to, expected, file, saved);
-    stream_sink::show(kept, expected, text)
+    let kept = stream_sink::files::save(live, to, expected, file, saved);
+    stream_sink::show(live, kept, expected, text)
 }
 
 // The turn of the line that the bytes begin with, in rooms that hold whatever it comes to.
@@ -50,6 +51,7 @@ fn turn_long(
 
 // Takes the line that the bytes begin with, in lent rooms.
 fn keep_in(
+    live: &Live,
     to: Sink,
     expected: &[u8],
     file: i32,
@@ -69,7 +71,7 @@ fn keep_in(
     let used = t.used;
     let saves = t.saves;
     let wrote = t.wrote;
-    let shown = save_then_show(to, expected, file, &bytes[0..saves], &out[0..wrote]);
+    let shown = save_then_show(live, to, expected, file, &bytes[0..saves], &out[0..wrote]);
     let more = goes_on(used, shown);
     Handed {
         run: after,
@@ -81,6 +83,7 @@ fn keep_in(
 
 // Takes the line that begins at a place, in rooms in which all is zero before it.
 pub fn keep_line(
+    live: &Live,
     to: Sink,
     expected: &[u8],
     file: i32,
@@ -96,7 +99,7 @@ pub fn keep_line(
 {
     let mut room = [0u64; lengths::ROOM];
     let mut out = [0u8; lines::TEXT];
-    keep_in(
+    keep_in(live,
         to,
         expected,
         file,

@@ -3,6 +3,7 @@ ghost use Rattle.std.specs.Prelude.{◌≡◌};
 ghost use Rattle.stream_law.specs.Sinks.{SentAs, kept_by, length_of, settled, saved_part, ShortAs, CutAs};
 
 use crate::{comparing, handing};
+use descriptors::live::Live;
 use stream_law::{Place, Sink};
 
 // The most bytes that a file can be cut to.
@@ -22,11 +23,11 @@ fn kept(status: i32) -> Sink
 }
 
 // Waits until all that was handed to the file has reached the disk; a comparison holds the mark of that.
-fn settle(to: Sink, expected: &[u8], file: i32) -> Sink
+fn settle(live: &Live, to: Sink, expected: &[u8], file: i32) -> Sink
     ensures { SentAs expected.now to settled result }
 {
     match to {
-        Sink::Print => kept(libc::fdatasync(file)),
+        Sink::Print => kept(live.settle(file)),
         Sink::Match(at) => comparing::hold_byte(expected, at, DISK),
         Sink::Differs => Sink::Differs,
         Sink::Unsaved => Sink::Unsaved,
@@ -35,14 +36,14 @@ fn settle(to: Sink, expected: &[u8], file: i32) -> Sink
 }
 
 // Saves some bytes: appends them to the file, and waits until they have reached the disk. No bytes are not handed at all.
-pub fn save(to: Sink, expected: &[u8], file: i32, bytes: &[u8]) -> Sink
+pub fn save(live: &Live, to: Sink, expected: &[u8], file: i32, bytes: &[u8]) -> Sink
     ensures { SentAs expected.now to (saved_part bytes.now) result }
 {
     if bytes.len() == 0 {
         return to;
     }
-    let handed = handing::hand(to, expected, Place::File(file), bytes);
-    settle(handed, expected, file)
+    let handed = handing::hand(live, to, expected, Place::File(file), bytes);
+    settle(live, handed, expected, file)
 }
 
 // A number of bytes as the C library takes it; a larger one is -1, at which it fails.
@@ -56,11 +57,11 @@ fn length_of(count: usize) -> i64
 }
 
 // Cuts the file to its first bytes; a comparison passes over as many bytes.
-fn shorten(to: Sink, expected: &[u8], file: i32, count: usize) -> Sink
+fn shorten(live: &Live, to: Sink, expected: &[u8], file: i32, count: usize) -> Sink
     ensures { ShortAs expected.now to count result }
 {
     match to {
-        Sink::Print => kept(libc::ftruncate(file, length_of(count))),
+        Sink::Print => kept(live.cut(file, length_of(count))),
         Sink::Match(at) => comparing::pass(expected, at, count),
         Sink::Differs => Sink::Differs,
         Sink::Unsaved => Sink::Unsaved,
@@ -69,9 +70,9 @@ fn shorten(to: Sink, expected: &[u8], file: i32, count: usize) -> Sink
 }
 
 // Cuts the file to its first bytes, and waits until that has reached the disk.
-pub fn cut(to: Sink, expected: &[u8], file: i32, count: usize) -> Sink
+pub fn cut(live: &Live, to: Sink, expected: &[u8], file: i32, count: usize) -> Sink
     ensures { CutAs expected.now to count result }
 {
-    let short = shorten(to, expected, file, count);
-    settle(short, expected, file)
+    let short = shorten(live, to, expected, file, count);
+    settle(live, short, expected, file)
 }

@@ -3,6 +3,7 @@ ghost use Rattle.std.specs.Prelude.{◌≡◌, ◌∷◌, length};
 ghost use Rattle.stream_law.specs.Sinks.{matched, SentAs, descriptor_of, failed_at, took_by, held_by, WroteAs, mark_of, mark_by};
 
 use crate::{comparing, is_open};
+use descriptors::live::Live;
 use descriptors::writing;
 use stream_law::{Place, Sink, Wrote};
 
@@ -17,7 +18,7 @@ fn descriptor(place: Place) -> i32
 {
     match place {
         Place::File(fd) => fd,
-        Place::Output => libc::STDOUT_FILENO,
+        Place::Output => descriptors::OUTPUT,
     }
 }
 
@@ -64,11 +65,11 @@ fn none(to: Sink) -> Wrote
 }
 
 // Hands on the first bytes: as many as one write takes.
-fn write_once(to: Sink, expected: &[u8], place: Place, bytes: &[u8]) -> Wrote
+fn write_once(live: &Live, to: Sink, expected: &[u8], place: Place, bytes: &[u8]) -> Wrote
     ensures { WroteAs expected.now to bytes.now result }
 {
     match to {
-        Sink::Print => took(place, writing::write_some(descriptor(place), bytes)),
+        Sink::Print => took(place, writing::write_some(live, descriptor(place), bytes)),
         Sink::Match(at) => held(expected, at, bytes),
         Sink::Differs => none(Sink::Differs),
         Sink::Unsaved => none(Sink::Unsaved), // what could not be saved is not shown
@@ -77,13 +78,13 @@ fn write_once(to: Sink, expected: &[u8], place: Place, bytes: &[u8]) -> Wrote
 }
 
 // Hands on all bytes, write by write.
-pub fn write_all(to: Sink, expected: &[u8], place: Place, bytes: &[u8]) -> Sink
+pub fn write_all(live: &Live, to: Sink, expected: &[u8], place: Place, bytes: &[u8]) -> Sink
     ensures { SentAs expected.now to bytes.now result }
 {
     let mut sink = to;
     let mut at: usize = 0;
     while at < bytes.len() {
-        let wrote = write_once(sink, expected, place, &bytes[at..]);
+        let wrote = write_once(live, sink, expected, place, &bytes[at..]);
         let taken = wrote.taken;
         sink = wrote.to;
         if !is_open(sink) {
@@ -118,8 +119,8 @@ fn mark(to: Sink, expected: &[u8], place: Place) -> Sink
 }
 
 // Hands a place some bytes, behind their mark.
-pub fn hand(to: Sink, expected: &[u8], place: Place, bytes: &[u8]) -> Sink
+pub fn hand(live: &Live, to: Sink, expected: &[u8], place: Place, bytes: &[u8]) -> Sink
     ensures { SentAs expected.now to (mark_of place ∷ bytes.now) result }
 {
-    write_all(mark(to, expected, place), expected, place, bytes)
+    write_all(live, mark(to, expected, place), expected, place, bytes)
 }

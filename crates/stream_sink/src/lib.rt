@@ -1,5 +1,5 @@
 // stream_sink: where a run's bytes go: to the file of a day and to standard output, or against an expected text that is lent.
-// It may use libc, descriptors and the definitions of stream_law. It promises, of any bytes: a comparison sees every call that a live sink makes,
+// It may use descriptors and the definitions of stream_law. It promises, of any bytes: a comparison sees every call that a live sink makes,
 // in its order (the bytes of a place behind its mark, write by write until all are taken, each wait for the disk, and the cut) and answers what
 // stream_law says; a sink that met a difference or a call that failed stays as it is, and makes no other; and what a call came to is said of its
 // number by an equation. That a live sink makes the call that a comparison sees is one line for each: in `write_once`, `settle` and `shorten`.
@@ -14,25 +14,26 @@ mod handing;
 ghost use Rattle.std.specs.Prelude.{◌≡◌, length, eqb};
 ghost use Rattle.stream_law.specs.Sinks.{SentAs, is_open, shown_part, compared_by, finish_of};
 
+use descriptors::live::Live;
 use stream_law::{Finish, Place, Sink};
 
 // ---- bytes are handed on
 
 // Sends some bytes to standard output.
-pub fn send(to: Sink, expected: &[u8], bytes: &[u8]) -> Sink
+pub fn send(live: &Live, to: Sink, expected: &[u8], bytes: &[u8]) -> Sink
     ensures { SentAs expected.now to bytes.now result }
 {
-    handing::write_all(to, expected, Place::Output, bytes)
+    handing::write_all(live, to, expected, Place::Output, bytes)
 }
 
 // Shows some bytes: prints them on standard output.
-pub fn show(to: Sink, expected: &[u8], bytes: &[u8]) -> Sink
+pub fn show(live: &Live, to: Sink, expected: &[u8], bytes: &[u8]) -> Sink
     ensures { SentAs expected.now to (shown_part bytes.now) result }
 {
     if bytes.len() == 0 {
         return to;
     }
-    handing::hand(to, expected, Place::Output, bytes)
+    handing::hand(live, to, expected, Place::Output, bytes)
 }
 
 // ---- the end

@@ -10,6 +10,7 @@ ghost use Rattle.std.specs.Prelude.{◌<◌, ◌-◌, min, ◌≡◌, length};
 ghost use Rattle.stream_law.specs.declared.Source.{Source};
 ghost use Rattle.stream_source.specs.Reads.{read_to, CopiedAs, ReadAs, ReadBehind, FilledAs};
 
+use descriptors::live::Live;
 use descriptors::{Got, reading};
 use stream_law::Source;
 
@@ -84,33 +85,33 @@ fn read_broken(given: &[u8], at: usize, buf: &mut [u8]) -> Read
 }
 
 // Reads once.
-fn read_some(from: Source, given: &[u8], buf: &mut [u8]) -> Read
+fn read_some(live: &Live, from: Source, given: &[u8], buf: &mut [u8]) -> Read
     requires { 0 < length buf.old }
     ensures { ReadAs given.now from buf.new result }
 {
     match from {
-        Source::Live(fd) => read_to(reading::read_some(fd, buf), Source::Live(fd)),
+        Source::Live(fd) => read_to(reading::read_some(live, fd, buf), Source::Live(fd)),
         Source::Text(at) => read_text(given, at, buf),
         Source::Broken(at) => read_broken(given, at, buf),
     }
 }
 
 // Reads once, into the part of the buffer behind what is kept.
-pub fn read_behind(from: Source, given: &[u8], have: usize, buf: &mut [u8]) -> Read
+pub fn read_behind(live: &Live, from: Source, given: &[u8], have: usize, buf: &mut [u8]) -> Read
     requires { have < length buf.old }
     ensures { ReadBehind given.now from have buf.old buf.new result }
 {
-    read_some(from, given, &mut buf[have..])
+    read_some(live, from, given, &mut buf[have..])
 }
 
 // Reads until the buffer is full or the source is at its end.
-pub fn fill(from: Source, given: &[u8], buf: &mut [u8]) -> Read
+pub fn fill(live: &Live, from: Source, given: &[u8], buf: &mut [u8]) -> Read
     ensures { FilledAs given.now from buf.new result }
 {
     let mut at: usize = 0;
     let mut source = from;
     while at < buf.len() {
-        let read = read_behind(source, given, at, buf);
+        let read = read_behind(live, source, given, at, buf);
         let got = read.got;
         source = read.from;
         match got {

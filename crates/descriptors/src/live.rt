@@ -1,0 +1,285 @@
+// What a program has open: standard input and output, and the files that it opened, each by its descriptor.
+use std::cell::Cell;
+use std::fs::{File, OpenOptions};
+use std::io::{Error, Read, Result, Stdin, Stdout, Write};
+use std::os::fd::AsRawFd;
+use std::str;
+
+// What the system says of a descriptor that is not open, of a number or a name that it does not take, and of too many open files.
+const NOT_OPEN: i32 = 9;
+
+const NOT_TAKEN: i32 = 22;
+
+const TOO_MANY: i32 = 24;
+
+// Standard input and standard output.
+#[derive(Clone, Copy)]
+struct Standard {
+    input: Stdin,
+    output: Stdout,
+}
+
+// What a call on some bytes answered: how many were moved, or -1; and the error that it left then.
+#[derive(Clone, Copy)]
+pub(crate) struct Answer {
+    pub(crate) number: isize,
+    pub(crate) error: i32,
+}
+
+// At most three files are open at a time. The number of the last error is kept, so that it can be told.
+#[derive(Drop)]
+pub struct Live {
+    standard: Option<Standard>,
+    first: Option<File>,
+    second: Option<File>,
+    third: Option<File>,
+    error: Cell<i32>,
+}
+
+fn code_of(error: Error) -> i32 {
+    match error.raw_os_error() {
+        Some(code) => code,
+        None => NOT_TAKEN,
+    }
+}
+
+fn number_of(count: usize) -> isize {
+    match isize::try_from(count) {
+        Ok(number) => number,
+        Err(_) => isize::MAX,
+    }
+}
+
+fn not_open<T>() -> Result<T> {
+    Err(Error::from_raw_os_error(NOT_OPEN))
+}
+
+// Whether this is the file of a descriptor.
+fn has(file: &Option<File>, fd: i32) -> bool {
+    match file {
+        Some(open) => open.as_raw_fd() == fd,
+        None => false,
+    }
+}
+
+fn read_file(file: &Option<File>, buf: &mut [u8]) -> Result<usize> {
+    match file {
+        Some(open) => {
+            let mut reader = open;
+            reader.read(buf)
+        }
+        None => not_open(),
+    }
+}
+
+fn write_file(file: &Option<File>, bytes: &[u8]) -> Result<usize> {
+    match file {
+        Some(open) => {
+            let mut writer = open;
+            writer.write(bytes)
+        }
+        None => not_open(),
+    }
+}
+
+fn settle_file(file: &Option<File>) -> Result<()> {
+    match file {
+        Some(open) => open.sync_data(),
+        None => not_open(),
+    }
+}
+
+fn cut_file(file: &Option<File>, length: u64) -> Result<()> {
+    match file {
+        Some(open) => open.set_len(length),
+        None => not_open(),
+    }
+}
+
+// Opens the file that a path names, which is UTF-8 text.
+fn open_by(rt: &HostRuntime, path: &[u8], how: &OpenOptions) -> Result<File> {
+    match str::from_utf8(path) {
+        Ok(name) => how.open(rt, name),
+        Err(_) => Err(Error::from_raw_os_error(NOT_TAKEN)),
+    }
+}
+
+impl Live {
+    fn with(standard: Option<Standard>) -> Live {
+        Live {
+            standard: standard,
+            first: None,
+            second: None,
+            third: None,
+            error: Cell::new(0),
+        }
+    }
+
+    // Nothing is open.
+    pub fn none() -> Live {
+        Live::with(None)
+    }
+
+    // Standard input and output are open.
+    pub fn standard(rt: &HostRuntime) -> Live {
+        Live::with(Some(Standard {
+            input: rt.stdin(),
+            output: rt.stdout(),
+        }))
+    }
+
+    // The number of the error that the last call left that failed.
+    pub fn last_error(&self) -> i32 {
+        self.error.get()
+    }
+
+    // ---- bytes
+
+    // The file of a descriptor, if there is one.
+    fn file(&self, fd: i32) -> &Option<File> {
+        if has(&self.first, fd) {
+            return &self.first;
+        }
+        if has(&self.second, fd) {
+            return &self.second;
+        }
+        &self.third
+    }
+
+    fn read_any(&self, fd: i32, buf: &mut [u8]) -> Result<usize> {
+        if fd == crate::INPUT {
+            return match self.standard {
+                Some(open) => {
+                    let mut input = open.input;
+                    input.read(buf)
+                }
+                None => not_open(),
+            };
+        }
+        read_file(self.file(fd), buf)
+    }
+
+    fn write_any(&self, fd: i32, bytes: &[u8]) -> Result<usize> {
+        if fd == crate::OUTPUT {
+            return match self.standard {
+                Some(open) => {
+                    let mut output = open.output;
+                    output.write(bytes)
+                }
+                None => not_open(),
+            };
+        }
+        write_file(self.file(fd), bytes)
+    }
+
+    fn counted(&self, moved: Result<usize>) -> Answer {
+        match moved {
+            Ok(count) => Answer {
+                number: number_of(count),
+                error: 0,
+            },
+            Err(error) => {
+                let code = code_of(error);
+                self.error.set(code);
+                Answer {
+                    number: -1,
+                    error: code,
+                }
+            }
+        }
+    }
+
+    // Reads once.
+    pub(crate) fn read(&self, fd: i32, buf: &mut [u8]) -> Answer {
+        let moved = self.read_any(fd, buf);
+        self.counted(moved)
+    }
+
+    // Writes once.
+    pub(crate) fn write(&self, fd: i32, bytes: &[u8]) -> Answer {
+        let moved = self.write_any(fd, bytes);
+        self.counted(moved)
+    }
+
+    // ---- files
+
+    // 0 where a file has done what it was asked, else -1.
+    fn status(&self, done: Result<()>) -> i32 {
+        match done {
+            Ok(()) => 0,
+            Err(error) => {
+                self.error.set(code_of(error));
+                -1
+            }
+        }
+    }
+
+    // Waits until all that was handed to a file has reached the disk. Answers 0, or -1.
+    pub fn settle(&self, fd: i32) -> i32 {
+        self.status(settle_file(self.file(fd)))
+    }
+
+    // Cuts a file to its first bytes. Answers 0, or -1, as where their number is negative.
+    pub fn cut(&self, fd: i32, length: i64) -> i32 {
+        match u64::try_from(length) {
+            Ok(count) => self.status(cut_file(self.file(fd), count)),
+            Err(_) => self.status(Err(Error::from_raw_os_error(NOT_TAKEN))),
+        }
+    }
+
+    // Takes in a file that was opened. Answers its descriptor, or -1.
+    fn take_in(&mut self, opened: Result<File>) -> i32 {
+        match opened {
+            Ok(file) => {
+                let fd = file.as_raw_fd();
+                if self.first.is_none() {
+                    self.first = Some(file);
+                } else if self.second.is_none() {
+                    self.second = Some(file);
+                } else if self.third.is_none() {
+                    self.third = Some(file);
+                } else {
+                    self.error.set(TOO_MANY);
+                    return -1;
+                }
+                fd
+            }
+            Err(error) => {
+                self.error.set(code_of(error));
+                -1
+            }
+        }
+    }
+
+    // Opens the file that a path names, to read it. Answers a descriptor, or -1.
+    pub fn open_read(&mut self, rt: &HostRuntime, path: &[u8]) -> i32 {
+        let mut how = OpenOptions::new();
+        how.read(true);
+        self.take_in(open_by(rt, path, &how))
+    }
+
+    // Opens it to append to it.
+    pub fn open_append(&mut self, rt: &HostRuntime, path: &[u8]) -> i32 {
+        let mut how = OpenOptions::new();
+        how.append(true);
+        self.take_in(open_by(rt, path, &how))
+    }
+
+    // Makes it, where the name is not taken, to write to it.
+    pub fn create(&mut self, rt: &HostRuntime, path: &[u8]) -> i32 {
+        let mut how = OpenOptions::new();
+        how.write(true).create_new(true);
+        self.take_in(open_by(rt, path, &how))
+    }
+
+    // Closes a file.
+    pub fn close(&mut self, fd: i32) {
+        if has(&self.first, fd) {
+            self.first = None;
+        } else if has(&self.second, fd) {
+            self.second = None;
+        } else if has(&self.third, fd) {
+            self.third = None;
+        }
+    }
+}

@@ -1,0 +1,9 @@
+-- Each return is one case: the place lies past the end of the expected output, or the bytes behind it decide.
+use Rattle.stream_law.proofs.Beginnings.{past_end, begins-there}
+use borrow.Author.Rules.{rules}
+use Rattle.stream_sink.proofs.comparing.is_next.Goals as goal
+
+ruleset answers = (rules, past_end, begins-there)
+
+pub returns-then-expected-at : goal.returns-then-expected-at
+returns-then-expected-at c = search answers
