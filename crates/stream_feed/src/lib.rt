@@ -94,7 +94,8 @@ fn hand_some(
 {
     let mut room = [0u64; lengths::ROOM];
     let mut out = [0u8; OUT];
-    hand_in(live,
+    hand_in(
+        live,
         to,
         expected,
         run,

@@ -26,7 +26,14 @@ fn goes_on(used: usize, to: Sink) -> bool
 }
 
 // Saves what is to be saved of a line, and only then shows its text: never the other way round.
-fn save_then_show(live: &Live, to: Sink, expected: &[u8], file: i32, saved: &[u8], text: &[u8]) -> Sink
+fn save_then_show(
+    live: &Live,
+    to: Sink,
+    expected: &[u8],
+    file: i32,
+    saved: &[u8],
+    text: &[u8],
+) -> Sink
     ensures { SentAs expected.now to (logging.line saved.now text.now) result }
 {
     let kept = stream_sink::files::save(live, to, expected, file, saved);
@@ -99,7 +106,8 @@ pub fn keep_line(
 {
     let mut room = [0u64; lengths::ROOM];
     let mut out = [0u8; lines::TEXT];
-    keep_in(live,
+    keep_in(
+        live,
         to,
         expected,
         file,

@@ -2,10 +2,9 @@
 -- contract says, and not at a name.
 use Rattle.stream_law.proofs.Sends.{sent_then}
 use borrow.Author.Rules.{rules}
-use Rattle.stream_line.proofs.save_then_show.Statement.{statement}
-use Rattle.stream_line.proofs.save_then_show.Tie as tie
+use Rattle.stream_line.proofs.save_then_show.Goals as goal
 
 ruleset answers = (rules, sent_then)
 
-pub save-then-show-spec : {M : Type 1} → statement M
-save-then-show-spec = tie.close (tie.spec (λ c κs. search answers) (λ c κs. search answers) (λ c. search answers))
+pub returns : goal.returns
+returns c = search answers

@@ -1,0 +1,18 @@
+-- Before each turn the run has gone from its start to where it stands, and the tables keep their lengths: that is what the loop keeps.
+use Rattle.stream_law.proofs.Handing.{handing-start, handing-end, handing-fits, handing-on, handing_less, handing-stops}
+use borrow.Author.Rules.{rules}
+use Rattle.stream_feed.proofs.hand_over.Goals as goal
+
+ruleset answers = (rules, handing-start, handing-end, handing-fits, handing-on, handing_less, handing-stops)
+
+pub loop-at-init : goal.loop-at-init
+loop-at-init c = search answers
+
+pub returns-then-not-more : goal.returns-then-not-more
+returns-then-not-more c = search answers
+
+pub loop-at-preserved : goal.loop-at-preserved
+loop-at-preserved c = search answers
+
+pub returns : goal.returns
+returns c = search answers
