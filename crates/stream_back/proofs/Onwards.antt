@@ -1,5 +1,5 @@
 -- Pieces are taken one after the other, and each leads the file on.
-use Prim.Native.Nat.{ℕ, ◌+◌, ◌-◌, ◌^◌, ◌≤◌, ◌<◌}
+use Prim.Native.Nat.{ℕ, ◌+◌, ◌-◌, ◌^◌, ◌≤◌}
 use native.Mathlib.Omega.{arith}
 use mathlib.Core.Path.{◌≡◌, sym, ap, subst}
 use mathlib.Core.Bool.{true, false, not, false≢true}
@@ -11,15 +11,15 @@ use Rattle.state_law.specs.declared.Session.{Session}
 use Rattle.resume_law.specs.declared.Back.{Back}
 use Rattle.resume_law.specs.declared.Passed.{Passed}
 use Rattle.resume_law.specs.declared.Coming.{Coming}
-use Rattle.resume_law.specs.Pieces.{Standing, standing, size_on, Onward, BackFrom, unread_back, Starts, PassedAs, coming_to, coming_end, stands_on}
+use Rattle.resume_law.specs.Pieces.{Standing, standing, Onward, BackFrom, unread_back, Starts, PassedAs, coming_to, coming_end, stands_on}
 use Rattle.resume_law.specs.Pieces.BackOf.{too_long}
 use Rattle.resume_law.proofs.Standings.{onward-none, onward_then, back_then, told_from}
 use Rattle.stream_law.specs.declared.Source.{Source}
-use Rattle.stream_law.specs.Sources.{Gives, Leads}
+use Rattle.stream_law.specs.Sources.{Gives}
 use Rattle.stream_law.specs.Streams.{ToFront}
 use Rattle.stream_law.proofs.Sources.{leads-none, leads_then, gives-some}
 use Rattle.stream_back.specs.declared.Piece.{Piece}
-use Rattle.stream_back.specs.Filled.{piece_to, Went, Comes, ComesOn, RestAs}
+use Rattle.stream_back.specs.Filled.{piece_to, Went, ComesOn, RestAs}
 
 -- ---- nothing read, and one after the other
 

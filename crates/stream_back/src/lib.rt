@@ -18,8 +18,8 @@ ghost use Rattle.stream_law.specs.Sources.{Gives};
 ghost use Rattle.stream_source.specs.Reads.{EndsWithin};
 ghost use Rattle.stream_back.specs.Filled.{stopped_at, coming_after, ComesOn, RestAs, OpensAs, Ended, EndedBy, StartsAs};
 
-use descriptors::live::Live;
 use descriptors::Got;
+use descriptors::live::Live;
 use lines_reading_law::ReadSettings;
 use resume_law::{Back, Comeback, Coming};
 use state::opening;
@@ -232,7 +232,9 @@ fn from_settings(
     let verdict = o.verdict;
     let session = o.session;
     match verdict {
-        Verdict::Fine => from_opening(live, from, given, session, first, end, buf, buys, sells, room),
+        Verdict::Fine => from_opening(
+            live, from, given, session, first, end, buf, buys, sells, room,
+        ),
         Verdict::Refused(refusal) => refused(Refusal::LineRefused, 0),
     }
 }
@@ -255,7 +257,9 @@ fn from_front(
 {
     match lines_reading::read_settings(&buf[0..end]) {
         ReadSettings::Whole(settings, first) => {
-            from_settings(live, from, given, settings, first, end, buf, buys, sells, room)
+            from_settings(
+                live, from, given, settings, first, end, buf, buys, sells, room,
+            )
         }
         ReadSettings::Unfinished => refused(Refusal::LineUnfinished, 0),
         ReadSettings::Wrong(place) => refused(Refusal::LineWrong, place),
