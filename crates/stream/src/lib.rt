@@ -14,8 +14,8 @@ ghost use Rattle.resume_law.specs.Pieces.{too_many};
 ghost use Rattle.stream_law.specs.Sources.{Gives};
 ghost use Rattle.stream_law.specs.Streams.{says_of, holding, is_on, held_as, held_on, Hears, HearsOn, is_done, EndedAs, ThroughAs, FreshThrough, Compares, PrintedAs};
 
-use descriptors::live::Live;
 use descriptors::Got;
+use descriptors::live::Live;
 use feed_law::Run;
 use stream_law::{Buffered, Finish, Mode, Reading, Sink, Source};
 use tables::lengths;
@@ -209,7 +209,9 @@ pub fn go_on(
     ensures { ThroughAs (says_of mode) expected.now (Gives given.now from) (holding run buys.old sells.old []) to result }
 {
     let mut buf = io::large_buffer();
-    run_all(live, from, given, mode, to, expected, run, &mut buf, buys, sells)
+    run_all(
+        live, from, given, mode, to, expected, run, &mut buf, buys, sells,
+    )
 }
 
 // A day from its first line on, kept nowhere.
@@ -219,7 +221,8 @@ fn through(live: &Live, from: Source, given: &[u8], to: Sink, expected: &[u8]) -
     let mut buys = [0u64; lengths::TABLE];
     let mut sells = [0u64; lengths::TABLE];
     let run = feed::start();
-    go_on(live,
+    go_on(
+        live,
         from,
         given,
         Mode::Bare,
