@@ -59,7 +59,8 @@ fn go_on(
     if !stream_sink::is_open(cut) {
         return stream_sink::finish(cut, expected);
     }
-    stream::go_on(live, 
+    stream::go_on(
+        live,
         input,
         given,
         Mode::Keeping(file),
@@ -82,7 +83,14 @@ fn bad_line(refusal: Refusal, place: usize, out: &mut [u8]) -> usize
 }
 
 // Tells of a bad line of the file, with a room for what is told.
-fn tell_in(live: &Live, to: Sink, expected: &[u8], refusal: Refusal, place: usize, out: &mut [u8]) -> Finish
+fn tell_in(
+    live: &Live,
+    to: Sink,
+    expected: &[u8],
+    refusal: Refusal,
+    place: usize,
+    out: &mut [u8],
+) -> Finish
     requires { line_room ≤ length out.old }
     ensures { BadTold expected.now to refusal place result }
 {
@@ -124,7 +132,9 @@ fn not_back(
 {
     if is_unbegun(refusal) {
         let fresh = feed::start();
-        return go_on(live, input, given, file, to, expected, 0, fresh, buys, sells);
+        return go_on(
+            live, input, given, file, to, expected, 0, fresh, buys, sells,
+        );
     }
     tell_bad(live, to, expected, refusal, place)
 }
@@ -151,11 +161,13 @@ fn begin(
     match answer {
         Comeback::Counts(count) => {
             let run = trading(session);
-            go_on(live, input, given, file, to, expected, count, run, buys, sells)
+            go_on(
+                live, input, given, file, to, expected, count, run, buys, sells,
+            )
         }
         Comeback::Refused(refusal, place) => {
-            not_back(live,
-                input, given, file, to, expected, refusal, place, buys, sells,
+            not_back(
+                live, input, given, file, to, expected, refusal, place, buys, sells,
             )
         }
     }
@@ -203,8 +215,8 @@ fn keep_open(
     let mut buys = [0u64; lengths::TABLE];
     let mut sells = [0u64; lengths::TABLE];
     let mut room = [0u64; lengths::ROOM];
-    keep_from(live,
-        saved, kept, input, given, file, to, expected, &mut buys, &mut sells, &mut room,
+    keep_from(
+        live, saved, kept, input, given, file, to, expected, &mut buys, &mut sells, &mut room,
     )
 }
 
@@ -221,7 +233,8 @@ fn are_open(saved: i32, file: i32) -> bool
 fn keep_live(live: &Live, input: i32, saved: i32, file: i32, none: &[u8]) -> Kept
     ensures { KeptAs none.now Any Any Sink.Print result }
 {
-    keep_open(live,
+    keep_open(
+        live,
         Source::Live(saved),
         none,
         Source::Live(input),
