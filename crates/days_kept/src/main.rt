@@ -26,7 +26,14 @@ fn compare(broken: bool, kept: &[u8], given: &[u8], expected: &[u8]) -> Kept {
 }
 
 // Reads the expected log, and compares.
-fn hold_to(live: &Live, broken: bool, kept: &[u8], given: &[u8], expected: i32, room: &mut [u8]) -> Kept {
+fn hold_to(
+    live: &Live,
+    broken: bool,
+    kept: &[u8],
+    given: &[u8],
+    expected: i32,
+    room: &mut [u8],
+) -> Kept {
     match reading::read_whole(live, expected, room) {
         Load::Whole(n) => compare(broken, kept, given, &room[0..n]),
         Load::TooLong => Kept::NotOpened,
@@ -75,8 +82,7 @@ fn run(live: &mut Live, broken: bool, saved: i32, input: i32, expected: i32) -> 
     let mut text = [0u8; TEXT];
     let mut room = [0u8; TEXT];
     let told = hold(
-        live,
-        broken, saved, input, expected, &mut file, &mut text, &mut room,
+        live, broken, saved, input, expected, &mut file, &mut text, &mut room,
     );
     live.close(saved);
     live.close(input);
