@@ -10,12 +10,11 @@ use Rattle.terms.specs.declared.Entry.{Entry}
 use Rattle.terms.specs.declared.Order.{Order}
 use Rattle.terms.specs.declared.Report.{Report}
 use Rattle.terms.specs.declared.Said.TheVariants.{Accept}
-use Rattle.terms.specs.Sizes.{slots}
 use Rattle.tables.specs.Lengths.{record_length}
 use Rattle.tables.specs.Records.{records_of}
 use Rattle.rules_law.specs.Reference.{RangeFits}
 use Rattle.tables.specs.Put.{put}
-use Rattle.tables.specs.Tables.{decode, table_of, Holds}
+use Rattle.tables.specs.Tables.{decode, table_of}
 use Rattle.tables.proofs.Slots.{length-decode}
 use Rattle.tables.proofs.Puts.{length-put}
 use Rattle.tables.proofs.Records.{length_records}
@@ -30,9 +29,9 @@ use Rattle.book_law.proofs.Remainder.{length-trades}
 use Rattle.state_law.specs.declared.Session.{Session}
 use Rattle.state_law.specs.Set.{set_given}
 use Rattle.state_law.specs.Now.{band_now}
-use Rattle.state_law.specs.Trades.{with_trades, TradesFit}
+use Rattle.state_law.specs.Trades.{with_trades}
 use Rattle.acts_law.specs.Acts.{last_in, sweep_in}
-use Rattle.acts_law.specs.code.Written.{Written, fills_at, Deals, EachDeals, Remembering}
+use Rattle.acts_law.specs.code.Written.{Written, fills_at, Deals, Remembering}
 use Rattle.acts_law.specs.declared.Crossed.{Crossed}
 use Rattle.acts_law.specs.code.Entering.{incoming_in, Meeting, CrossedAs, MetAs}
 use Rattle.acts_law.proofs.Reports.{written-length, written_then}

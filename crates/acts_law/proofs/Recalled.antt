@@ -20,7 +20,7 @@ use Rattle.state_law.specs.declared.Session.{Session}
 use Rattle.state_law.specs.Now.{band_now}
 use Rattle.state_law.specs.Trades.{with_trade, with_trades, TradesFit}
 use Rattle.state_law.proofs.Fits.{fits_after, band-kept}
-use Rattle.acts_law.specs.code.Written.{fill_at, fills_at, Deals, EachDeals, Remembering}
+use Rattle.acts_law.specs.code.Written.{fill_at, fills_at, Deals, Remembering}
 
 -- ---- in the code's loop
 

@@ -1,7 +1,6 @@
 -- PACKING AND UNPACKING EVENTS ARE INVERSE, whatever follows the numbers.
 use Prim.Native.Nat.{ℕ, ◌≤◌}
 use mathlib.Core.Path.{◌≡◌, refl, sym, ◌∙◌}
-use mathlib.Core.Bool.{true}
 use mathlib.Core.List.{List, [], ◌∷◌, ◌++◌}
 use lib.ListN.{length, get_or, take}
 use Rattle.terms.specs.declared.Act.{Act}

@@ -1,6 +1,6 @@
 -- What a call leaves follows from its verdict: a refused call answers its row and leaves everything as it was; an accepted one leaves what
 -- the act leaves.
-use Prim.Native.Nat.{ℕ, ◌≤◌}
+use Prim.Native.Nat.{ℕ}
 use mathlib.Core.Path.{◌≡◌, sym, ◌∙◌}
 use mathlib.Core.Bool.{Bool, true, false, not}
 use mathlib.Core.List.{List}
@@ -12,7 +12,6 @@ use Rattle.terms.specs.declared.Refusal.{Refusal}
 use Rattle.terms.specs.declared.Refusal.TheVariants.{SmallRoom}
 use Rattle.terms.specs.declared.Verdict.{Verdict}
 use Rattle.terms.specs.declared.Verdict.TheVariants.{Fine, Refused}
-use Rattle.tables.specs.Lengths.{table_length, room_length}
 use Rattle.tables.specs.Records.{records_of}
 use Rattle.terms.specs.Refusals.{first_failed}
 use Rattle.terms.proofs.Logic.{both, make, cases}

@@ -5,7 +5,6 @@ use mathlib.Core.Path.{◌≡◌, ap, sym, refl, ◌∙◌}
 use mathlib.Core.Bool.{true}
 use mathlib.Core.List.{List, ◌++◌}
 use borrow.Author.Tests.{ltb-true}
-use lib.Dec.{ltb}
 use lib.ListN.{length}
 use Rattle.terms.specs.declared.Act.TheVariants.{Enter}
 use Rattle.terms.specs.declared.Entry.{Entry}
@@ -27,7 +26,7 @@ use Rattle.state_law.specs.Trades.{with_trades}
 use Rattle.state_law.specs.Day.{own}
 use Rattle.soundness_law.specs.Sound.{day_in}
 use Rattle.refusal_law.specs.Refusals.{life_has_place, has_place}
-use Rattle.refusal_law.proofs.Accepted.{in_day, numbers-left}
+use Rattle.refusal_law.proofs.Accepted.{numbers-left}
 use Rattle.acts_law.specs.Acts.{clock_reports, act, sweep_in, fate_in, entered}
 use Rattle.acts_law.specs.code.Written.{Written, Deals}
 use Rattle.acts_law.specs.declared.Entered.{Entered}

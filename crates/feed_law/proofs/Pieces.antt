@@ -1,16 +1,13 @@
 -- Bytes that are fed in pieces print what they print when they are fed whole.
-use Prim.Native.Nat.{ℕ, zero, suc, ◌+◌, ◌-◌, ◌≤◌}
+use Prim.Native.Nat.{ℕ, ◌+◌, ◌-◌, ◌≤◌}
 use native.Mathlib.Omega.{arith}
 use mathlib.Core.Path.{◌≡◌, refl, sym, ap, ◌∙◌, subst}
-use mathlib.Core.Bool.{cond}
-use mathlib.Core.List.{List, [], ◌∷◌, ◌++◌, append_assoc, append-nil}
+use mathlib.Core.List.{List, [], ◌++◌, append_assoc, append-nil}
 use lib.ListN.{length, drop, length-drop}
-use lib.Seq.{drop-drop, drop-append-le}
-use lib.Dec.{ltb, eqb}
-use borrow.Author.Tests.{eqb-false, ne_eqb}
+use lib.Seq.{drop-drop}
+use lib.Dec.{ltb}
 use Rattle.terms.specs.Sizes.{line_room}
-use Rattle.terms.proofs.Logic.{by, cases}
-use Rattle.lines_text_law.specs.code.Pieces.{at}
+use Rattle.terms.proofs.Logic.{by}
 use Rattle.feed_law.specs.declared.Stage.{Stage}
 use Rattle.feed_law.specs.declared.Stop.{Stop}
 use Rattle.feed_law.specs.Texts.{end_text}

@@ -189,15 +189,15 @@ record-line : (l : List ℕ) (r : Report) → record_text (record_of r ++ l) ≡
 unfolding record_text
 record-line l r = ap told_text (told-front r l)
 
-lines_of : (rs : List Report) (l : List ℕ) → records_text (length rs) (records_of rs ++ l) ≡ reports_text rs
+lines_of_lem : (rs : List Report) (l : List ℕ) → records_text (length rs) (records_of rs ++ l) ≡ reports_text rs
 unfolding records_text records_of reports_text
-lines_of [] l = refl
-lines_of (r ∷ rs) l =
+lines_of_lem [] l = refl
+lines_of_lem (r ∷ rs) l =
     let e : (record_of r ++ records_of rs) ++ l ≡ record_of r ++ (records_of rs ++ l) = append_assoc (record_of r) (records_of rs) l in
     let d : drop record_length (record_of r ++ (records_of rs ++ l)) ≡ records_of rs ++ l = drop_at (record_of r) (records_of rs ++ l) record_length (length-record r) in
-    rw (e, d, record-line (records_of rs ++ l) r, lines_of rs l)
+    rw (e, d, record-line (records_of rs ++ l) r, lines_of_lem rs l)
 
 -- the lines of the records that a call leaves in its room are those of its reports
 pub records_line : (rs : List Report) (room : List ℕ) → records_text (length rs) (put room 0 (records_of rs)) ≡ reports_text rs
 unfolding put
-records_line rs room = lines_of rs _
+records_line rs room = lines_of_lem rs _

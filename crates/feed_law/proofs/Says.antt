@@ -3,7 +3,7 @@ use Prim.Native.Nat.{ℕ, zero, suc, ◌≤◌}
 use native.Mathlib.Omega.{arith}
 use mathlib.Core.Path.{◌≡◌, refl, sym, ap, ◌∙◌, subst}
 use mathlib.Core.Bool.{cond}
-use mathlib.Core.List.{List, [], ◌∷◌, ◌++◌, append-nil}
+use mathlib.Core.List.{List, [], ◌∷◌, ◌++◌}
 use lib.ListN.{length, take, drop, length-drop}
 use lib.Seq.{take-append-le, drop-append-le}
 use lib.Dec.{eqb}
@@ -12,7 +12,7 @@ use Rattle.terms.proofs.Logic.{cases}
 use Rattle.feed_law.specs.declared.Stage.{Stage}
 use Rattle.feed_law.specs.Worlds.{World}
 use Rattle.feed_law.specs.Turns.{Turn, waits, ends, turn_of, Says, printing, said_in, said_from}
-use Rattle.feed_law.proofs.First.{Sort, waiting, ending, going, sort, turn_none, turn_within, turn_saves}
+use Rattle.feed_law.proofs.First.{Sort, waiting, ending, going, sort, turn_none, turn_saves}
 
 -- nothing is said where nothing is saved or printed, nor at the end of a run that is over
 pub record Quiet {A : Type 0} (says : Says A) : Type 0 where

@@ -1,7 +1,7 @@
 -- A record determines its report: two lists of equally many reports with the same records are equal.
 use native.Mathlib.Omega.{arith}
 use mathlib.Core.Path.{◌≡◌, refl, sym, ap, ◌∙◌}
-use mathlib.Core.List.{List, [], ◌∷◌, ◌++◌}
+use mathlib.Core.List.{List, [], ◌∷◌}
 use lib.ListN.{length, drop}
 use lib.Seq.{drop_at}
 use Rattle.terms.specs.declared.Report.{Report}

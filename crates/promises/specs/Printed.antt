@@ -8,8 +8,8 @@ use Rattle.soundness_law.specs.Sound.{day_in}
 use Rattle.feed_law.specs.declared.Run.{Run}
 use Rattle.feed_law.specs.declared.Stop.{Stop}
 use Rattle.feed_law.specs.declared.Taken.{Taken}
-use Rattle.feed_law.specs.Worlds.{Lent, days}
-use Rattle.feed_law.specs.Turns.{Fed, Says, printing, said_from, printed}
+use Rattle.feed_law.specs.Worlds.{days}
+use Rattle.feed_law.specs.Turns.{Says, printing, said_from, printed}
 use Rattle.feed_law.specs.Feeds.{Feed, fresh_run, feed_verdict, fed_of, ended_of, TakenBy}
 
 -- ---- what a caller holds between calls: the run, both tables, and the bytes that were not taken

@@ -27,7 +27,7 @@ use Rattle.state_law.specs.Day.{opened}
 use Rattle.soundness_law.specs.Sound.{day_in}
 use Rattle.resume_law.specs.declared.Comeback.{Comeback}
 use Rattle.resume_law.specs.declared.Back.{Back}
-use Rattle.resume_law.specs.Rebuilt.{Rebuilt, refused, lines_from, trading_by, settled_by, resumed}
+use Rattle.resume_law.specs.Rebuilt.{Rebuilt, refused, lines_from, trading_by, resumed}
 use Rattle.resume_law.specs.Pieces.{BackBy, tells_bad, BackAs, BackBehind, standing, to_come, BackFrom, back_to, unread_back}
 use Rattle.resume_law.specs.Pieces.BackOf.{not_read, all_read, bad_met}
 use Rattle.resume_law.proofs.Lines.{settled}

@@ -98,7 +98,7 @@ module _ (moved : Bool) (buys sells bought sold : List ℕ) where
 -- scratch is long enough for a replay, and the tables are for what it leaves
 pub scratch-enough : (bought sold room : List ℕ) → Scratch bought sold room → LongEnough bought sold room
 scratch-enough bought sold room s =
-    record { buys_long = le_of_eq (sym s.bought_length); sells_long = le_of_eq (sym s.sold_length); room_long = le_of_eq (sym s.room_length_lem) }
+    record { buys_long = le_of_eq (sym s.bought_length); sells_long = le_of_eq (sym s.sold_length); room_long = le_of_eq (sym s.told_length) }
 
 pub fits-buys : (bought sold room buys sells b : List ℕ) → Scratch bought sold room → LongTables buys sells → length b ≡ length bought → length b ≤ length buys
 fits-buys bought sold room buys sells b s l e = rw (e, s.bought_length) l.buys_long
@@ -243,7 +243,7 @@ scratch_parts bought sold room l =
     record {
       bought_length = length-take-le table_length bought l.buys_long;
       sold_length = length-take-le table_length sold l.sells_long;
-      room_length_lem = length-take-le room_length room l.room_long;
+      told_length = length-take-le room_length room l.room_long;
     }
 
 -- what lies past them is as it was, and they are as many

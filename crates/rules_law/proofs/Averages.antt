@@ -1,5 +1,5 @@
 -- The weighted average to the nearest tick is the one that document 01 means, and computing it overflows nowhere.
-use Prim.Native.Nat.{ℕ, ◌+◌, ◌-◌, ◌*◌, ◌/◌, ◌≤◌, ◌<◌}
+use Prim.Native.Nat.{ℕ, ◌+◌, ◌*◌, ◌/◌, ◌≤◌, ◌<◌}
 use native.Mathlib.Omega.{arith}
 use native.Mathlib.Nat.{mul-le-mul, mul-le-mul_left, mul_assoc, mul_comm, mul-mod_left, add-mul, one-mul, le_trans, div-mul-le_self, lt-div-mul-add, div-eq_of_lt-le}
 use mathlib.Core.Path.{◌≡◌, sym, ap}

@@ -1,6 +1,6 @@
 -- What a minute's boundary makes of the reference; that two steps of time are one; and that after a second boundary further ones change
 -- nothing.
-use Prim.Native.Nat.{ℕ, zero, suc, ◌+◌, ◌-◌, ◌*◌, ◌/◌, ◌≤◌, ◌<◌}
+use Prim.Native.Nat.{ℕ, zero, suc, ◌+◌, ◌*◌, ◌/◌, ◌≤◌, ◌<◌}
 use native.Mathlib.Omega.{arith}
 use native.Mathlib.Nat.{zero-add, suc-add, add-mul, one-mul, div-mul-le_self, lt-div-mul-add}
 use mathlib.Core.Path.{◌≡◌, refl, sym, ap, ◌∙◌}

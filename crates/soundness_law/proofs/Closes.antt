@@ -15,7 +15,7 @@ use Rattle.terms.proofs.Logic.{by, cases, both, between_facts}
 use Rattle.terms.proofs.Valid.{valid_facts}
 use Rattle.rules_law.specs.declared.Tally.{Tally}
 use Rattle.rules_law.specs.declared.Tape.{Tape}
-use Rattle.rules_law.specs.Close.{no_tally, tallied, tally_all, nearest, average, kept, remembered, last_or, last_ten, close_price, next_base}
+use Rattle.rules_law.specs.Close.{no_tally, tallied, tally_all, nearest, average, kept, last_or, last_ten, close_price, next_base}
 use Rattle.rules_law.proofs.Averages.{nearest_is}
 use Rattle.state_law.specs.declared.Session.{Session}
 use Rattle.soundness_law.specs.Sound.{every, price_sound}

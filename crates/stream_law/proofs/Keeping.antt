@@ -24,7 +24,7 @@ use Rattle.feed_law.proofs.Says.{said-map}
 use Rattle.resume_law.specs.declared.Comeback.{Comeback}
 use Rattle.resume_law.specs.declared.Back.{Back}
 use Rattle.resume_law.specs.Rebuilt.{Rebuilt, resumed}
-use Rattle.resume_law.specs.Pieces.{BackBy, is_unbegun, tells_bad, too_many, BackAs, BackOf}
+use Rattle.resume_law.specs.Pieces.{BackBy, is_unbegun, tells_bad, BackAs, BackOf}
 use Rattle.resume_law.specs.Pieces.BackOf.{not_read, too_long, all_read, bad_met}
 use Rattle.promises.specs.Printed.{Holding}
 use Rattle.stream_law.specs.declared.Sink.{Sink}

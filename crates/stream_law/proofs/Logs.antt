@@ -1,16 +1,15 @@
 -- A comparison of a day that is kept, with a file and an input that are lent as texts, tells what it must of their log.
-use Prim.Native.Nat.{ℕ, ◌+◌, ◌≤◌, ◌<◌}
+use Prim.Native.Nat.{ℕ, ◌+◌, ◌<◌}
 use native.Mathlib.Omega.{arith}
 use native.Mathlib.Nat.{le_of_lt}
 use mathlib.Core.Path.{◌≡◌, refl, sym, ap, ◌∙◌, subst}
 use mathlib.Core.Bool.{Bool, true, false, cond}
-use mathlib.Core.List.{List, [], ◌∷◌, ◌++◌}
+use mathlib.Core.List.{List, [], ◌++◌}
 use lib.ListN.{length, take, length-append}
 use lib.Seq.{take_all}
 use lib.Dec.{leb}
-use borrow.Author.Tests.{leb-true, leb-false, lt-leb}
+use borrow.Author.Tests.{leb-true, leb-false}
 use Rattle.state_law.specs.Day.{Day}
-use Rattle.terms.specs.declared.Refusal.{Refusal}
 use Rattle.feed_law.specs.declared.Stage.{Stage}
 use Rattle.feed_law.specs.Texts.{bad_text}
 use Rattle.feed_law.specs.Worlds.{days}
@@ -18,15 +17,14 @@ use Rattle.feed_law.specs.Turns.{said_from}
 use Rattle.resume_law.specs.declared.Comeback.{Comeback}
 use Rattle.resume_law.specs.Rebuilt.{resumed}
 use Rattle.resume_law.specs.Pieces.{is_unbegun, tells_bad, too_many}
-use Rattle.promises.specs.Printed.{Holding}
 use Rattle.stream_law.specs.declared.Source.{Source}
 use Rattle.stream_law.specs.declared.Sink.{Sink}
 use Rattle.stream_law.specs.declared.Finish.{Finish}
 use Rattle.stream_law.specs.declared.Kept.{Kept}
 use Rattle.stream_law.specs.Sources.{Gives}
-use Rattle.stream_law.specs.Sinks.{matched_by, passed, SentAs, CutAs, settled, shown_part, finish_of}
+use Rattle.stream_law.specs.Sinks.{matched_by, SentAs, CutAs, settled, shown_part, finish_of}
 use Rattle.stream_law.specs.Streams.{logging, Finished, Tells}
-use Rattle.stream_law.specs.Keeping.{GoesOnFrom, StandsAt, no_day, RefusedBy, KeepsAs, KeptAs, log_behind, kept_log, KeptTells, LogCompared, BrokenTells, BrokenCompared}
+use Rattle.stream_law.specs.Keeping.{GoesOnFrom, no_day, RefusedBy, KeepsAs, KeptAs, log_behind, kept_log, KeptTells, LogCompared, BrokenTells, BrokenCompared}
 use Rattle.stream_law.specs.Keeping.GoesOnFrom.{uncut, on}
 use Rattle.stream_law.specs.Keeping.KeptAs.{unread, long, ran, told}
 use Rattle.stream_law.specs.Keeping.BrokenTells.{not_read, bad_line}

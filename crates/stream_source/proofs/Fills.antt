@@ -1,10 +1,10 @@
 -- Reads into a buffer, each behind what the last ones gave.
-use Prim.Native.Nat.{ℕ, zero, suc, ◌+◌, ◌-◌, ◌^◌, ◌≤◌, ◌<◌}
+use Prim.Native.Nat.{ℕ, ◌+◌, ◌-◌, ◌^◌, ◌≤◌, ◌<◌}
 use native.Mathlib.Omega.{arith}
 use native.Mathlib.Nat.{le_of_lt}
-use mathlib.Core.Path.{◌≡◌, refl, sym, ap, ◌∙◌, subst}
+use mathlib.Core.Path.{◌≡◌, sym, ap, ◌∙◌, subst}
 use mathlib.Core.Bool.{true, false}
-use mathlib.Core.List.{List, [], ◌++◌, append-nil}
+use mathlib.Core.List.{List, [], ◌++◌}
 use lib.ListN.{length, take, drop, length-drop}
 use lib.Seq.{take-add, take-append-le, drop_at, length-take-le}
 use borrow.Rule.Slice.PartMut.{post_of, put_mid, same_len_mid}
@@ -19,7 +19,7 @@ use Rattle.stream_law.proofs.Sources.{leads-none, leads_then, leads-end}
 use Rattle.stream_law.proofs.Beginnings.{rest_is}
 use Rattle.stream_law.proofs.Hearing.{front_kept}
 use Rattle.stream_source.specs.declared.Read.{Read}
-use Rattle.stream_source.specs.Reads.{read_to, came_of, StandsBy, ReadAs, ReadBehind, FilledAs}
+use Rattle.stream_source.specs.Reads.{read_to, came_of, ReadAs, ReadBehind, FilledAs}
 
 came-within : (most : ℕ) (g : Got) → GotWithin most g → came_of g ≤ most
 came-within most (Got.Bytes n) h = h

@@ -15,7 +15,7 @@ use Rattle.descriptors.specs.Counted.{GotWithin}
 use Rattle.stream_law.specs.declared.Source.{Source}
 use Rattle.stream_law.specs.Sources.{Gives, Leads}
 use Rattle.stream_source.specs.declared.Read.{Read}
-use Rattle.stream_source.specs.Reads.{read_to, CopiedAs, came_of, StandsBy, ReadAs}
+use Rattle.stream_source.specs.Reads.{read_to, CopiedAs, StandsBy, ReadAs}
 
 -- ---- a copy, byte by byte
 

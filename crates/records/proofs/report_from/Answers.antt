@@ -1,5 +1,4 @@
 -- Kind by kind: each return tells what a report of its kind says.
-use borrow.Author.Rules.{rules}
 use Rattle.terms.proofs.Numbered.{numbered}
 use Rattle.records_law.specs.Back.{said_by}
 use Rattle.records_law.proofs.Told.{by_kind, cancel_by}

@@ -1,5 +1,4 @@
 -- The report is told just where the numbers are its record.
-use borrow.Author.Rules.{rules}
 use Rattle.records_law.proofs.Told.{told_so, told_none}
 use Rattle.records.proofs.told_if.Goals as goal
 

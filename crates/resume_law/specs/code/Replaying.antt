@@ -123,7 +123,7 @@ pub record LaidIf (moved : Bool) (buys sells bought sold buys' sells' : List ℕ
 pub record Scratch (bought sold room : List ℕ) : Type 0 where
   pub bought_length : length bought ≡ table_length
   pub sold_length : length sold ≡ table_length
-  pub room_length_lem : length room ≡ room_length
+  pub told_length : length room ≡ room_length
 
 -- both tables and all scratch are long enough
 pub record AllLong (buys sells bought sold room : List ℕ) : Type 0 where

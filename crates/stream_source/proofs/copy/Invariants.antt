@@ -1,9 +1,8 @@
 -- Before each turn the first i bytes were copied.
-use Prim.Native.Nat.{◌≤◌, ◌-◌, ◌+◌, min}
-use mathlib.Core.Path.{◌≡◌, refl}
+use Prim.Native.Nat.{◌≤◌, ◌-◌}
+use mathlib.Core.Path.{◌≡◌}
 use lib.ListN.{length}
-use Rattle.stream_source.proofs.Texts.{Copied, copied_start, copied_on, copied_all}
-use borrow.Author.Rules.{rules}
+use Rattle.stream_source.proofs.Texts.{Copied}
 use Rattle.stream_source.proofs.copy.Given as goal
 
 abbrev pub invariant-loop-i : goal.invariant-loop-i

@@ -1,8 +1,4 @@
 -- What came so far stands in the buffer, and the source has led there.
-use Prim.Native.Nat.{◌≤◌, ◌<◌, ◌-◌, ◌^◌}
-use mathlib.Core.Path.{◌≡◌}
-use lib.ListN.{length, take}
-use Rattle.stream_law.specs.Sources.{Leads}
 use Rattle.stream_source.proofs.Fills.{fill_start, fill_on, fill-fits, fill-there, fill-ends, fill_fails, fill_full}
 use borrow.Author.Rules.{rules}
 use Rattle.stream_source.proofs.fill.Goals as goal

@@ -3,8 +3,6 @@ use Prim.Native.Nat.{◌≤◌, ◌<◌, ◌-◌, ◌^◌}
 use mathlib.Core.Path.{◌≡◌}
 use lib.ListN.{length, take}
 use Rattle.stream_law.specs.Sources.{Leads}
-use Rattle.stream_source.proofs.Fills.{fill_start, fill_on, fill-fits, fill-there, fill-ends, fill_fails, fill_full}
-use borrow.Author.Rules.{rules}
 use Rattle.stream_source.proofs.fill.Given as goal
 
 abbrev pub invariant-loop-at : goal.invariant-loop-at

@@ -1,5 +1,5 @@
 -- After i turns the first i bytes of the ending stand behind the path.
-use Rattle.std.proofs.Common.{◌≡◌, ◌-◌, ◌≤◌, length, rules}
+use Rattle.std.proofs.Common.{◌≡◌, ◌-◌, ◌≤◌, length}
 use Rattle.cases.proofs.files.end_with.Given as goal
 
 abbrev pub invariant-loop-i : goal.invariant-loop-i

@@ -1,5 +1,5 @@
 -- Each number begins where the last one ended, so the place never leaves the text.
-use Rattle.std.proofs.Common.{◌-◌, ◌≤◌, length, rules}
+use Rattle.std.proofs.Common.{◌≤◌, length}
 use Rattle.cases.proofs.nine.nine.Given as goal
 
 abbrev pub invariant-loop-k : goal.invariant-loop-k

@@ -1,5 +1,5 @@
 -- The place goes up by one at each turn and stays within the text.
-use Rattle.std.proofs.Common.{◌-◌, ◌≤◌, length, rules}
+use Rattle.std.proofs.Common.{◌-◌, ◌≤◌, length}
 use Rattle.cases.proofs.nine.read.Given as goal
 
 abbrev pub invariant-loop-at : goal.invariant-loop-at

@@ -1,8 +1,6 @@
 -- The buffer keeps its length, and at each turn fewer turns are left.
 use mathlib.Core.Path.{◌≡◌}
 use lib.ListN.{length}
-use Rattle.descriptors.proofs.Numbers.{read_settled, settled-over}
-use borrow.Author.Rules.{rules}
 use Rattle.descriptors.proofs.reading.read_settled.Given as goal
 
 abbrev pub invariant-loop-turns : goal.invariant-loop-turns

@@ -2,8 +2,6 @@
 use Prim.Native.Nat.{◌≤◌, ◌<◌, ◌-◌, ◌^◌}
 use mathlib.Core.Path.{◌≡◌}
 use lib.ListN.{length}
-use Rattle.descriptors.proofs.Parts.{read_fits, read_there}
-use borrow.Author.Rules.{rules}
 use Rattle.descriptors.proofs.reading.read_whole.Given as goal
 
 abbrev pub invariant-loop-at : goal.invariant-loop-at

@@ -1,6 +1,4 @@
 -- At each turn fewer turns are left.
-use Rattle.descriptors.proofs.Numbers.{wrote-settled, settled-over}
-use borrow.Author.Rules.{rules}
 use Rattle.descriptors.proofs.writing.write_settled.Given as goal
 
 abbrev pub invariant-loop-turns : goal.invariant-loop-turns

@@ -1,8 +1,4 @@
 -- At each turn, the digits left make the number that the whole makes, and the value so far has as many digits as were read.
-use Prim.Native.Nat.{◌≤◌, ◌<◌, ◌-◌, ◌^◌}
-use mathlib.Core.Path.{◌≡◌}
-use lib.ListN.{drop}
-use Rattle.lines_text_law.specs.code.Pieces.{number_on, more_on}
 use Rattle.lines_text_law.proofs.Steps.{number-ends, number-zero, number_low, number_high, number-first, more-none, more-ends, more_low, more_high, more_turn, one_more, nine_most}
 use borrow.Author.Rules.{rules}
 use Rattle.lines_text.proofs.pieces.number.Goals as goal

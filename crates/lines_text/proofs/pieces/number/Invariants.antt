@@ -3,8 +3,6 @@ use Prim.Native.Nat.{◌≤◌, ◌<◌, ◌-◌, ◌^◌}
 use mathlib.Core.Path.{◌≡◌}
 use lib.ListN.{drop}
 use Rattle.lines_text_law.specs.code.Pieces.{number_on, more_on}
-use Rattle.lines_text_law.proofs.Steps.{number-ends, number-zero, number_low, number_high, number-first, more-none, more-ends, more_low, more_high, more_turn, one_more, nine_most}
-use borrow.Author.Rules.{rules}
 use Rattle.lines_text.proofs.pieces.number.Given as goal
 
 abbrev pub invariant-loop-left : goal.invariant-loop-left

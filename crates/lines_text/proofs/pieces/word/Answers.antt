@@ -1,8 +1,4 @@
 -- At each turn, what is left of the word decides from here what the whole word decides: that is what the loop keeps.
-use Prim.Native.Nat.{◌≤◌, ◌-◌}
-use mathlib.Core.Path.{◌≡◌}
-use lib.ListN.{length, drop}
-use Rattle.lines_text_law.specs.code.Pieces.{word_on}
 use Rattle.lines_text_law.proofs.Steps.{word-past, word-ends, word_differs, word_turn}
 use borrow.Author.Rules.{rules}
 use Rattle.lines_text.proofs.pieces.word.Goals as goal

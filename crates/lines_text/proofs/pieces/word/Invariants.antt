@@ -3,8 +3,6 @@ use Prim.Native.Nat.{◌≤◌, ◌-◌}
 use mathlib.Core.Path.{◌≡◌}
 use lib.ListN.{length, drop}
 use Rattle.lines_text_law.specs.code.Pieces.{word_on}
-use Rattle.lines_text_law.proofs.Steps.{word-past, word-ends, word_differs, word_turn}
-use borrow.Author.Rules.{rules}
 use Rattle.lines_text.proofs.pieces.word.Given as goal
 
 abbrev pub invariant-loop-i : goal.invariant-loop-i

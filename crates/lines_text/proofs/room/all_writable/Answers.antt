@@ -1,11 +1,7 @@
 -- At each turn, the numbers left decide what all of them decide: that is what the loop keeps.
-use Prim.Native.Nat.{◌≤◌, ◌-◌}
 use native.Mathlib.Omega.{arith}
-use mathlib.Core.Path.{◌≡◌, ◌∙◌, sym}
-use lib.ListN.{length, drop}
-use Rattle.lines_text_law.specs.Numerals.{all_writable}
+use mathlib.Core.Path.{◌∙◌, sym}
 use Rattle.lines_text_law.proofs.Fills.{writable-end, writable-not, writable_turn}
-use borrow.Author.Rules.{rules}
 use Rattle.lines_text.proofs.room.all_writable.Goals as goal
 
 pub returns-then-numbers-i-gt-DIGITS : goal.returns-then-numbers-i-gt-DIGITS

@@ -1,11 +1,8 @@
 -- At each turn, the numbers left decide what all of them decide: that is what the loop keeps.
 use Prim.Native.Nat.{◌≤◌, ◌-◌}
-use native.Mathlib.Omega.{arith}
-use mathlib.Core.Path.{◌≡◌, ◌∙◌, sym}
+use mathlib.Core.Path.{◌≡◌}
 use lib.ListN.{length, drop}
 use Rattle.lines_text_law.specs.Numerals.{all_writable}
-use Rattle.lines_text_law.proofs.Fills.{writable-end, writable-not, writable_turn}
-use borrow.Author.Rules.{rules}
 use Rattle.lines_text.proofs.room.all_writable.Given as goal
 
 abbrev pub invariant-loop-i : goal.invariant-loop-i

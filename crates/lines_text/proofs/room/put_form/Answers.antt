@@ -1,7 +1,5 @@
 -- At each turn, putting what is left of the form into the room as it stands gives what putting the whole form gives.
-use Prim.Native.Nat.{◌-◌}
-use lib.ListN.{length}
-use Rattle.lines_text_law.proofs.Fills.{Left, left-all, left-fits, left_turn, left-none}
+use Rattle.lines_text_law.proofs.Fills.{left-all, left-fits, left_turn, left-none}
 use borrow.Author.Rules.{rules}
 use Rattle.lines_text.proofs.room.put_form.Goals as goal
 

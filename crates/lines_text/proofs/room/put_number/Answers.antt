@@ -1,14 +1,9 @@
 -- At each turn, putting the numeral of what is left into the room as it stands gives what putting the whole numeral gives.
-use Prim.Native.Nat.{◌+◌, ◌-◌, ◌≤◌}
 use native.Mathlib.Omega.{arith}
-use mathlib.Core.Path.{◌≡◌, refl, ◌∙◌, sym}
-use lib.ListN.{length, length-set}
-use Rattle.terms.specs.Sizes.{written_most}
-use Rattle.lines_text_law.specs.Numerals.{numeral}
-use Rattle.tables.specs.Put.{put}
+use mathlib.Core.Path.{◌∙◌, sym}
+use lib.ListN.{length-set}
 use Rattle.lines_text_law.proofs.Digits.{length-first, length_last}
 use Rattle.lines_text_law.proofs.Fills.{digit_turn, digit-end}
-use borrow.Author.Rules.{rules}
 use Rattle.lines_text.proofs.room.put_number.Goals as goal
 
 pub overflow_sub-p : goal.overflow_sub-p

@@ -1,14 +1,10 @@
 -- At each turn, putting the numeral of what is left into the room as it stands gives what putting the whole numeral gives.
-use Prim.Native.Nat.{◌+◌, ◌-◌, ◌≤◌}
-use native.Mathlib.Omega.{arith}
-use mathlib.Core.Path.{◌≡◌, refl, ◌∙◌, sym}
-use lib.ListN.{length, length-set}
+use Prim.Native.Nat.{◌+◌, ◌≤◌}
+use mathlib.Core.Path.{◌≡◌}
+use lib.ListN.{length}
 use Rattle.terms.specs.Sizes.{written_most}
 use Rattle.lines_text_law.specs.Numerals.{numeral}
 use Rattle.tables.specs.Put.{put}
-use Rattle.lines_text_law.proofs.Digits.{length-first, length_last}
-use Rattle.lines_text_law.proofs.Fills.{digit_turn, digit-end}
-use borrow.Author.Rules.{rules}
 use Rattle.lines_text.proofs.room.put_number.Given as goal
 
 abbrev pub invariant-loop-w : goal.invariant-loop-w

@@ -1,5 +1,4 @@
 -- Each return is one case of the close price: the half hour, the last ten, or else the last trade or the previous close.
-use borrow.Author.Rules.{rules}
 use Rattle.rules_law.proofs.Tapes.{closings}
 use Rattle.rules.proofs.close.closing.Goals as goal
 

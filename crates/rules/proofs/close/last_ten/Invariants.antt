@@ -1,8 +1,6 @@
 -- After i turns the first i trades are in the tally, and the rest added to it gives the tally of all ten; no sum overflows.
-use borrow.Author.Rules.{rules}
 use Prim.Native.Nat.{◌-◌}
-use Rattle.rules_law.proofs.Tapes.{Tallying, ten_turn, ten_end}
-use native.Mathlib.Omega.{arith}
+use Rattle.rules_law.proofs.Tapes.{Tallying}
 use Rattle.rules.proofs.close.last_ten.Given as goal
 
 abbrev pub invariant-loop-i : goal.invariant-loop-i

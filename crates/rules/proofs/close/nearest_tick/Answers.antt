@@ -1,8 +1,5 @@
 -- Lots times tick is bounded, so twice the value and the unit fit into a word.
-use borrow.Author.Rules.{rules}
 use Rattle.rules_law.specs.Close.{nearest}
-use Rattle.rules_law.proofs.Averages.{nearest-small}
-use native.Mathlib.Omega.{arith}
 use Rattle.rules.proofs.close.nearest_tick.Goals as goal
 
 pub returns : goal.returns

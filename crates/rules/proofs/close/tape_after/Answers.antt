@@ -1,6 +1,5 @@
 -- Each field of the tape is what its call answers.
 use Rattle.rules_law.specs.Close.{tape_after}
-use borrow.Author.Rules.{rules}
 use Rattle.rules.proofs.close.tape_after.Goals as goal
 
 pub returns : goal.returns

@@ -1,6 +1,5 @@
 -- The product of an underlying and a factor fits into a word, and the quotient is at most 110,600,000.
 use Rattle.rules_law.specs.Growth.{theoretical}
-use borrow.Author.Rules.{rules}
 use native.Mathlib.Omega.{arith}
 use native.Mathlib.Nat.{mul-le-mul}
 use Rattle.rules.proofs.growth.theoretical.Goals as goal

@@ -1,7 +1,5 @@
 -- The distance is compared with the reach: percent times reference, over 200, rounded down.
-use borrow.Author.Rules.{rules}
-use native.Mathlib.Omega.{arith}
-use Rattle.rules_law.proofs.Ranges.{range_product, range-below, range-above}
+use Rattle.rules_law.proofs.Ranges.{range-below, range-above}
 use Rattle.rules.proofs.reference.in_range.Goals as goal
 
 pub returns-then-x-reference : goal.returns-then-x-reference

@@ -1,7 +1,6 @@
 -- The code adds what the definition adds.
 use mathlib.Core.Path.{refl}
 use Rattle.rules_law.specs.Reference.{minute_after}
-use borrow.Author.Rules.{rules}
 use Rattle.rules.proofs.reference.minute_after.Goals as goal
 
 pub returns : goal.returns

@@ -1,8 +1,6 @@
 -- The reach is at most the reference, so neither end under- or overflows.
 use borrow.Author.Rules.{rules}
-use native.Mathlib.Omega.{arith}
 use Rattle.rules_law.specs.Reference.{range_low, range_high}
-use Rattle.rules_law.proofs.Ranges.{range_product, reach_small}
 use Rattle.rules.proofs.reference.range_ends.Goals as goal
 
 pub returns : goal.returns

@@ -1,5 +1,4 @@
 -- At most two boundaries matter: the first sees the minute's trades, and after the second nothing changes any more.
-use borrow.Author.Rules.{rules}
 use Rattle.rules_law.proofs.Minutes.{reckonings}
 use Rattle.rules.proofs.reference.reckon.Goals as goal
 

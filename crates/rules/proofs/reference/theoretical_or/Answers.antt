@@ -1,7 +1,6 @@
 -- Each return is one case: an underlying is known, or none is.
 use borrow.Author.Tests.{eq-eqb, ne_eqb}
 use Rattle.rules_law.specs.Reference.{theoretical_or}
-use borrow.Author.Rules.{rules}
 use Rattle.rules.proofs.reference.theoretical_or.Goals as goal
 
 pub returns-then-under-eq0 : goal.returns-then-under-eq0

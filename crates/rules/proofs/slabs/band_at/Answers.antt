@@ -1,5 +1,4 @@
 -- Each end is what its call answers.
-use borrow.Author.Rules.{rules}
 use Rattle.rules_law.proofs.Bands.{high_small}
 use Rattle.rules.proofs.slabs.band_at.Goals as goal
 

@@ -1,7 +1,6 @@
 -- The code makes the definition's tests in the same order.
 use borrow.Author.Tests.{eq-eqb, ne_eqb}
 use Rattle.rules_law.specs.Slabs.{cooling_after}
-use borrow.Author.Rules.{rules}
 use Rattle.rules.proofs.slabs.cooling_after.Goals as goal
 
 pub returns-then-widened-ne0 : goal.returns-then-widened-ne0

@@ -1,9 +1,6 @@
 -- Within the bounds of settings and percents no product overflows.
 use mathlib.Core.Path.{refl}
 use Rattle.rules_law.specs.Slabs.{high_at}
-use borrow.Author.Rules.{rules}
-use native.Mathlib.Omega.{arith}
-use Rattle.rules_law.proofs.Bands.{high_part, high_small}
 use Rattle.rules.proofs.slabs.high_at.Goals as goal
 
 pub returns : goal.returns

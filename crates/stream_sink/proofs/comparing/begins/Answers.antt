@@ -1,8 +1,5 @@
 -- The bytes before i are alike, so those from i on decide: that is what the loop keeps.
-use borrow.Author.Rules.{rules}
-use Prim.Native.Nat.{◌-◌}
-use lib.ListN.{length}
-use Rattle.stream_law.proofs.Beginnings.{not_longer, Agree, agree_start, agree_end, agree_not, agree_on}
+use Rattle.stream_law.proofs.Beginnings.{not_longer, agree_end, agree_not, agree_on}
 use Rattle.stream_sink.proofs.comparing.begins.Goals as goal
 
 pub returns-then-all-bytes : goal.returns-then-all-bytes

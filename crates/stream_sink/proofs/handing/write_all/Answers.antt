@@ -1,7 +1,5 @@
 -- Before each turn the first bytes were handed on; a sink that is shut ends it.
-use Prim.Native.Nat.{◌-◌, ◌^◌, ◌<◌}
-use lib.ListN.{length}
-use Rattle.stream_law.proofs.Writes.{Writing, writing_start, writing_ends, writing_on, writing_stops, writing_fits, writing_less}
+use Rattle.stream_law.proofs.Writes.{writing_start, writing_ends, writing_on, writing_stops, writing_fits, writing_less}
 use borrow.Author.Rules.{rules}
 use Rattle.stream_sink.proofs.handing.write_all.Goals as goal
 

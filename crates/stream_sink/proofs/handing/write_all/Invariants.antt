@@ -1,8 +1,7 @@
 -- Before each turn the first bytes were handed on; a sink that is shut ends it.
 use Prim.Native.Nat.{◌-◌, ◌^◌, ◌<◌}
 use lib.ListN.{length}
-use Rattle.stream_law.proofs.Writes.{Writing, writing_start, writing_ends, writing_on, writing_stops, writing_fits, writing_less}
-use borrow.Author.Rules.{rules}
+use Rattle.stream_law.proofs.Writes.{Writing}
 use Rattle.stream_sink.proofs.handing.write_all.Given as goal
 
 abbrev pub invariant-loop-at : goal.invariant-loop-at

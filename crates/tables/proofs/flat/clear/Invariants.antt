@@ -1,11 +1,8 @@
 -- After j turns the first j zeros are written.
 use Prim.Native.Nat.{◌≤◌, ◌-◌}
-use native.Mathlib.Omega.{arith}
-use borrow.Author.Rules.{rules}
 use mathlib.Core.Path.{◌≡◌}
 use lib.ListN.{length, take, replicate}
 use Rattle.tables.specs.Put.{put}
-use Rattle.tables.proofs.Copies.{written_none, clear_turn, clear_all}
 use Rattle.tables.proofs.flat.clear.Given as goal
 
 abbrev pub invariant-loop-j : goal.invariant-loop-j

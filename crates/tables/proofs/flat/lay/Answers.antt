@@ -1,10 +1,5 @@
 -- After j turns the first j numbers are written.
-use Prim.Native.Nat.{◌≤◌, ◌-◌}
-use native.Mathlib.Omega.{arith}
-use mathlib.Core.Path.{◌≡◌}
-use lib.ListN.{length, take}
-use Rattle.tables.specs.Put.{put}
-use Rattle.tables.proofs.Lays.{laid_none, laid_turn, laid-all}
+use Rattle.tables.proofs.Lays.{laid_none, laid_turn}
 use borrow.Author.Rules.{rules}
 use Rattle.tables.proofs.flat.lay.Goals as goal
 

@@ -1,11 +1,8 @@
 -- All but the first j numbers of the part are written; those still to be read lie below what was written.
 use Prim.Native.Nat.{◌≤◌, ◌+◌}
-use native.Mathlib.Omega.{arith}
-use borrow.Author.Rules.{rules}
 use mathlib.Core.Path.{◌≡◌}
 use lib.ListN.{length, take, drop}
 use Rattle.tables.specs.Put.{put}
-use Rattle.tables.proofs.Copies.{up_none, up_turn, up_all}
 use Rattle.tables.proofs.flat.shift_up.Given as goal
 
 abbrev pub invariant-loop-j : goal.invariant-loop-j

@@ -3,9 +3,7 @@ use Prim.Native.Nat.{suc, ◌+◌}
 use mathlib.Core.Path.{◌≡◌}
 use mathlib.Core.List.{[], ◌∷◌}
 use native.Mathlib.Omega.{arith}
-use lib.ListN.{length-set}
 use Rattle.tables.proofs.Puts.{sets_put}
-use borrow.Author.Rules.{rules}
 use Rattle.tables.proofs.flat.store3.Goals as goal
 
 pub returns : goal.returns

@@ -1,6 +1,5 @@
 -- The new order's numbers are written over those of its slot.
 use Rattle.tables.proofs.Whole.{swap_done}
-use borrow.Author.Rules.{rules}
 use Rattle.tables.proofs.orders.change.Goals as goal
 
 pub returns : goal.returns

@@ -1,6 +1,5 @@
 -- The record is written as two runs of three numbers, one behind the other.
 use Rattle.tables.proofs.Written.{record_done}
-use borrow.Author.Rules.{rules}
 use Rattle.tables.proofs.room.put_record.Goals as goal
 
 pub returns : goal.returns
