@@ -54,45 +54,16 @@ fn not_open<T>() -> Result<T> {
     Err(Error::from_raw_os_error(NOT_OPEN))
 }
 
-// Whether this is the file of a descriptor.
-fn has(file: &Option<File>, fd: i32) -> bool {
-    match file {
-        Some(open) => open.as_raw_fd() == fd,
-        None => false,
-    }
-}
-
-fn read_file(file: &Option<File>, buf: &mut [u8]) -> Result<usize> {
+// The file, if it is that of a descriptor.
+fn found(file: &Option<File>, fd: i32) -> Option<&File> {
     match file {
         Some(open) => {
-            let mut reader = open;
-            reader.read(buf)
+            if open.as_raw_fd() == fd {
+                return Some(open);
+            }
+            None
         }
-        None => not_open(),
-    }
-}
-
-fn write_file(file: &Option<File>, bytes: &[u8]) -> Result<usize> {
-    match file {
-        Some(open) => {
-            let mut writer = open;
-            writer.write(bytes)
-        }
-        None => not_open(),
-    }
-}
-
-fn settle_file(file: &Option<File>) -> Result<()> {
-    match file {
-        Some(open) => open.sync_data(),
-        None => not_open(),
-    }
-}
-
-fn cut_file(file: &Option<File>, length: u64) -> Result<()> {
-    match file {
-        Some(open) => open.set_len(length),
-        None => not_open(),
+        None => None,
     }
 }
 
@@ -136,40 +107,61 @@ impl Live {
     // ---- bytes
 
     // The file of a descriptor, if there is one.
-    fn file(&self, fd: i32) -> &Option<File> {
-        if has(&self.first, fd) {
-            return &self.first;
+    fn file(&self, fd: i32) -> Option<&File> {
+        if let Some(file) = found(&self.first, fd) {
+            return Some(file);
         }
-        if has(&self.second, fd) {
-            return &self.second;
+        if let Some(file) = found(&self.second, fd) {
+            return Some(file);
         }
-        &self.third
+        found(&self.third, fd)
     }
 
-    fn read_any(&self, fd: i32, buf: &mut [u8]) -> Result<usize> {
-        if fd == crate::INPUT {
-            return match self.standard {
-                Some(open) => {
-                    let mut input = open.input;
-                    input.read(buf)
+    fn read_standard(&self, fd: i32, buf: &mut [u8]) -> Result<usize> {
+        match self.standard {
+            Some(open) => {
+                if fd != crate::INPUT {
+                    return not_open();
                 }
-                None => not_open(),
-            };
+                let mut input = open.input;
+                input.read(buf)
+            }
+            None => not_open(),
         }
-        read_file(self.file(fd), buf)
+    }
+
+    fn write_standard(&self, fd: i32, bytes: &[u8]) -> Result<usize> {
+        match self.standard {
+            Some(open) => {
+                if fd != crate::OUTPUT {
+                    return not_open();
+                }
+                let mut output = open.output;
+                output.write(bytes)
+            }
+            None => not_open(),
+        }
+    }
+
+    // A file that was opened may have the number of a standard stream that was closed.
+    fn read_any(&self, fd: i32, buf: &mut [u8]) -> Result<usize> {
+        match self.file(fd) {
+            Some(file) => {
+                let mut reader = file;
+                reader.read(buf)
+            }
+            None => self.read_standard(fd, buf),
+        }
     }
 
     fn write_any(&self, fd: i32, bytes: &[u8]) -> Result<usize> {
-        if fd == crate::OUTPUT {
-            return match self.standard {
-                Some(open) => {
-                    let mut output = open.output;
-                    output.write(bytes)
-                }
-                None => not_open(),
-            };
+        match self.file(fd) {
+            Some(file) => {
+                let mut writer = file;
+                writer.write(bytes)
+            }
+            None => self.write_standard(fd, bytes),
         }
-        write_file(self.file(fd), bytes)
     }
 
     fn counted(&self, moved: Result<usize>) -> Answer {
@@ -216,13 +208,24 @@ impl Live {
 
     // Waits until all that was handed to a file has reached the disk. Answers 0, or -1.
     pub fn settle(&self, fd: i32) -> i32 {
-        self.status(settle_file(self.file(fd)))
+        let done = match self.file(fd) {
+            Some(file) => file.sync_data(),
+            None => not_open(),
+        };
+        self.status(done)
+    }
+
+    fn shorten(&self, fd: i32, length: u64) -> Result<()> {
+        match self.file(fd) {
+            Some(file) => file.set_len(length),
+            None => not_open(),
+        }
     }
 
     // Cuts a file to its first bytes. Answers 0, or -1, as where their number is negative.
     pub fn cut(&self, fd: i32, length: i64) -> i32 {
         match u64::try_from(length) {
-            Ok(count) => self.status(cut_file(self.file(fd), count)),
+            Ok(count) => self.status(self.shorten(fd, count)),
             Err(_) => self.status(Err(Error::from_raw_os_error(NOT_TAKEN))),
         }
     }
@@ -274,11 +277,11 @@ impl Live {
 
     // Closes a file.
     pub fn close(&mut self, fd: i32) {
-        if has(&self.first, fd) {
+        if found(&self.first, fd).is_some() {
             self.first = None;
-        } else if has(&self.second, fd) {
+        } else if found(&self.second, fd).is_some() {
             self.second = None;
-        } else if has(&self.third, fd) {
+        } else if found(&self.third, fd).is_some() {
             self.third = None;
         }
     }
