@@ -104,7 +104,7 @@ fn case(rt: &HostRuntime, live: &mut Live, i: usize, count: Count) -> Count {
 }
 
 fn main(rt: HostRuntime) {
-    let mut live = Live::none();
+    let mut live = Live::standard(&rt);
     let n = args::count(&rt);
     let mut count = counts::none();
     let mut i: usize = 1;

@@ -256,11 +256,13 @@ fn keep_both(live: &mut Live, input: i32, saved: i32, file: i32) -> Kept
     kept
 }
 
-// The same, of a file that was opened twice or could not be; then nothing is called that would change the error.
+// The same, of a file that was opened twice or could not be; then what was opened is closed, which leaves the error that is told.
 fn keep_opened(live: &mut Live, input: i32, saved: i32, file: i32) -> Kept
     ensures { OpenedAs saved file result }
 {
     if !are_open(saved, file) {
+        live.close(saved);
+        live.close(file);
         return Kept::NotOpened;
     }
     keep_both(live, input, saved, file)

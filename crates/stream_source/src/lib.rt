@@ -1,7 +1,7 @@
 // stream_source: where a run's bytes come from: a descriptor, or a text that is lent.
 // It may use descriptors and the definitions of stream_law. It promises, of any text: a read copies its next bytes, as many as there is room
 // for; behind the last it answers the end, or that it failed, as the source says; and where a buffer is filled in many reads, a failure among
-// them is answered as one. That a descriptor is read in the same way is one line, in `read_some`; what its reads give no contract can say,
+// them is answered as one. That a descriptor is read in the same way is one line, in `read_some`, by descriptors::live; what its reads give no contract can say,
 // since those of std name no bytes.
 
 #![tactic(auto)]
