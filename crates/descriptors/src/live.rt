@@ -1,4 +1,9 @@
 // What a program has open: standard input and output, and the files that it opened, each by its descriptor.
+ghost use Rattle.std.specs.Prelude.{◌≡◌, ◌<◌, ◌^◌, pos, negsuc, ◌<ℤ◌, IfSome, IsErr, OnOk, OnErr};
+ghost use Rattle.std.specs.IoError.{raw_os_error};
+ghost use Rattle.std.specs.Fd.{file_raw_fd};
+ghost use Rattle.descriptors.specs.Answered.{AnsweredAs};
+
 use std::cell::Cell;
 use std::fs::{File, OpenOptions};
 use std::io::{Error, Read, Result, Stdin, Stdout, Write};
@@ -36,26 +41,50 @@ pub struct Live {
     error: Cell<i32>,
 }
 
-fn code_of(error: Error) -> i32 {
+fn code_of(error: Error) -> i32
+    ensures { IfSome (raw_os_error error) (λ code. result ≡ code) }
+{
     match error.raw_os_error() {
         Some(code) => code,
         None => NOT_TAKEN,
     }
 }
 
-fn number_of(count: usize) -> isize {
+fn number_of(count: usize) -> isize
+    ensures { count < 2 ^ 63 → result ≡ pos count }
+{
     match isize::try_from(count) {
         Ok(number) => number,
         Err(_) => isize::MAX,
     }
 }
 
-fn not_open<T>() -> Result<T> {
+// What std answered of a call on some bytes, as a number and an error: a failure is -1, and never none moved, which would be the end.
+fn answer_of(moved: Result<usize>) -> Answer
+    ensures { AnsweredAs moved result }
+{
+    match moved {
+        Ok(count) => Answer {
+            number: number_of(count),
+            error: 0,
+        },
+        Err(error) => Answer {
+            number: -1,
+            error: code_of(error),
+        },
+    }
+}
+
+fn not_open<T>() -> Result<T>
+    ensures { IsErr result }
+{
     Err(Error::from_raw_os_error(NOT_OPEN))
 }
 
 // The file, if it is that of a descriptor.
-fn found(file: &Option<File>, fd: i32) -> Option<&File> {
+fn found(file: &Option<File>, fd: i32) -> Option<&File>
+    ensures { IfSome result (λ f. file_raw_fd f.now ≡ fd) }
+{
     match file {
         Some(open) => {
             if open.as_raw_fd() == fd {
@@ -107,7 +136,9 @@ impl Live {
     // ---- bytes
 
     // The file of a descriptor, if there is one.
-    fn file(&self, fd: i32) -> Option<&File> {
+    fn file(&self, fd: i32) -> Option<&File>
+        ensures { IfSome result (λ f. file_raw_fd f.now ≡ fd) }
+    {
         if let Some(file) = found(&self.first, fd) {
             return Some(file);
         }
@@ -164,21 +195,15 @@ impl Live {
         }
     }
 
-    fn counted(&self, moved: Result<usize>) -> Answer {
-        match moved {
-            Ok(count) => Answer {
-                number: number_of(count),
-                error: 0,
-            },
-            Err(error) => {
-                let code = code_of(error);
-                self.error.set(code);
-                Answer {
-                    number: -1,
-                    error: code,
-                }
-            }
+    // What a call answered; the error of one that failed is kept.
+    fn counted(&self, moved: Result<usize>) -> Answer
+        ensures { AnsweredAs moved result }
+    {
+        let answer = answer_of(moved);
+        if answer.number < 0 {
+            self.error.set(answer.error);
         }
+        answer
     }
 
     // Reads once.
@@ -195,14 +220,22 @@ impl Live {
 
     // ---- files
 
+    // Keeps the error of a call that failed, and answers -1.
+    fn failed(&self, code: i32) -> i32
+        ensures { result ≡ negsuc 0 }
+    {
+        self.error.set(code);
+        -1
+    }
+
     // 0 where a file has done what it was asked, else -1.
-    fn status(&self, done: Result<()>) -> i32 {
+    fn status(&self, done: Result<()>) -> i32
+        ensures done { OnOk done (result ≡ pos 0) }
+        ensures failed { OnErr done (result ≡ negsuc 0) }
+    {
         match done {
             Ok(()) => 0,
-            Err(error) => {
-                self.error.set(code_of(error));
-                -1
-            }
+            Err(error) => self.failed(code_of(error)),
         }
     }
 
@@ -223,15 +256,19 @@ impl Live {
     }
 
     // Cuts a file to its first bytes. Answers 0, or -1, as where their number is negative.
-    pub fn cut(&self, fd: i32, length: i64) -> i32 {
+    pub fn cut(&self, fd: i32, length: i64) -> i32
+        ensures { length <ℤ pos 0 → result ≡ negsuc 0 }
+    {
         match u64::try_from(length) {
             Ok(count) => self.status(self.shorten(fd, count)),
-            Err(_) => self.status(Err(Error::from_raw_os_error(NOT_TAKEN))),
+            Err(_) => self.failed(NOT_TAKEN),
         }
     }
 
     // Takes in a file that was opened. Answers its descriptor, or -1.
-    fn take_in(&mut self, opened: Result<File>) -> i32 {
+    fn take_in(&mut self, opened: Result<File>) -> i32
+        ensures { OnErr opened (result ≡ negsuc 0) }
+    {
         match opened {
             Ok(file) => {
                 let fd = file.as_raw_fd();
@@ -242,15 +279,11 @@ impl Live {
                 } else if self.third.is_none() {
                     self.third = Some(file);
                 } else {
-                    self.error.set(TOO_MANY);
-                    return -1;
+                    return self.failed(TOO_MANY);
                 }
                 fd
             }
-            Err(error) => {
-                self.error.set(code_of(error));
-                -1
-            }
+            Err(error) => self.failed(code_of(error)),
         }
     }
 
