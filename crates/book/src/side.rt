@@ -1,6 +1,7 @@
 // One side's orders in their table: an order put in by priority, found by its number, removed.
-ghost use Rattle.std.specs.Prelude.{◌≡◌, ◌≤◌, ◌<◌, eqb, length};
+ghost use Rattle.std.specs.Prelude.{◌≡◌, ◌≤◌, ◌<◌, Bool, eqb, length};
 ghost use Rattle.terms.specs.Sizes.{slots};
+ghost use Rattle.terms.specs.declared.Order.{Order};
 ghost use Rattle.tables.specs.Lengths.{table_length};
 ghost use Rattle.tables.specs.Tables.{decode, table_of, Holds};
 ghost use Rattle.book_law.specs.Priority.{better, ahead, insert, rests, removed, left_of};
@@ -28,19 +29,26 @@ pub fn is_ahead(side: Side, a: Order, b: Order) -> bool
     is_better(side, a.price, b.price) | (level & earlier)
 }
 
+// The slot of the first of n orders that passes a test, n where none does.
+fn first_where<F: Fn(Order) -> bool>(t: &[u64], n: usize, test: F) -> usize
+    requires long { (n ≤ slots) × (table_length ≤ length t.now) }
+    requires callable { F.IsAlwaysCallable test }
+    ensures { (p : Order → Bool) → ((x : Order) (r : Bool) → F.post test x r → r ≡ p x) → result ≡ first_where p (decode n t.now) }
+{
+    for i in 0..n {
+        if test(orders::order_at(t, i)) {
+            return i;
+        }
+    }
+    n
+}
+
 // The slot that a new order takes.
 pub fn place(t: &[u64], n: usize, side: Side, o: Order) -> usize
     requires { (n ≤ slots) × (table_length ≤ length t.now) }
     ensures { result ≡ first_where (λ x. ahead side o x) (decode n t.now) }
 {
-    let mut i: usize = 0;
-    while i < n {
-        if is_ahead(side, o, orders::order_at(t, i)) {
-            return i;
-        }
-        i += 1;
-    }
-    i
+    first_where(t, n, |x| is_ahead(side, o, x))
 }
 
 // The slot of the order of that number, n where none rests.
@@ -48,15 +56,7 @@ pub fn find(t: &[u64], n: usize, number: u64) -> usize
     requires { (n ≤ slots) × (table_length ≤ length t.now) }
     ensures { result ≡ first_where (λ x. eqb x.number number) (decode n t.now) }
 {
-    let mut i: usize = 0;
-    while i < n {
-        let o = orders::order_at(t, i);
-        if o.number == number {
-            return i;
-        }
-        i += 1;
-    }
-    i
+    first_where(t, n, |x| x.number == number)
 }
 
 // Whether the order of that number rests.
