@@ -23,9 +23,9 @@ fn held_to(given: u64, tick: u64, factor: u64, band: Band) -> Limits
     ensures { result ≡ limits_of given tick band }
 {
     Limits {
-        given: given,
-        tick: tick,
-        factor: factor,
+        given,
+        tick,
+        factor,
         low: band.low,
         high: band.high,
     }

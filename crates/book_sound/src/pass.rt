@@ -43,9 +43,8 @@ fn side_by(t: &[u64], n: usize, side: Side, l: Limits, mask: u64, map: &mut [u64
     ensures { (result ≡ pass_of side l mask 0 map.old (decode n t.now))
         × (map.new ≡ cond result (marked map.old (low_bits mask (decode n t.now))) map.new) }
 {
-    let mut i: usize = 0;
-    let mut last: u64 = 0;
-    while i < n {
+    let mut last = 0;
+    for i in 0..n {
         let o = orders::order_at(t, i);
         if !order_fine(l, o) {
             return false;
@@ -54,12 +53,10 @@ fn side_by(t: &[u64], n: usize, side: Side, l: Limits, mask: u64, map: &mut [u64
         if next <= last {
             return false;
         }
-        let x = o.number & mask;
-        if marks::mark(map, x) {
+        if marks::mark(map, o.number & mask) {
             return false;
         }
         last = next;
-        i += 1;
     }
     true
 }
@@ -83,40 +80,28 @@ fn sides_by(
     side_by(sells, nsells, Side::Sell, l, mask, map)
 }
 
-// The passes with marks of 10 bits of a number.
-fn sides_tiny(buys: &[u64], nbuys: usize, sells: &[u64], nsells: usize, l: Limits) -> bool
-    requires { TableFor nbuys buys.now × TableFor nsells sells.now × LimitsFit l }
-    ensures { result ≡ sides_by 1023 l (decode nbuys buys.now) (decode nsells sells.now) }
+// The passes with a map of so many words on the stack, for the low bits of a number that the mask keeps.
+fn sides_with<const WORDS: usize>(
+    buys: &[u64],
+    nbuys: usize,
+    sells: &[u64],
+    nsells: usize,
+    l: Limits,
+    mask: u64,
+) -> bool
+    requires { TableFor nbuys buys.now × TableFor nsells sells.now × LimitsFit l × (words_to mask ≤ WORDS) × (WORDS ≤ 1024) }
+    ensures { result ≡ sides_by mask l (decode nbuys buys.now) (decode nsells sells.now) }
 {
-    let mut map = [0u64; 16];
-    sides_by(buys, nbuys, sells, nsells, l, 1023, &mut map)
+    let mut map = [0u64; WORDS];
+    sides_by(buys, nbuys, sells, nsells, l, mask, &mut map)
 }
 
-// With 12 bits.
-fn sides_small(buys: &[u64], nbuys: usize, sells: &[u64], nsells: usize, l: Limits) -> bool
-    requires { TableFor nbuys buys.now × TableFor nsells sells.now × LimitsFit l }
-    ensures { result ≡ sides_by 4095 l (decode nbuys buys.now) (decode nsells sells.now) }
-{
-    let mut map = [0u64; 64];
-    sides_by(buys, nbuys, sells, nsells, l, 4095, &mut map)
-}
-
-// With 14 bits.
-fn sides_medium(buys: &[u64], nbuys: usize, sells: &[u64], nsells: usize, l: Limits) -> bool
-    requires { TableFor nbuys buys.now × TableFor nsells sells.now × LimitsFit l }
-    ensures { result ≡ sides_by 16383 l (decode nbuys buys.now) (decode nsells sells.now) }
-{
-    let mut map = [0u64; 256];
-    sides_by(buys, nbuys, sells, nsells, l, 16383, &mut map)
-}
-
-// With 16 bits, which tell any two order numbers apart.
+// The passes with 16 bits of a number, which tell any two order numbers apart.
 fn sides_large(buys: &[u64], nbuys: usize, sells: &[u64], nsells: usize, l: Limits) -> bool
     requires { TableFor nbuys buys.now × TableFor nsells sells.now × LimitsFit l }
     ensures { result ≡ sides_by 65535 l (decode nbuys buys.now) (decode nsells sells.now) }
 {
-    let mut map = [0u64; 1024];
-    sides_by(buys, nbuys, sells, nsells, l, 65535, &mut map)
+    sides_with::<1024>(buys, nbuys, sells, nsells, l, 65_535)
 }
 
 // The passes with the smallest map that serves, since it is cleared soonest: the numbers are low, or so few that equal marks are rare.
@@ -126,13 +111,13 @@ fn sides_least(buys: &[u64], nbuys: usize, sells: &[u64], nsells: usize, l: Limi
 {
     let live = nbuys + nsells;
     if (l.given <= 1023) | (live <= 16) {
-        return sides_tiny(buys, nbuys, sells, nsells, l);
+        return sides_with::<16>(buys, nbuys, sells, nsells, l, 1023);
     }
     if (l.given <= 4095) | (live <= 48) {
-        return sides_small(buys, nbuys, sells, nsells, l);
+        return sides_with::<64>(buys, nbuys, sells, nsells, l, 4095);
     }
     if l.given <= 16383 {
-        return sides_medium(buys, nbuys, sells, nsells, l);
+        return sides_with::<256>(buys, nbuys, sells, nsells, l, 16_383);
     }
     sides_large(buys, nbuys, sells, nsells, l)
 }
