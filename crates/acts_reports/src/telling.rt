@@ -19,14 +19,7 @@ pub fn tell(room: &mut [u64], at: usize, time: u64, said: Said) -> usize
     ensures { Written room.old at (report_at time said ∷ []) room.new result }
 {
     let next = at + lengths::RECORD;
-    tables::room::put_record(
-        room,
-        at,
-        Report {
-            time: time,
-            said: said,
-        },
-    );
+    tables::room::put_record(room, at, Report { time, said });
     next
 }
 
@@ -75,12 +68,7 @@ pub fn tell_cancel(
     requires { at + record_length ≤ length room.old }
     ensures { Written room.old at (ended time number lots why ∷ []) room.new result }
 {
-    let e = Ended {
-        number: number,
-        lots: lots,
-        why: why,
-    };
-    tell(room, at, time, Said::Cancel(e))
+    tell(room, at, time, Said::Cancel(Ended { number, lots, why }))
 }
 
 // Writes the cancels of all orders of a side, in priority order, at the day's end.
@@ -88,12 +76,10 @@ pub fn cancel_all(room: &mut [u64], at: usize, time: u64, t: &[u64], n: usize) -
     requires { (n ≤ slots) × (table_length ≤ length t.now) × (at + record_length * n ≤ length room.old) }
     ensures { Written room.old at (cancel_reports Why.DayEnd time (decode n t.now)) room.new result }
 {
-    let mut i: usize = 0;
     let mut next = at;
-    while i < n {
+    for i in 0..n {
         let o = tables::orders::order_at(t, i);
         next = tell_cancel(room, next, time, o.number, o.lots, Why::DayEnd);
-        i += 1;
     }
     next
 }

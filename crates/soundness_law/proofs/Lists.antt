@@ -1,5 +1,5 @@
 -- Two ways to test the numbers of an array: up to the first that fails; or all ten, without leaving the loop.
-use Prim.Native.Nat.{ℕ, zero, suc, ◌+◌, ◌≤◌, ◌<◌}
+use Prim.Native.Nat.{ℕ, zero, suc, ◌+◌, ◌<◌}
 use native.Mathlib.Omega.{arith}
 use native.Mathlib.Numerals.{add-one}
 use mathlib.Core.Path.{◌≡◌, refl, sym, ◌∙◌}
@@ -45,9 +45,6 @@ module _ (test : ℕ → Bool) (a : List ℕ) (i : ℕ) (all : Bool) (e : all �
   pub one_more : (found : Bool) → found ≡ test (get_or a i 0) → i < length a → (all && found) ≡ every test (take (i + 1) a)
   unfolding ◌⊓◌
   one_more found f h = rw (add-one i, next_tested test a i h, e, f)
-
-  pub all_tested : length a ≤ i → all ≡ every test a
-  all_tested h = e ∙ rw (take_all i a h)
 
 -- testing each number for both is testing all for the one and all for the other
 pub both_tests : (f g : ℕ → Bool) (a : List ℕ) → every (λ x. f x ⊓ g x) a ≡ (every f a ⊓ every g a)
