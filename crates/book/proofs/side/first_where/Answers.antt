@@ -5,13 +5,13 @@ use Rattle.book_law.proofs.Search.{search_none, search_found, search_turn}
 use Rattle.book.proofs.side.first_where.Goals as goal
 
 pub returns-then-test : goal.returns-then-test
-returns-then-test g c = λ p h. let o = c.order_at in
-    search_found p c.args.n c.args.t.now c.loop-i.i (c.loop-i.invariant p h) o.result o.ensures c.loop-i-test.true (sym (h o.result c.test.result c.test.ensures) ∙ c.if-test.true)
+returns-then-test g c = λ p h. let o = c.at in
+    search_found p c.args.orders.count c.args.orders.table.now c.loop-i.i (c.loop-i.invariant p h) o.result o.ensures c.loop-i-test.true (sym (h o.result c.test.result c.test.ensures) ∙ c.if-test.true)
 
 pub loop-i-preserved : goal.loop-i-preserved
-loop-i-preserved g c = λ p h. let o = c.order_at in
-    search_turn p c.args.n c.args.t.now c.loop-i.i (c.loop-i.invariant p h) o.result o.ensures c.loop-i-test.true (sym (h o.result c.test.result c.test.ensures) ∙ c.if-test.false)
+loop-i-preserved g c = λ p h. let o = c.at in
+    search_turn p c.args.orders.count c.args.orders.table.now c.loop-i.i (c.loop-i.invariant p h) o.result o.ensures c.loop-i-test.true (sym (h o.result c.test.result c.test.ensures) ∙ c.if-test.false)
 
 pub returns : goal.returns
-returns g c = λ p h. let e : c.args.n ≡ c.loop-i.i = omega arith in
-    e ∙ search_none p c.args.n c.args.t.now c.loop-i.i (c.loop-i.invariant p h) c.loop-i-test.false
+returns g c = λ p h. let e : c.args.orders.count ≡ c.loop-i.i = omega arith in
+    e ∙ search_none p c.args.orders.count c.args.orders.table.now c.loop-i.i (c.loop-i.invariant p h) c.loop-i-test.false
