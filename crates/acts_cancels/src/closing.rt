@@ -6,6 +6,7 @@ ghost use Rattle.acts_law.specs.code.Written.{Written, Finishing, ClosedAs};
 use acts_reports::telling;
 use rules::close;
 use state_law::Session;
+use tables::side::Orders;
 use terms::Said;
 
 // Writes the cancels of the buys, those of the sells and the close report, and answers the place behind them.
@@ -24,8 +25,24 @@ fn tell_close(
     let nbuys = s.live.buys as usize;
     let nsells = s.live.sells as usize;
     let closing = close::closing(s.settings.tick, s.settings.close, tape, settle);
-    let bought = telling::cancel_all(room, 0, time, buys, nbuys);
-    let sold = telling::cancel_all(room, bought, time, sells, nsells);
+    let bought = telling::cancel_all(
+        room,
+        0,
+        time,
+        Orders {
+            table: buys,
+            count: nbuys,
+        },
+    );
+    let sold = telling::cancel_all(
+        room,
+        bought,
+        time,
+        Orders {
+            table: sells,
+            count: nsells,
+        },
+    );
     telling::tell(room, sold, time, Said::Close(closing))
 }
 

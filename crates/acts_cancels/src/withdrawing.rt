@@ -6,6 +6,7 @@ ghost use Rattle.acts_law.specs.code.Written.{RestsIn, WithdrawnAs};
 
 use acts_law::Withdrawn;
 use acts_reports::telling;
+use tables::side::Orders;
 use terms::Why;
 
 // Removes the order of that number from the buys, or else from the sells; it rests on one of the two.
@@ -22,7 +23,13 @@ pub fn withdraw(
     requires { Holds nbuys buys.old × Holds nsells sells.old × (at + record_length ≤ length room.old) × RestsIn number (decode nbuys buys.old) (decode nsells sells.old) }
     ensures { WithdrawnAs number time (decode nbuys buys.old) (decode nsells sells.old) buys.old sells.old room.old at buys.new sells.new room.new result }
 {
-    if book::side::is_resting(buys, nbuys, number) {
+    if book::side::is_resting(
+        Orders {
+            table: buys,
+            count: nbuys,
+        },
+        number,
+    ) {
         let lots = book::side::remove(buys, nbuys, number);
         let next = telling::tell_cancel(room, at, time, number, lots, Why::Asked);
         let left = nbuys - 1;

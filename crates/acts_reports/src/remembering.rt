@@ -14,13 +14,11 @@ pub fn remember(s0: Session, band: Band, room: &[u64], at: usize, n: usize) -> S
     ensures { result ≡ with_trades s0 (fills_at n (drop at room.now)) }
 {
     let mut s = s0;
-    let mut i: usize = 0;
-    while i < n {
+    for i in 0..n {
         let place = at + lengths::RECORD * i;
         let lots = room[place + 4];
         let price = room[place + 5];
         s = trades::with_trade(s, band, price, lots);
-        i += 1;
     }
     s
 }

@@ -2,7 +2,7 @@
 ghost use Rattle.std.specs.Prelude.{not, [], ◌∷◌, ◌+◌, ◌*◌, ◌≤◌, eqb, length};
 ghost use Rattle.terms.specs.Sizes.{slots};
 ghost use Rattle.tables.specs.Lengths.{record_length, table_length};
-ghost use Rattle.tables.specs.Tables.{decode};
+ghost use Rattle.tables.specs.Live.{orders_in};
 ghost use Rattle.book_law.specs.Matching.{report_at};
 ghost use Rattle.state_law.specs.Now.{Clocked};
 ghost use Rattle.acts_law.specs.Acts.{only, slab_moved, slab_report, clock_reports, ended, cancel_reports};
@@ -11,6 +11,7 @@ ghost use Rattle.acts_law.specs.code.Written.{Written};
 use state::force;
 use state_law::Session;
 use tables::lengths;
+use tables::side::Orders;
 use terms::{Ended, Report, Said, Why};
 
 // Writes one report into the room, and answers the place behind it.
@@ -19,14 +20,7 @@ pub fn tell(room: &mut [u64], at: usize, time: u64, said: Said) -> usize
     ensures { Written room.old at (report_at time said ∷ []) room.new result }
 {
     let next = at + lengths::RECORD;
-    tables::room::put_record(
-        room,
-        at,
-        Report {
-            time: time,
-            said: said,
-        },
-    );
+    tables::room::put_record(room, at, Report { time, said });
     next
 }
 
@@ -75,25 +69,18 @@ pub fn tell_cancel(
     requires { at + record_length ≤ length room.old }
     ensures { Written room.old at (ended time number lots why ∷ []) room.new result }
 {
-    let e = Ended {
-        number: number,
-        lots: lots,
-        why: why,
-    };
-    tell(room, at, time, Said::Cancel(e))
+    tell(room, at, time, Said::Cancel(Ended { number, lots, why }))
 }
 
 // Writes the cancels of all orders of a side, in priority order, at the day's end.
-pub fn cancel_all(room: &mut [u64], at: usize, time: u64, t: &[u64], n: usize) -> usize
-    requires { (n ≤ slots) × (table_length ≤ length t.now) × (at + record_length * n ≤ length room.old) }
-    ensures { Written room.old at (cancel_reports Why.DayEnd time (decode n t.now)) room.new result }
+pub fn cancel_all(room: &mut [u64], at: usize, time: u64, orders: Orders) -> usize
+    requires { at + record_length * orders.count ≤ length room.old }
+    ensures { Written room.old at (cancel_reports Why.DayEnd time (orders_in orders.entry)) room.new result }
 {
-    let mut i: usize = 0;
     let mut next = at;
-    while i < n {
-        let o = tables::orders::order_at(t, i);
+    for i in 0..orders.count {
+        let o = orders.at(i);
         next = tell_cancel(room, next, time, o.number, o.lots, Why::DayEnd);
-        i += 1;
     }
     next
 }

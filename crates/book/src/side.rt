@@ -1,12 +1,14 @@
 // One side's orders in their table: an order put in by priority, found by its number, removed.
-ghost use Rattle.std.specs.Prelude.{◌≡◌, ◌≤◌, ◌<◌, eqb, length};
+ghost use Rattle.std.specs.Prelude.{◌≡◌, ◌<◌, Bool, eqb};
 ghost use Rattle.terms.specs.Sizes.{slots};
-ghost use Rattle.tables.specs.Lengths.{table_length};
+ghost use Rattle.terms.specs.declared.Order.{Order};
 ghost use Rattle.tables.specs.Tables.{decode, table_of, Holds};
+ghost use Rattle.tables.specs.Live.{orders_in};
 ghost use Rattle.book_law.specs.Priority.{better, ahead, insert, rests, removed, left_of};
 ghost use Rattle.book_law.specs.code.Places.{first_where};
 
 use tables::orders;
+use tables::side::Orders;
 use terms::{Order, Side};
 
 // Whether price p is better than price q on a side.
@@ -28,43 +30,38 @@ pub fn is_ahead(side: Side, a: Order, b: Order) -> bool
     is_better(side, a.price, b.price) | (level & earlier)
 }
 
-// The slot that a new order takes.
-pub fn place(t: &[u64], n: usize, side: Side, o: Order) -> usize
-    requires { (n ≤ slots) × (table_length ≤ length t.now) }
-    ensures { result ≡ first_where (λ x. ahead side o x) (decode n t.now) }
+// The slot of the first order that passes a test, their count where none does.
+fn first_where<F: Fn(Order) -> bool>(orders: Orders, test: F) -> usize
+    requires { F.IsAlwaysCallable test }
+    ensures { (p : Order → Bool) → ((x : Order) (r : Bool) → F.post test x r → r ≡ p x) → result ≡ first_where p (orders_in orders.entry) }
 {
-    let mut i: usize = 0;
-    while i < n {
-        if is_ahead(side, o, orders::order_at(t, i)) {
+    for i in 0..orders.count {
+        if test(orders.at(i)) {
             return i;
         }
-        i += 1;
     }
-    i
+    orders.count
 }
 
-// The slot of the order of that number, n where none rests.
-pub fn find(t: &[u64], n: usize, number: u64) -> usize
-    requires { (n ≤ slots) × (table_length ≤ length t.now) }
-    ensures { result ≡ first_where (λ x. eqb x.number number) (decode n t.now) }
+// The slot that a new order takes.
+pub fn place(orders: Orders, side: Side, o: Order) -> usize
+    ensures { result ≡ first_where (λ x. ahead side o x) (orders_in orders.entry) }
 {
-    let mut i: usize = 0;
-    while i < n {
-        let o = orders::order_at(t, i);
-        if o.number == number {
-            return i;
-        }
-        i += 1;
-    }
-    i
+    first_where(orders, |x| is_ahead(side, o, x))
+}
+
+// The slot of the order of that number, the count of the orders where none rests.
+pub fn find(orders: Orders, number: u64) -> usize
+    ensures { result ≡ first_where (λ x. eqb x.number number) (orders_in orders.entry) }
+{
+    first_where(orders, |x| x.number == number)
 }
 
 // Whether the order of that number rests.
-pub fn is_resting(t: &[u64], n: usize, number: u64) -> bool
-    requires { (n ≤ slots) × (table_length ≤ length t.now) }
-    ensures { result ≡ rests number (decode n t.now) }
+pub fn is_resting(orders: Orders, number: u64) -> bool
+    ensures { result ≡ rests number (orders_in orders.entry) }
 {
-    find(t, n, number) < n
+    find(orders, number) < orders.count
 }
 
 // Puts a new order into its place.
@@ -72,7 +69,7 @@ pub fn add(t: &mut [u64], n: usize, side: Side, o: Order)
     requires { Holds n t.old × (n < slots) }
     ensures { t.new ≡ table_of (insert side o (decode n t.old)) t.old }
 {
-    let i = place(t, n, side, o);
+    let i = place(Orders { table: t, count: n }, side, o);
     orders::put_in(t, n, i, o);
 }
 
@@ -81,7 +78,7 @@ pub fn remove(t: &mut [u64], n: usize, number: u64) -> u64
     requires { Holds n t.old }
     ensures { (result ≡ left_of number (decode n t.old)) × (t.new ≡ table_of (removed number (decode n t.old)) t.old) }
 {
-    let i = find(t, n, number);
+    let i = find(Orders { table: t, count: n }, number);
     if n <= i {
         return 0;
     }

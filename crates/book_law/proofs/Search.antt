@@ -17,10 +17,6 @@ use Rattle.tables.proofs.Slots.{decode_read, decode-end, length-decode}
 use Rattle.book_law.specs.Priority.{ahead, insert, rests, removed, left_of}
 use Rattle.book_law.specs.code.Places.{first_where}
 
--- if a call answered b, and the branch shows that b is d, then what the call computes is d
-pub told : (b c d : Bool) → b ≡ c → b ≡ d → c ≡ d
-told b c d e f = sym e ∙ f
-
 -- ---- a turn of the search, and its two ends: an order found, and none
 
 first-end : (p : Order → Bool) (os : List Order) → os ≡ [] → first_where p os ≡ 0

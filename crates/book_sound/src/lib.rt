@@ -9,13 +9,13 @@ pub mod pass;
 
 ghost use Rattle.std.specs.Prelude.{◌≡◌, ◌≤◌, ◌<◌};
 ghost use Rattle.terms.specs.Sizes.{numbers_most};
-ghost use Rattle.tables.specs.Tables.{decode};
+ghost use Rattle.tables.specs.Live.{orders_in};
 ghost use Rattle.book_sound_law.specs.Sound.{uncrossed, book_sound};
 ghost use Rattle.terms.specs.code.Ticks.{scale, factor_of, Dividing};
-ghost use Rattle.book_sound_law.specs.code.Pass.{TableFor, limits_of};
+ghost use Rattle.book_sound_law.specs.code.Pass.{limits_of};
 
 use book_sound_law::Limits;
-use tables::orders;
+use tables::side::Orders;
 use terms::Band;
 
 fn held_to(given: u64, tick: u64, factor: u64, band: Band) -> Limits
@@ -23,47 +23,41 @@ fn held_to(given: u64, tick: u64, factor: u64, band: Band) -> Limits
     ensures { result ≡ limits_of given tick band }
 {
     Limits {
-        given: given,
-        tick: tick,
-        factor: factor,
+        given,
+        tick,
+        factor,
         low: band.low,
         high: band.high,
     }
 }
 
 // Whether the best buy is below the best sell, where there are both.
-fn best_apart(buys: &[u64], nbuys: usize, sells: &[u64], nsells: usize) -> bool
-    requires { TableFor nbuys buys.now × TableFor nsells sells.now }
-    ensures { result ≡ uncrossed (decode nbuys buys.now) (decode nsells sells.now) }
+fn best_apart(buys: Orders, sells: Orders) -> bool
+    ensures { result ≡ uncrossed (orders_in buys.entry) (orders_in sells.entry) }
 {
-    if nbuys == 0 {
+    if buys.count == 0 {
         return true;
     }
-    if nsells == 0 {
+    if sells.count == 0 {
         return true;
     }
-    let b = orders::order_at(buys, 0);
-    let s = orders::order_at(sells, 0);
-    b.price < s.price
+    buys.at(0).price < sells.at(0).price
 }
 
-// Whether the book is sound. The tables must be long enough, and the counts no more than they have slots.
+// Whether the book is sound.
 pub fn book_sound(
-    buys: &[u64],
-    nbuys: usize,
-    sells: &[u64],
-    nsells: usize,
+    buys: Orders,
+    sells: Orders,
     given: u64,
     tick: u64,
     factor: u64,
     band: Band,
 ) -> bool
-    requires { TableFor nbuys buys.now × TableFor nsells sells.now × (given ≤ numbers_most) × Dividing tick factor × (band.high < scale) }
-    ensures { result ≡ book_sound given tick band (decode nbuys buys.now) (decode nsells sells.now) }
+    requires { (given ≤ numbers_most) × Dividing tick factor × (band.high < scale) }
+    ensures { result ≡ book_sound given tick band (orders_in buys.entry) (orders_in sells.entry) }
 {
-    if !best_apart(buys, nbuys, sells, nsells) {
+    if !best_apart(buys, sells) {
         return false;
     }
-    let l = held_to(given, tick, factor, band);
-    pass::sides(buys, nbuys, sells, nsells, l)
+    pass::sides(buys, sells, held_to(given, tick, factor, band))
 }

@@ -1,12 +1,12 @@
 // One pass over each table: every order is sound, each goes ahead of the next, and no number comes twice.
 ghost use Rattle.std.specs.Prelude.{◌≡◌, cond, ◌+◌, ◌≤◌, length, replicate};
-ghost use Rattle.tables.specs.Tables.{decode};
+ghost use Rattle.tables.specs.Live.{orders_in};
 ghost use Rattle.book_sound_law.specs.code.Marks.{words_to, marked};
-ghost use Rattle.book_sound_law.specs.code.Pass.{TableFor, LimitsFit, Keyed, fine, key_of, low_bits, pass_of, sides_by, least_mask, sides_sound};
+ghost use Rattle.book_sound_law.specs.code.Pass.{LimitsFit, Keyed, fine, key_of, low_bits, pass_of, sides_by, least_mask, sides_sound};
 
 use crate::marks;
 use book_sound_law::Limits;
-use tables::orders;
+use tables::side::Orders;
 use terms::{Order, Side, sizes, ticks};
 
 // Every order number is below it.
@@ -38,15 +38,14 @@ fn key(side: Side, l: Limits, o: Order) -> u64
 }
 
 // The pass over a side: each order is fine, its key is above the last one, and its number's mark, which is then set, was free.
-fn side_by(t: &[u64], n: usize, side: Side, l: Limits, mask: u64, map: &mut [u64]) -> bool
-    requires { TableFor n t.now × LimitsFit l × (words_to mask ≤ length map.old) }
-    ensures { (result ≡ pass_of side l mask 0 map.old (decode n t.now))
-        × (map.new ≡ cond result (marked map.old (low_bits mask (decode n t.now))) map.new) }
+fn side_by(orders: Orders, side: Side, l: Limits, mask: u64, map: &mut [u64]) -> bool
+    requires { LimitsFit l × (words_to mask ≤ length map.old) }
+    ensures { (result ≡ pass_of side l mask 0 map.old (orders_in orders.entry))
+        × (map.new ≡ cond result (marked map.old (low_bits mask (orders_in orders.entry))) map.new) }
 {
-    let mut i: usize = 0;
-    let mut last: u64 = 0;
-    while i < n {
-        let o = orders::order_at(t, i);
+    let mut last = 0;
+    for i in 0..orders.count {
+        let o = orders.at(i);
         if !order_fine(l, o) {
             return false;
         }
@@ -54,96 +53,67 @@ fn side_by(t: &[u64], n: usize, side: Side, l: Limits, mask: u64, map: &mut [u64
         if next <= last {
             return false;
         }
-        let x = o.number & mask;
-        if marks::mark(map, x) {
+        if marks::mark(map, o.number & mask) {
             return false;
         }
         last = next;
-        i += 1;
     }
     true
 }
 
 // The passes over both sides, with one map that begins empty.
-fn sides_by(
-    buys: &[u64],
-    nbuys: usize,
-    sells: &[u64],
-    nsells: usize,
-    l: Limits,
-    mask: u64,
-    map: &mut [u64],
-) -> bool
-    requires { TableFor nbuys buys.now × TableFor nsells sells.now × LimitsFit l × (words_to mask ≤ length map.old) × (map.old ≡ replicate (length map.old) 0) }
-    ensures { result ≡ sides_by mask l (decode nbuys buys.now) (decode nsells sells.now) }
+fn sides_by(buys: Orders, sells: Orders, l: Limits, mask: u64, map: &mut [u64]) -> bool
+    requires { LimitsFit l × (words_to mask ≤ length map.old) × (map.old ≡ replicate (length map.old) 0) }
+    ensures { result ≡ sides_by mask l (orders_in buys.entry) (orders_in sells.entry) }
 {
-    if !side_by(buys, nbuys, Side::Buy, l, mask, map) {
+    if !side_by(buys, Side::Buy, l, mask, map) {
         return false;
     }
-    side_by(sells, nsells, Side::Sell, l, mask, map)
+    side_by(sells, Side::Sell, l, mask, map)
 }
 
-// The passes with marks of 10 bits of a number.
-fn sides_tiny(buys: &[u64], nbuys: usize, sells: &[u64], nsells: usize, l: Limits) -> bool
-    requires { TableFor nbuys buys.now × TableFor nsells sells.now × LimitsFit l }
-    ensures { result ≡ sides_by 1023 l (decode nbuys buys.now) (decode nsells sells.now) }
+// The passes with a map of so many words on the stack, for the low bits of a number that the mask keeps.
+fn sides_with<const WORDS: usize>(buys: Orders, sells: Orders, l: Limits, mask: u64) -> bool
+    requires { LimitsFit l × (words_to mask ≤ WORDS) × (WORDS ≤ 1024) }
+    ensures { result ≡ sides_by mask l (orders_in buys.entry) (orders_in sells.entry) }
 {
-    let mut map = [0u64; 16];
-    sides_by(buys, nbuys, sells, nsells, l, 1023, &mut map)
+    let mut map = [0u64; WORDS];
+    sides_by(buys, sells, l, mask, &mut map)
 }
 
-// With 12 bits.
-fn sides_small(buys: &[u64], nbuys: usize, sells: &[u64], nsells: usize, l: Limits) -> bool
-    requires { TableFor nbuys buys.now × TableFor nsells sells.now × LimitsFit l }
-    ensures { result ≡ sides_by 4095 l (decode nbuys buys.now) (decode nsells sells.now) }
+// The passes with 16 bits of a number, which tell any two order numbers apart.
+fn sides_large(buys: Orders, sells: Orders, l: Limits) -> bool
+    requires { LimitsFit l }
+    ensures { result ≡ sides_by 65535 l (orders_in buys.entry) (orders_in sells.entry) }
 {
-    let mut map = [0u64; 64];
-    sides_by(buys, nbuys, sells, nsells, l, 4095, &mut map)
-}
-
-// With 14 bits.
-fn sides_medium(buys: &[u64], nbuys: usize, sells: &[u64], nsells: usize, l: Limits) -> bool
-    requires { TableFor nbuys buys.now × TableFor nsells sells.now × LimitsFit l }
-    ensures { result ≡ sides_by 16383 l (decode nbuys buys.now) (decode nsells sells.now) }
-{
-    let mut map = [0u64; 256];
-    sides_by(buys, nbuys, sells, nsells, l, 16383, &mut map)
-}
-
-// With 16 bits, which tell any two order numbers apart.
-fn sides_large(buys: &[u64], nbuys: usize, sells: &[u64], nsells: usize, l: Limits) -> bool
-    requires { TableFor nbuys buys.now × TableFor nsells sells.now × LimitsFit l }
-    ensures { result ≡ sides_by 65535 l (decode nbuys buys.now) (decode nsells sells.now) }
-{
-    let mut map = [0u64; 1024];
-    sides_by(buys, nbuys, sells, nsells, l, 65535, &mut map)
+    sides_with::<1024>(buys, sells, l, 65_535)
 }
 
 // The passes with the smallest map that serves, since it is cleared soonest: the numbers are low, or so few that equal marks are rare.
-fn sides_least(buys: &[u64], nbuys: usize, sells: &[u64], nsells: usize, l: Limits) -> bool
-    requires { TableFor nbuys buys.now × TableFor nsells sells.now × LimitsFit l }
-    ensures { result ≡ sides_by (least_mask l.given (nbuys + nsells)) l (decode nbuys buys.now) (decode nsells sells.now) }
+fn sides_least(buys: Orders, sells: Orders, l: Limits) -> bool
+    requires { LimitsFit l }
+    ensures { result ≡ sides_by (least_mask l.given (buys.entry.count + sells.entry.count)) l (orders_in buys.entry) (orders_in sells.entry) }
 {
-    let live = nbuys + nsells;
+    let live = buys.count + sells.count;
     if (l.given <= 1023) | (live <= 16) {
-        return sides_tiny(buys, nbuys, sells, nsells, l);
+        return sides_with::<16>(buys, sells, l, 1023);
     }
     if (l.given <= 4095) | (live <= 48) {
-        return sides_small(buys, nbuys, sells, nsells, l);
+        return sides_with::<64>(buys, sells, l, 4095);
     }
     if l.given <= 16383 {
-        return sides_medium(buys, nbuys, sells, nsells, l);
+        return sides_with::<256>(buys, sells, l, 16_383);
     }
-    sides_large(buys, nbuys, sells, nsells, l)
+    sides_large(buys, sells, l)
 }
 
 // Different marks belong to different numbers, but so may equal ones: where a small map finds two equal marks, the largest map decides.
-pub fn sides(buys: &[u64], nbuys: usize, sells: &[u64], nsells: usize, l: Limits) -> bool
-    requires { TableFor nbuys buys.now × TableFor nsells sells.now × LimitsFit l }
-    ensures { result ≡ sides_sound l (decode nbuys buys.now) (decode nsells sells.now) }
+pub fn sides(buys: Orders, sells: Orders, l: Limits) -> bool
+    requires { LimitsFit l }
+    ensures { result ≡ sides_sound l (orders_in buys.entry) (orders_in sells.entry) }
 {
-    if sides_least(buys, nbuys, sells, nsells, l) {
+    if sides_least(buys, sells, l) {
         return true;
     }
-    sides_large(buys, nbuys, sells, nsells, l)
+    sides_large(buys, sells, l)
 }

@@ -18,7 +18,8 @@ use Rattle.book_law.specs.Priority.{sorted}
 use Rattle.book_sound_law.specs.declared.Limits.{Limits}
 use Rattle.book_sound_law.specs.Sound.{each_sound, distinct, uncrossed, book_sound}
 use Rattle.terms.specs.code.Ticks.{scale, Dividing}
-use Rattle.book_sound_law.specs.code.Pass.{TableFor, limits_of, LimitsFit, sides_sound}
+use Rattle.tables.specs.Tables.{TableFor}
+use Rattle.book_sound_law.specs.code.Pass.{limits_of, LimitsFit, sides_sound}
 use Rattle.book_sound_law.proofs.Facts.{book-fits, book_made}
 use Rattle.book_sound_law.proofs.Turns.{refuted}
 

@@ -11,6 +11,7 @@ use cases::{nine, print};
 use matching::crossing;
 use matching_law::Incoming;
 use rules_law::Range;
+use tables::side::Orders;
 use tables::{lengths, orders};
 use terms::{Kind, Order, Side, sizes};
 
@@ -101,7 +102,7 @@ fn remove(t: &mut [u64], n: usize, number: u64) -> usize
     ensures { result ≤ slots }
 {
     orders::clear_tail(t, n);
-    let rests = side::is_resting(t, n, number);
+    let rests = side::is_resting(Orders { table: t, count: n }, number);
     let lots = side::remove(t, n, number);
     let left = fewer(n, rests);
     says::truth(rests);

@@ -1,13 +1,14 @@
 // The sweep over the counter side's table: a loop reads the table and writes the reports, and afterwards the table is changed once.
 ghost use Rattle.std.specs.Prelude.{◌≡◌, false, ◌+◌, ◌*◌, ◌≤◌, length, drop};
-ghost use Rattle.terms.specs.Sizes.{slots};
-ghost use Rattle.tables.specs.Lengths.{table_length, record_length};
+ghost use Rattle.tables.specs.Lengths.{record_length};
 ghost use Rattle.rules_law.specs.Reference.{RangeFits};
 ghost use Rattle.tables.specs.Tables.{decode, table_of, Holds};
+ghost use Rattle.tables.specs.Live.{orders_in};
 ghost use Rattle.matching_law.specs.code.Sweeps.{trim, head_lots, passed_whole, finish, Passes, SweptInto};
 
 use crate::{deals, prices};
 use matching_law::{Incoming, Matched, Passed};
+use tables::side::Orders;
 use tables::{lengths, orders};
 
 // The answer of a sweep that stops before the counter order in slot i.
@@ -17,52 +18,48 @@ fn stop(i: usize, left: u64, last: u64, out: bool) -> Passed
     Passed {
         whole: i,
         part: 0,
-        left: left,
+        left,
         trades: i,
-        last: last,
-        out: out,
+        last,
+        out,
     }
 }
 
 // Goes over the counter orders, reports the trades, and answers how far the incoming order came.
-fn pass(t: &[u64], n: usize, room: &mut [u64], at: usize, x: Incoming) -> Passed
-    requires { (n ≤ slots) × (table_length ≤ length t.now) × (at + record_length * n ≤ length room.old) × RangeFits x.range }
-    ensures { Passes n (decode n t.now) (finish x at 0 0 x.last x.lots (decode n t.now) room.old) room.new result }
+fn pass(orders: Orders, room: &mut [u64], at: usize, x: Incoming) -> Passed
+    requires { (at + record_length * orders.count ≤ length room.old) × RangeFits x.range }
+    ensures { Passes orders.entry.count (orders_in orders.entry) (finish x at 0 0 x.last x.lots (orders_in orders.entry) room.old) room.new result }
 {
-    let mut i: usize = 0;
-    let mut first: u64 = 0;
+    let mut first = 0;
     let mut last = x.last;
     let mut left = x.lots;
-    while i < n {
+    for i in 0..orders.count {
         if left == 0 {
             return stop(i, left, last, false);
         }
-        let o = orders::order_at(t, i);
-        let price = o.price;
-        let m = prices::meet(x, first, price);
+        let o = orders.at(i);
+        let m = prices::meet(x, first, o.price);
         if !m.trades {
             return stop(i, left, last, m.out);
         }
         let place = at + lengths::RECORD * i;
-        let next = i + 1;
         if left < o.lots {
             deals::report(room, place, x, deals::part_of(o, left));
             return Passed {
                 whole: i,
                 part: left,
                 left: 0,
-                trades: next,
-                last: price,
+                trades: i + 1,
+                last: o.price,
                 out: false,
             };
         }
         deals::report(room, place, x, o);
-        first = prices::first_after(first, price);
-        last = price;
+        first = prices::first_after(first, o.price);
+        last = o.price;
         left -= o.lots;
-        i = next;
     }
-    stop(i, left, last, false)
+    stop(orders.count, left, last, false)
 }
 
 // Takes out the first counter orders, which traded whole, and the lots that the next one lost.
@@ -85,17 +82,13 @@ pub fn sweep(t: &mut [u64], n: usize, room: &mut [u64], at: usize, x: Incoming) 
     requires { Holds n t.old × (at + record_length * n ≤ length room.old) × RangeFits x.range }
     ensures { SweptInto x (decode n t.old) t.old room.old at t.new room.new result }
 {
-    let p = pass(t, n, room, at, x);
-    let whole = p.whole;
-    let trades = p.trades;
-    settle(t, n, whole, p.part);
-    let count = n - whole;
-    let end = at + lengths::RECORD * trades;
+    let p = pass(Orders { table: t, count: n }, room, at, x);
+    settle(t, n, p.whole, p.part);
     Matched {
-        count: count,
+        count: n - p.whole,
         left: p.left,
-        trades: trades,
-        at: end,
+        trades: p.trades,
+        at: at + lengths::RECORD * p.trades,
         last: p.last,
         out: p.out,
     }

@@ -16,7 +16,7 @@ pub fn part_of(o: Order, lots: u64) -> Order
     Order {
         number: o.number,
         price: o.price,
-        lots: lots,
+        lots,
     }
 }
 
@@ -47,12 +47,5 @@ pub fn report(room: &mut [u64], at: usize, x: Incoming, f: Order)
     let side = x.side;
     let deal = deal_of(side, x.number, f);
     let said = Said::Trade(deal);
-    tables::room::put_record(
-        room,
-        at,
-        Report {
-            time: x.time,
-            said: said,
-        },
-    );
+    tables::room::put_record(room, at, Report { time: x.time, said });
 }

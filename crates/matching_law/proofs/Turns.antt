@@ -44,8 +44,10 @@ module _ (whole : End) (x : Incoming) (at n : ℕ) (t : List ℕ) (i first last 
   pub answer-zero : (r : Passed) → r ≡ passed_whole i left last false → i ≤ n → left ≡ 0 → Passes n (decode n t) whole room r
   answer-zero r k h z = halts false r k h (sweep-zero (taker_of x) first left z (drop i (decode n t)))
 
-  pub answer-end : (r : Passed) → r ≡ passed_whole i left last false → i ≤ n → n ≤ i → Passes n (decode n t) whole room r
-  answer-end r k h g = halts false r k h (sweep-end x first left (drop i (decode n t)) (decode-end n t i g))
+  pub answer-end : (r : Passed) → r ≡ passed_whole n left last false → i ≤ n → n ≤ i → Passes n (decode n t) whole room r
+  answer-end r k h g =
+      let d : n ≡ i = omega arith in
+      halts false r (rw d at k) h (sweep-end x first left (drop i (decode n t)) (decode-end n t i g))
 
   module _ (o : Order) (d : o ≡ order_at t i) (g : i < n) (z : left ≡ 0 → ⊥) (m : AtPrice) (f : m ≡ at_price_of (taker_of x) first o.price) where
     pub answer-stop : not m.trades ≡ true → (r : Passed) → r ≡ passed_whole i left last m.out → Passes n (decode n t) whole room r

@@ -17,6 +17,7 @@ ghost use Rattle.refusal_law.specs.code.Tabled.{Tabled, live_on, place_on};
 
 use state::clock;
 use state_law::Session;
+use tables::side::Orders;
 use terms::parts::{MaybeEntry, MaybeNumber, Parts};
 use terms::{Event, Life, Refusal, Side, Verdict, numbers, parts, sizes};
 
@@ -106,10 +107,22 @@ fn finds_it(s: Session, number: MaybeNumber, buys: &[u64], sells: &[u64]) -> boo
         MaybeNumber::Given(n) => {
             let nbuys = s.live.buys as usize;
             let nsells = s.live.sells as usize;
-            if book::side::is_resting(buys, nbuys, n) {
+            if book::side::is_resting(
+                Orders {
+                    table: buys,
+                    count: nbuys,
+                },
+                n,
+            ) {
                 return true;
             }
-            book::side::is_resting(sells, nsells, n)
+            book::side::is_resting(
+                Orders {
+                    table: sells,
+                    count: nsells,
+                },
+                n,
+            )
         }
         MaybeNumber::Missing => true,
     }

@@ -30,29 +30,24 @@ fn tally_after(t: Tally, price: u64, lots: u64) -> Tally
     requires { TallyFits t × (price ≤ price_most) × (lots ≤ lots_most) }
     ensures { result ≡ tallied t price lots }
 {
-    let count = t.count + 1;
-    let sum = t.lots + lots;
-    let more = worth(price, lots);
     Tally {
-        count: count,
-        lots: sum,
-        value: t.value + more,
+        count: t.count + 1,
+        lots: t.lots + lots,
+        value: t.value + worth(price, lots),
     }
 }
 
 // Ten remembered numbers, of which n are in use, with one more.
-fn pushed(old: [u64; 10], n: u64, x: u64) -> [u64; 10]
-    ensures { result ≡ remembered old n x }
+fn pushed(mut ten: [u64; 10], n: u64, x: u64) -> [u64; 10]
+    ensures { result ≡ remembered ten n x }
 {
     if n < 10 {
-        let mut r = old;
-        let at = n as usize;
-        r[at] = x;
-        return r;
+        ten[n as usize] = x;
+        return ten;
     }
-    [
-        old[1], old[2], old[3], old[4], old[5], old[6], old[7], old[8], old[9], x,
-    ]
+    ten.copy_within(1..10, 0);
+    ten[9] = x;
+    ten
 }
 
 // The half hour's tally after a trade; late says whether it is in the half hour.
@@ -71,19 +66,11 @@ pub fn tape_after(t: Tape, late: bool, price: u64, lots: u64) -> Tape
     requires { (t.trades ≤ trades_most) × TallyFits t.half × (price ≤ price_most) × (lots ≤ lots_most) }
     ensures { result ≡ tape_after t late price lots }
 {
-    let n = t.trades;
-    let trades = n + 1;
-    let old = t.half;
-    let prices = t.prices;
-    let sizes = t.sizes;
-    let last = pushed(prices, n, price);
-    let taken = pushed(sizes, n, lots);
-    let half = half_after(old, late, price, lots);
     Tape {
-        trades: trades,
-        prices: last,
-        sizes: taken,
-        half: half,
+        trades: t.trades + 1,
+        prices: pushed(t.prices, t.trades, price),
+        sizes: pushed(t.sizes, t.trades, lots),
+        half: half_after(t.half, late, price, lots),
     }
 }
 
@@ -97,24 +84,21 @@ fn last_of(other: u64, trades: u64, ten: [u64; 10]) -> u64
     if 10 <= trades {
         return ten[9];
     }
-    let at = (trades - 1) as usize;
-    ten[at]
+    ten[(trades - 1) as usize]
 }
 
 // The last trade's price, or `other` before any trade.
 pub fn last_or(other: u64, t: Tape) -> u64
     ensures { result ≡ last_or other t }
 {
-    let prices = t.prices;
-    last_of(other, t.trades, prices)
+    last_of(other, t.trades, t.prices)
 }
 
 // The last trade's lots, 0 before any trade.
 pub fn last_lots(t: Tape) -> u64
     ensures { result ≡ last_lots t }
 {
-    let sizes = t.sizes;
-    last_of(0, t.trades, sizes)
+    last_of(0, t.trades, t.sizes)
 }
 
 // The last ten trades added up.
@@ -127,10 +111,8 @@ fn last_ten(prices: [u64; 10], sizes: [u64; 10]) -> Tally
         lots: 0,
         value: 0,
     };
-    let mut i: usize = 0;
-    while i < 10 {
-        t = tally_after(t, prices[i], sizes[i]);
-        i += 1;
+    for (price, lots) in prices.iter().zip(&sizes) {
+        t = tally_after(t, *price, *lots);
     }
     t
 }
@@ -158,27 +140,16 @@ pub fn closing(tick: u64, close: u64, t: Tape, settle: u64) -> Closing
     requires { (1 ≤ tick) × (tick ≤ tick_most) × TapeFits t }
     ensures { result ≡ closing_of tick close t settle }
 {
-    let half = t.half;
-    let trades = t.trades;
-    if 10 <= half.count {
-        let price = nearest_tick(tick, half);
-        return Closing {
-            price: price,
-            base: price,
-        };
+    if 10 <= t.half.count {
+        let price = nearest_tick(tick, t.half);
+        return Closing { price, base: price };
     }
-    if 10 <= trades {
-        let prices = t.prices;
-        let sizes = t.sizes;
-        let price = nearest_tick(tick, last_ten(prices, sizes));
-        return Closing {
-            price: price,
-            base: price,
-        };
+    if 10 <= t.trades {
+        let price = nearest_tick(tick, last_ten(t.prices, t.sizes));
+        return Closing { price, base: price };
     }
-    let price = last_or(close, t);
     Closing {
-        price: price,
+        price: last_or(close, t),
         base: settle,
     }
 }

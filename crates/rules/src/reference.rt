@@ -1,7 +1,7 @@
 // The reference price at the opening and at the boundaries of minutes, and the range around it.
 ghost use Rattle.std.specs.Prelude.{◌≡◌, ◌≤◌};
 ghost use Rattle.terms.specs.Sizes.{price_most, days_most};
-ghost use Rattle.rules_law.specs.Reference.{theoretical_or, minute_after, quiet, reckoned, MinuteFits, RangeFits, range_of, in_range, range_ends};
+ghost use Rattle.rules_law.specs.Reference.{theoretical_or, minute_after, quiet, reckoned, MinuteFits, RangeFits, reference_most, range_of, in_range, reach_of, range_ends};
 
 use rules_law::{Minute, Range, Reckoning, Row};
 use terms::Band;
@@ -25,11 +25,9 @@ pub fn minute_after(m: Minute, price: u64) -> Minute
     requires { MinuteFits m × (price ≤ price_most) }
     ensures { result ≡ minute_after m price }
 {
-    let count = m.count + 1;
-    let sum = m.sum + price;
     Minute {
-        count: count,
-        sum: sum,
+        count: m.count + 1,
+        sum: m.sum + price,
     }
 }
 
@@ -37,10 +35,9 @@ pub fn minute_after(m: Minute, price: u64) -> Minute
 pub fn begun(price: u64) -> Reckoning
     ensures { result ≡ quiet price }
 {
-    let none = Minute { count: 0, sum: 0 };
     Reckoning {
         reference: price,
-        minute: none,
+        minute: Minute { count: 0, sum: 0 },
     }
 }
 
@@ -70,8 +67,16 @@ pub fn range_of(slab: Row, reference: u64) -> Range
 {
     Range {
         percent: slab.initial,
-        reference: reference,
+        reference,
     }
+}
+
+// How far from the reference a price may lie, in whole paise.
+fn reach(r: Range) -> u64
+    requires { RangeFits r }
+    ensures { (result ≡ reach_of r) × (result ≤ r.reference) × (r.reference ≤ reference_most) }
+{
+    r.percent * r.reference / 200
 }
 
 // Whether a price lies in the execution range. Any price may be asked about.
@@ -79,12 +84,7 @@ pub fn in_range(r: Range, x: u64) -> bool
     requires { RangeFits r }
     ensures { result ≡ in_range r x }
 {
-    let reference = r.reference;
-    let reach = r.percent * reference / 200;
-    if x < reference {
-        return reference - x <= reach;
-    }
-    x - reference <= reach
+    x.abs_diff(r.reference) <= reach(r)
 }
 
 // Both ends of the execution range, in whole paise.
@@ -92,12 +92,9 @@ pub fn range_ends(r: Range) -> Band
     requires { RangeFits r }
     ensures { result ≡ range_ends r }
 {
-    let reference = r.reference;
-    let reach = r.percent * reference / 200;
-    let low = reference - reach;
-    let high = reference + reach;
+    let reach = reach(r);
     Band {
-        low: low,
-        high: high,
+        low: r.reference - reach,
+        high: r.reference + reach,
     }
 }

@@ -97,10 +97,7 @@ pub fn band_at(base: u64, tick: u64, percent: u64) -> Band
 {
     let low = low_at(base, tick, percent);
     let high = high_at(base, tick, percent);
-    Band {
-        low: low,
-        high: high,
-    }
+    Band { low, high }
 }
 
 pub fn in_band(b: Band, x: u64) -> bool

@@ -1,6 +1,6 @@
 -- The range on both sides of the reference; and the code's tests of range and mark, which compare whole paise, for any price and without
 -- an overflow.
-use Prim.Native.Nat.{ℕ, ◌+◌, ◌-◌, ◌*◌, ◌/◌, ◌≤◌, ◌<◌}
+use Prim.Native.Nat.{ℕ, ◌+◌, ◌-◌, ◌*◌, ◌/◌, ◌≤◌}
 use native.Mathlib.Omega.{arith}
 use native.Mathlib.Nat.{mul-le-mul, mul-le-mul_right}
 use mathlib.Core.Path.{◌≡◌, ap}
@@ -37,17 +37,10 @@ reach k n =
     (λ e. le-leb (200 * k) n (omega (arith, leb-true k (n / 200) e)))
     (λ e. le-leb k (n / 200) (omega (arith, leb-true (200 * k) n e)))
 
-pub range-below : (r : Range) (x : ℕ) → x < r.reference → leb (r.reference - x) (r.percent * r.reference / 200) ≡ in_range r x
+-- so a price is in range exactly where its distance from the reference is at most the reach
+pub range_reach : (r : Range) (x d k : ℕ) → d ≡ x - r.reference + (r.reference - x) → k ≡ reach_of r → leb d k ≡ in_range r x
 unfolding in_range
-range-below r x h =
-    let e : x - r.reference + (r.reference - x) ≡ r.reference - x = omega arith in
-    rw e (reach (r.reference - x) (r.percent * r.reference))
-
-pub range-above : (r : Range) (x : ℕ) → r.reference ≤ x → leb (x - r.reference) (r.percent * r.reference / 200) ≡ in_range r x
-unfolding in_range
-range-above r x h =
-    let e : x - r.reference + (r.reference - x) ≡ x - r.reference = omega arith in
-    rw e (reach (x - r.reference) (r.percent * r.reference))
+range_reach r x d k e f = rw (e, f) (reach (x - r.reference + (r.reference - x)) (r.percent * r.reference))
 
 pub range_product : (r : Range) → RangeFits r → r.percent * r.reference ≤ 100 * reference_most
 range_product r f = mul-le-mul f.percent_small f.reference_small

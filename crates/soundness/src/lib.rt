@@ -15,6 +15,7 @@ ghost use Rattle.soundness_law.specs.Sound.{clock_sound, tape_sound, session_sou
 
 use state::force;
 use state_law::Session;
+use tables::side::Orders;
 use terms::{judge, ticks};
 
 // Whether the settings are valid, and the time, the counts, the slab and the other single numbers within their bounds.
@@ -82,5 +83,18 @@ pub fn is_sound(s: Session, buys: &[u64], sells: &[u64]) -> bool
     let nbuys = s.live.buys as usize;
     let nsells = s.live.sells as usize;
     let band = force::band_now(s);
-    book_sound::book_sound(buys, nbuys, sells, nsells, s.live.given, tick, factor, band)
+    book_sound::book_sound(
+        Orders {
+            table: buys,
+            count: nbuys,
+        },
+        Orders {
+            table: sells,
+            count: nsells,
+        },
+        s.live.given,
+        tick,
+        factor,
+        band,
+    )
 }

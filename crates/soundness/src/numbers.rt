@@ -58,34 +58,17 @@ fn price_sound(tick: u64, factor: u64, x: u64) -> bool
     terms::ticks::on_tick(x, tick, factor)
 }
 
-// Whether the first n of ten prices are sound.
-fn prices_sound(prices: [u64; 10], n: usize, tick: u64, factor: u64) -> bool
-    requires { (n ≤ 10) × Dividing tick factor }
-    ensures { result ≡ every (price_sound tick) (take n prices) }
+fn prices_sound(prices: &[u64], tick: u64, factor: u64) -> bool
+    requires { Dividing tick factor }
+    ensures { result ≡ every (price_sound tick) prices.now }
 {
-    let mut i: usize = 0;
-    while i < n {
-        if !price_sound(tick, factor, prices[i]) {
-            return false;
-        }
-        i += 1;
-    }
-    true
+    prices.iter().all(|x| price_sound(tick, factor, *x))
 }
 
-// Whether the first n of ten sizes are sound.
-fn sizes_sound(lots: [u64; 10], n: usize) -> bool
-    requires { n ≤ 10 }
-    ensures { result ≡ every is_lots (take n lots) }
+fn sizes_sound(lots: &[u64]) -> bool
+    ensures { result ≡ every is_lots lots.now }
 {
-    let mut i: usize = 0;
-    while i < n {
-        if !terms::numbers::is_lots(lots[i]) {
-            return false;
-        }
-        i += 1;
-    }
-    true
+    lots.iter().all(|x| terms::numbers::is_lots(*x))
 }
 
 // How many trades are remembered: ten, or all if there are fewer.
@@ -103,11 +86,8 @@ fn ten_within(xs: [u64; 10], most: u64) -> bool
     ensures { result ≡ every (λ x. between 1 x most) xs }
 {
     let mut all = true;
-    let mut i: usize = 0;
-    while i < 10 {
-        let x = xs[i];
-        all = all & ((1 <= x) & (x <= most));
-        i += 1;
+    for x in &xs {
+        all = all & ((1 <= *x) & (*x <= most));
     }
     all
 }
@@ -118,10 +98,8 @@ fn ten_ticked(prices: [u64; 10], tick: u64, factor: u64) -> bool
     ensures { result ≡ every (on_tick tick) prices }
 {
     let mut all = true;
-    let mut i: usize = 0;
-    while i < 10 {
-        all = all & terms::ticks::on_tick(prices[i], tick, factor);
-        i += 1;
+    for x in &prices {
+        all = all & terms::ticks::on_tick(*x, tick, factor);
     }
     all
 }
@@ -150,10 +128,10 @@ pub fn remembered_sound(tick: u64, factor: u64, t: Tape) -> bool
     if n == 10 {
         return full_sound(prices, lots, tick, factor);
     }
-    if !prices_sound(prices, n, tick, factor) {
+    if !prices_sound(&prices[..n], tick, factor) {
         return false;
     }
-    sizes_sound(lots, n)
+    sizes_sound(&lots[..n])
 }
 
 // The product of some lots and a number, both of them bounded.

@@ -1,13 +1,13 @@
--- Two ways in which loops test the numbers of an array: the first n, ending where one fails; or all ten, without leaving the loop.
-use Prim.Native.Nat.{ℕ, zero, suc, ◌+◌, ◌≤◌, ◌<◌}
+-- Two ways to test the numbers of an array: up to the first that fails; or all ten, without leaving the loop.
+use Prim.Native.Nat.{ℕ, zero, suc, ◌+◌, ◌<◌}
 use native.Mathlib.Omega.{arith}
 use native.Mathlib.Numerals.{add-one}
 use mathlib.Core.Path.{◌≡◌, refl, sym, ◌∙◌}
-use mathlib.Core.Bool.{Bool, true, false, ◌&&◌, not}
+use mathlib.Core.Bool.{Bool, true, false, ◌&&◌}
 use mathlib.Core.List.{List, [], ◌∷◌}
-use borrow.Author.Tests.{not-true, not-false}
-use lib.ListN.{length, get_or, take, drop, length-take, drop_of_length-le}
-use lib.Seq.{take_all, drop-cons, get_or-take}
+use lib.ListN.{length, get_or, take}
+use lib.Seq.{take_all}
+use Rattle.std.specs.List.{list_all}
 use Rattle.terms.specs.Truth.{◌⊓◌}
 use Rattle.terms.specs.Numbers.{is_price, is_lots, on_tick}
 use Rattle.terms.proofs.Logic.{both, regroup}
@@ -15,26 +15,11 @@ use Rattle.rules_law.specs.declared.Tape.{Tape}
 use Rattle.rules_law.specs.Close.{kept}
 use Rattle.soundness_law.specs.Sound.{every, price_sound, remembered_sound}
 
--- the next of the first n numbers
-next : (a : List ℕ) (n i : ℕ) → i < n → n ≤ length a → drop i (take n a) ≡ get_or a i 0 ∷ drop (i + 1) (take n a)
-next a n i h k =
-    let l : i < length (take n a) = simp length-take (omega arith) in
-    rw (add-one i, drop-cons (take n a) i 0 l, get_or-take n a i 0 h)
-
-module _ (test : ℕ → Bool) (a : List ℕ) (n i : ℕ) (e : every test (take n a) ≡ every test (drop i (take n a))) where
-  pub all_pass : n ≤ i → true ≡ every test (take n a)
-  unfolding every
-  all_pass h =
-      let l : length (take n a) ≤ i = simp length-take (omega arith) in
-      sym (e ∙ rw (drop_of_length-le (take n a) l))
-
-  pub one_fails : (found : Bool) → found ≡ test (get_or a i 0) → not found ≡ true → i < n → n ≤ length a → false ≡ every test (take n a)
-  unfolding every ◌⊓◌
-  one_fails found f t h k = sym (e ∙ rw (next a n i h k, sym f ∙ not-true found t))
-
-  pub one_passes : (found : Bool) → found ≡ test (get_or a i 0) → not found ≡ false → i < n → n ≤ length a → every test (take n a) ≡ every test (drop (i + 1) (take n a))
-  unfolding every ◌⊓◌
-  one_passes found f t h k = e ∙ rw (next a n i h k, sym f ∙ not-false found t)
+-- std's word for all numbers passing a test
+pub every_all : (test : ℕ → Bool) (xs : List ℕ) → list_all test xs ≡ every test xs
+unfolding every ◌⊓◌
+every_all test [] = refl
+every_all test (x ∷ xs) = rw (every_all test xs)
 
 -- if all numbers pass a test, each of them does
 pub at_place : (test : ℕ → Bool) (xs : List ℕ) → every test xs ≡ true → (k : ℕ) → k < length xs → test (get_or xs k 0) ≡ true
@@ -60,9 +45,6 @@ module _ (test : ℕ → Bool) (a : List ℕ) (i : ℕ) (all : Bool) (e : all �
   pub one_more : (found : Bool) → found ≡ test (get_or a i 0) → i < length a → (all && found) ≡ every test (take (i + 1) a)
   unfolding ◌⊓◌
   one_more found f h = rw (add-one i, next_tested test a i h, e, f)
-
-  pub all_tested : length a ≤ i → all ≡ every test a
-  all_tested h = e ∙ rw (take_all i a h)
 
 -- testing each number for both is testing all for the one and all for the other
 pub both_tests : (f g : ℕ → Bool) (a : List ℕ) → every (λ x. f x ⊓ g x) a ≡ (every f a ⊓ every g a)

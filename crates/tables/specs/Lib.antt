@@ -4,3 +4,4 @@ pub mod Put
 pub mod Tables
 pub mod Fields
 pub mod Same
+pub mod Live

@@ -32,3 +32,8 @@ pub record Holds (n : ℕ) (t : List ℕ) : Type 0 where
   pub few : n ≤ slots
   pub long : table_length ≤ length t
   pub shape : t ≡ table_of (decode n t) t
+
+-- a table has room for its n orders; what lies behind them may be anything
+pub record TableFor (n : ℕ) (t : List ℕ) : Type 0 where
+  pub few : n ≤ slots
+  pub long : table_length ≤ length t

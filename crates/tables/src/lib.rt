@@ -8,3 +8,4 @@ pub mod flat;
 pub mod lengths;
 pub mod orders;
 pub mod room;
+pub mod side;

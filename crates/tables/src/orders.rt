@@ -3,7 +3,7 @@ ghost use Rattle.std.specs.Prelude.{◌≡◌, ◌∷◌, ◌++◌, ◌+◌, ◌
 ghost use Rattle.terms.specs.Sizes.{slots};
 ghost use Rattle.tables.specs.Lengths.{width, table_length};
 ghost use Rattle.tables.specs.Put.{put};
-ghost use Rattle.tables.specs.Tables.{numbers_of, order_at, decode, table_of, Holds};
+ghost use Rattle.tables.specs.Tables.{numbers_of, order_at, decode, table_of, Holds, TableFor};
 
 use crate::{flat, lengths};
 use terms::Order;
@@ -39,7 +39,7 @@ pub fn cut(t: &mut [u64], n: usize, i: usize, k: usize)
     }
     let behind = i + k;
     let moved = lengths::WIDTH * (n - behind);
-    flat::shift_down(t, lengths::WIDTH * i, lengths::WIDTH * behind, moved);
+    flat::shift(t, lengths::WIDTH * i, lengths::WIDTH * behind, moved);
     flat::clear(t, lengths::WIDTH * (n - k), lengths::WIDTH * k);
 }
 
@@ -57,7 +57,7 @@ pub fn put_in(t: &mut [u64], n: usize, i: usize, o: Order)
     ensures { t.new ≡ table_of (take i (decode n t.old) ++ (o ∷ drop i (decode n t.old))) t.old }
 {
     let at = lengths::WIDTH * i;
-    flat::shift_up(t, at + lengths::WIDTH, at, lengths::WIDTH * (n - i));
+    flat::shift(t, at + lengths::WIDTH, at, lengths::WIDTH * (n - i));
     store(t, at, o);
 }
 

@@ -21,10 +21,10 @@ fn in_order(first: u64, second: u64, third: u64, fourth: u64) -> Four
     ensures { result ≡ record { first = first; second = second; third = third; fourth = fourth } }
 {
     Four {
-        first: first,
-        second: second,
-        third: third,
-        fourth: fourth,
+        first,
+        second,
+        third,
+        fourth,
     }
 }
 

@@ -5,11 +5,11 @@ use Rattle.book_sound.proofs.best_apart.Goals as goal
 
 ruleset answers = (rules, no-buys, no-sells, bests)
 
-pub returns-then-nbuys-eq0 : goal.returns-then-nbuys-eq0
-returns-then-nbuys-eq0 c = search answers
+pub returns-then-buys-eq0 : goal.returns-then-buys-eq0
+returns-then-buys-eq0 c = search answers
 
-pub returns-then-nsells-eq0 : goal.returns-then-nsells-eq0
-returns-then-nsells-eq0 c = search answers
+pub returns-then-sells-eq0 : goal.returns-then-sells-eq0
+returns-then-sells-eq0 c = search answers
 
 pub returns : goal.returns
 returns c = search answers

@@ -15,11 +15,6 @@ use Rattle.book_sound_law.specs.code.Marks.{has_mark, with_mark, apart}
 
 -- ---- what a pass is given
 
--- a table has room for its n orders; what lies behind them may be anything
-pub record TableFor (n : ℕ) (t : List ℕ) : Type 0 where
-  pub few : n ≤ slots
-  pub long : table_length ≤ length t
-
 abbrev pub limits_of : ℕ → ℕ → Band → Limits
 limits_of given tick b = record { given = given; tick = tick; factor = factor_of tick; low = b.low; high = b.high }
 

@@ -11,12 +11,18 @@ returns-then-not-session_sound c = numbers_unsound _ _ _ _ c.session_sound.ensur
 pub band_now-band-requires : goal.band_now-band-requires
 band_now-band-requires c = clocked_found _ _ c.session_sound.ensures c.if-not-session_sound.false-raw
 
+pub invariant_of-book_sound : goal.invariant_of-book_sound
+invariant_of-book_sound c = let k = clocked_found _ _ c.session_sound.ensures c.if-not-session_sound.false-raw in search (rules, k)
+
+pub invariant_of-book_sound-2 : goal.invariant_of-book_sound-2
+invariant_of-book_sound-2 c = let k = clocked_found _ _ c.session_sound.ensures c.if-not-session_sound.false-raw in search (rules, k)
+
 pub book_sound-requires : goal.book_sound-requires
 book_sound-requires c =
     let found = c.session_sound.ensures in
     let k = clocked_found _ _ found c.if-not-session_sound.false-raw in
     let d = dividing_found _ _ _ found c.if-not-session_sound.false-raw c.factor-factor.ensures in
-    (search (rules, k), search (rules, k), search (rules, k), d, omega (arith, c.band_now-band.ensures.1))
+    (search (rules, k), d, omega (arith, c.band_now-band.ensures.1))
 
 pub returns : goal.returns
 returns c =

@@ -18,7 +18,7 @@ pub returns-then-mark : goal.returns-then-mark
 returns-then-mark c = search answers
 
 pub loop-i-preserved : goal.loop-i-preserved
-loop-i-preserved c = (search answers, search answers, search pass-turn, search marks_turn)
+loop-i-preserved c = (search answers, search pass-turn, search marks_turn)
 
 pub returns : goal.returns
 returns c = search answers

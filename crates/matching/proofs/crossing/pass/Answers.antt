@@ -15,7 +15,7 @@ pub returns-then-left-o : goal.returns-then-left-o
 returns-then-left-o c = search answers
 
 pub loop-i-preserved : goal.loop-i-preserved
-loop-i-preserved c = (search answers, search answers, search answers, search answers, search answers)
+loop-i-preserved c = (search answers, search answers, search answers, search answers)
 
 pub returns : goal.returns
 returns c = search answers

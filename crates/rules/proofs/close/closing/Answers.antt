@@ -2,11 +2,11 @@
 use Rattle.rules_law.proofs.Tapes.{closings}
 use Rattle.rules.proofs.close.closing.Goals as goal
 
-pub returns-then-half-ge10 : goal.returns-then-half-ge10
-returns-then-half-ge10 c = search closings
+pub returns-then-t-ge10 : goal.returns-then-t-ge10
+returns-then-t-ge10 c = search closings
 
-pub returns-then-trades-ge10 : goal.returns-then-trades-ge10
-returns-then-trades-ge10 c = search closings
+pub returns-then-t-ge10-2 : goal.returns-then-t-ge10-2
+returns-then-t-ge10-2 c = search closings
 
 pub returns : goal.returns
 returns c = search closings

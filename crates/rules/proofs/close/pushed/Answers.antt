@@ -1,4 +1,4 @@
--- With fewer than ten remembered the code stores at the next place; with ten it shifts them.
+-- With fewer than ten remembered the code stores at the next place; with ten it moves them down.
 use borrow.Author.Tests.{lt-ltb}
 use Rattle.rules_law.specs.Close.{remembered}
 use borrow.Author.Rules.{rules}
@@ -10,4 +10,4 @@ unfolding remembered
 returns-then-n-lt10 c = simp (lt-ltb _ _ c.if-n-lt10.true)
 
 pub returns : goal.returns
-returns c = shifted c.args.old c.args.n c.args.x (search rules) c.if-n-lt10.false
+returns c = search (rules, shifted)

@@ -4,4 +4,4 @@ use Rattle.rules.proofs.close.tally_after.Goals as goal
 
 pub returns : goal.returns
 unfolding tallied
-returns c = simp c.worth-more.ensures.0
+returns c = simp c.worth.ensures.0

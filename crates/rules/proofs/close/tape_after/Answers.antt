@@ -4,4 +4,4 @@ use Rattle.rules.proofs.close.tape_after.Goals as goal
 
 pub returns : goal.returns
 unfolding tape_after
-returns c = simp (c.half_after-half.ensures, c.pushed-taken.ensures, c.pushed-last.ensures)
+returns c = simp (c.half_after.ensures, c.pushed-2.ensures, c.pushed.ensures)

@@ -1,8 +1,7 @@
 -- The reach is at most the reference, so neither end under- or overflows.
-use borrow.Author.Rules.{rules}
 use Rattle.rules_law.specs.Reference.{range_low, range_high}
 use Rattle.rules.proofs.reference.range_ends.Goals as goal
 
 pub returns : goal.returns
 unfolding range_low range_high
-returns c = search rules
+returns c = simp c.reach-reach.ensures.0

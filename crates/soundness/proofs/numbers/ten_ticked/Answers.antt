@@ -10,19 +10,19 @@ use Rattle.soundness_law.specs.Sound.{every}
 use Rattle.soundness_law.proofs.Lists.{at_place, one_more}
 use Rattle.soundness.proofs.numbers.ten_ticked.Goals as goal
 
-pub loop-i-init : goal.loop-i-init
+pub loop-x-init : goal.loop-x-init
 unfolding every
-loop-i-init c = (search rules, refl)
+loop-x-init c = refl
 
 pub on_tick-all-requires : goal.on_tick-all-requires
 on_tick-all-requires c =
-    let b = c in
-    let i = c.loop-i.i in
-    let p = between_facts 1 (get_or b.args.prices i 0) price_most (at_place is_price b.args.prices b.requires.0 i (search rules)) in
-    (omega (arith, p), b.requires.1)
+    let xs = c.args.prices in
+    let i = c.loop-x.x-index in
+    let p = between_facts 1 (get_or xs i 0) price_most (at_place is_price xs c.requires.0 i (search rules)) in
+    (omega (arith, p), c.requires.1)
 
-pub loop-i-preserved : goal.loop-i-preserved
-loop-i-preserved c =
+pub loop-x-preserved : goal.loop-x-preserved
+loop-x-preserved c =
     let a = c.args in
-    let l = c.loop-i in
-    (omega arith, one_more (on_tick a.tick) a.prices l.i l.all l.invariant.1 c.on_tick-all.result c.on_tick-all.ensures (search rules))
+    let l = c.loop-x in
+    one_more (on_tick a.tick) a.prices l.x-index l.all l.invariant c.on_tick-all.result c.on_tick-all.ensures (search rules)
