@@ -107,7 +107,7 @@ fn open_by(rt: &HostRuntime, path: &[u8], how: &OpenOptions) -> Result<File> {
 impl Live {
     fn with(standard: Option<Standard>) -> Live {
         Live {
-            standard: standard,
+            standard,
             first: None,
             second: None,
             third: None,

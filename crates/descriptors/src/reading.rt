@@ -10,15 +10,13 @@ use crate::{Got, Load, Outcome, calls};
 fn read_settled(live: &Live, fd: i32, buf: &mut [u8]) -> Outcome
     ensures { SettledAs (length buf.old) result }
 {
-    let mut turns = u64::MAX;
-    while turns > 0 {
+    for _ in 0..u64::MAX {
         let answer = live.read(fd, buf);
         let outcome = calls::outcome(answer.number, answer.error, buf);
         if !calls::is_again(outcome) {
             return outcome;
         }
         calls::pause();
-        turns -= 1;
     }
     Outcome::Failed
 }
@@ -45,7 +43,7 @@ pub fn read_some(live: &Live, fd: i32, buf: &mut [u8]) -> Got
 pub fn read_whole(live: &Live, fd: i32, buf: &mut [u8]) -> Load
     ensures { LoadWithin (length buf.old) result }
 {
-    let mut at: usize = 0;
+    let mut at = 0;
     while at < buf.len() {
         match read_some(live, fd, &mut buf[at..]) {
             Got::Failed => return Load::Failed,

@@ -9,15 +9,13 @@ use crate::{Outcome, calls};
 fn write_settled(live: &Live, fd: i32, bytes: &[u8]) -> Outcome
     ensures { SettledAs (length bytes.now) result }
 {
-    let mut turns = u64::MAX;
-    while turns > 0 {
+    for _ in 0..u64::MAX {
         let answer = live.write(fd, bytes);
         let outcome = calls::outcome(answer.number, answer.error, bytes);
         if !calls::is_again(outcome) {
             return outcome;
         }
         calls::pause();
-        turns -= 1;
     }
     Outcome::Failed
 }

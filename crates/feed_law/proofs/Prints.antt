@@ -148,27 +148,24 @@ snoc (suc n) room =
     ∙ sym (append_assoc (record_text room) (records_text n (drop record_length room)) more)
     ∙ rw e
 
--- the loop over the records: the lines of the first i are printed, and the next record stands at `at`
-pub record Telling (room out₀ : List ℕ) (i at wrote : ℕ) (out : List ℕ) : Type 0 where
-  pub next : at ≡ record_length * i
+-- the loop over the records: the lines of the first i are printed
+pub record Telling (room out₀ : List ℕ) (i wrote : ℕ) (out : List ℕ) : Type 0 where
   pub few : wrote ≤ line_room * i
   pub printed : Prints out₀ (records_text i room) wrote out
 
-pub telling_none : (room out : List ℕ) → Telling room out 0 0 0 out
+pub telling_none : (room out : List ℕ) → Telling room out 0 0 out
 unfolding records_text
-telling_none room out = record { next = omega arith; few = omega arith; printed = record { count = refl; laid = refl } }
+telling_none room out = record { few = omega arith; printed = record { count = refl; laid = refl } }
 
-module _ {room out₀ : List ℕ} {i at wrote : ℕ} {out : List ℕ} (t : Telling room out₀ i at wrote out) where
-  pub telling_on : {n : ℕ} {part' : List ℕ} → RecordTold room at (take (length out - wrote) (drop wrote out)) n part' →
-      Telling room out₀ (i + 1) (at + record_length) (wrote + n) (put_mid wrote (length out - wrote) out part')
+module _ {room out₀ : List ℕ} {i wrote : ℕ} {out : List ℕ} (t : Telling room out₀ i wrote out) where
+  pub telling_on : {n : ℕ} {part' : List ℕ} → RecordTold room (record_length * i) (take (length out - wrote) (drop wrote out)) n part' →
+      Telling room out₀ (i + 1) (wrote + n) (put_mid wrote (length out - wrote) out part')
   telling_on p =
-      let e = t.next in
       let f = t.few in
       let h = p.short in
       record {
-        next = omega arith;
         few = omega arith;
-        printed = rw (add-one i, snoc i room, ← t.next) (prints_then t.printed (part_prints p.printed));
+        printed = rw (add-one i, snoc i room) (prints_then t.printed (part_prints p.printed));
       }
 
   pub telling_all : {count : ℕ} → i ≤ count → count ≤ i → Prints out₀ (records_text count room) wrote out

@@ -77,14 +77,9 @@ pub fn tell_records(room: &[u64], count: u64, out: &mut [u8]) -> usize
     requires { (record_length * count ≤ length room.now) × (line_room * count ≤ length out.old) }
     ensures { Prints out.old (records_text count room.now) result out.new }
 {
-    let mut i: u64 = 0;
-    let mut at: usize = 0;
-    let mut wrote: usize = 0;
-    while i < count {
-        let n = tell_record(room, at, &mut out[wrote..]);
-        wrote += n;
-        at += lengths::RECORD;
-        i += 1;
+    let mut wrote = 0;
+    for i in 0..count as usize {
+        wrote += tell_record(room, lengths::RECORD * i, &mut out[wrote..]);
     }
     wrote
 }

@@ -1,4 +1,4 @@
--- Before each turn the lines of the first i records are printed, and the next record stands at `at`.
+-- Before each turn the lines of the first i records are printed.
 use Rattle.feed_law.proofs.Prints.{telling_none, telling_on, telling_all}
 use borrow.Author.Rules.{rules}
 use Rattle.feed_prints.proofs.printing.tell_records.Goals as goal
