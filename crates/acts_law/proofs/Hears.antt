@@ -6,7 +6,7 @@ use native.Mathlib.Nat.{le_refl}
 use borrow.Author.Tests.{leb-true, le-leb}
 use mathlib.Core.Path.{◌≡◌, refl, ◌∙◌}
 use mathlib.Core.Bool.{Bool, true, false, ◌||◌}
-use mathlib.Core.Option.{Option, some, none}
+use Rattle.std.specs.Prelude.{Option, Some, None}
 use mathlib.Core.List.{List, [], ◌∷◌, ◌++◌}
 use lib.Dec.{eqb, leb}
 use Rattle.terms.specs.declared.Settings.{Settings}
@@ -144,8 +144,8 @@ fine-at g l (x ∷ xs) later r f = fine-at g (listen l x) xs later r f.1
 
 -- a touch whose cooling-off is over by some time is over by every later time
 passes_too : {A : Type 0} (f g : A → Bool) → ((x : A) → f x ≡ true → g x ≡ true) → (x : Option A) → maybe false f x ≡ true → maybe false g x ≡ true
-passes_too f g h none e = e
-passes_too f g h (some x) e = h x e
+passes_too f g h None e = e
+passes_too f g h (Some x) e = h x e
 
 later_in : (b : Band) (t u time : ℕ) (x : Said) → t ≤ u → touched_in b t time x ≡ true → touched_in b u time x ≡ true
 later_in b t u time x h =

@@ -4,7 +4,7 @@ use Prim.Native.Nat.{ℕ, ◌+◌}
 use native.Mathlib.Numerals.{add-one}
 use mathlib.Core.Path.{◌≡◌, refl, sym, ap, ◌∙◌}
 use mathlib.Core.List.{List, [], ◌∷◌, ◌++◌, append_assoc, append-nil}
-use mathlib.Core.Option.{none}
+use Rattle.std.specs.Prelude.{None}
 use Rattle.terms.specs.declared.Order.{Order}
 use Rattle.terms.specs.declared.Entry.{Entry}
 use Rattle.terms.specs.declared.Event.{Event}
@@ -118,7 +118,7 @@ does-given : (d : Day) (a : Act) → (does d a).day.session.live.given ≡ given
 unfolding dropped finished
 does-given d a =
     let given : ℕ = d.session.live.given in
-    let same : (carries a).entry ≡ none → given ≡ given_by given a = λ e. rw e refl in
+    let same : (carries a).entry ≡ None → given ≡ given_by given a = λ e. rw e refl in
     does_by (λ (x : Acted). x.day.session.live.given ≡ given_by given a) d a
     (λ n e. rw e (enter_given d n))
     (λ number e. given_with (side_of number d.buys) d.session _ _ ∙ rw e refl)

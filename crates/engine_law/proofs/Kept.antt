@@ -9,7 +9,7 @@ use borrow.Author.Tests.{leb-true}
 use mathlib.Core.Path.{◌≡◌, refl, ap, ◌∙◌}
 use mathlib.Core.Bool.{true, false}
 use mathlib.Core.List.{[], ◌∷◌, ◌++◌, append-nil, append_cancel_left}
-use mathlib.Core.Option.{Option, some, none}
+use Rattle.std.specs.Prelude.{Option, Some, None}
 use lib.ListN.{length}
 use Rattle.terms.specs.declared.Entry.{Entry}
 use Rattle.terms.specs.declared.Event.{Event}
@@ -175,8 +175,8 @@ accepted-number d t n h =
 
 -- numbers are never taken back
 given_grows : (given : ℕ) (n : Option Entry) → given ≤ maybe given (λ n. given + 1) n
-given_grows given none = le_refl given
-given_grows given (some n) = omega arith
+given_grows given None = le_refl given
+given_grows given (Some n) = omega arith
 
 pub outcome-given : (d : Day) (e : Event) → d.session.live.given ≤ (outcome d e).day.session.live.given
 outcome-given d e =
@@ -193,8 +193,8 @@ asks_old id d e h =
     (λ r. refl)
 
 asked_new : (id given : ℕ) (n : Option Entry) → maybe given (λ n. given + 1) n < id → mine id (given + 1) (maybe 0 (λ n. n.lots) n) ≡ 0
-asked_new id given none h = mine-zero id (given + 1)
-asked_new id given (some n) h = mine-other id (given + 1) n.lots (λ z. omega arith)
+asked_new id given None h = mine-zero id (given + 1)
+asked_new id given (Some n) h = mine-other id (given + 1) n.lots (λ z. omega arith)
 
 -- and one that is not given yet is not asked for
 pub asks_new : (id : ℕ) (d : Day) (e : Event) → (outcome d e).day.session.live.given < id → asked_by id e.act (outcome d e).reports ≡ 0

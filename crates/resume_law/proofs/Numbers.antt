@@ -3,7 +3,7 @@ use Prim.Native.Nat.{ℕ, ◌≤◌}
 use native.Mathlib.Omega.{arith}
 use mathlib.Core.Path.{◌≡◌, sym, ◌∙◌}
 use mathlib.Core.Bool.{Bool, true}
-use mathlib.Core.Option.{Option, some, none}
+use Rattle.std.specs.Prelude.{Option, Some, None}
 use mathlib.Core.List.{List, ◌++◌}
 use borrow.Author.Tests.{leb-true}
 use Rattle.terms.specs.declared.Act.{Act}
@@ -27,8 +27,8 @@ use Rattle.engine_law.proofs.Kept.{outcome-verdict}
 -- a number that may be missing, in front of others
 perhaps-small : (test : ℕ → Bool) → ((x : ℕ) → test x ≡ true → x ≤ written_most) → (m : Option ℕ) (rest : List ℕ) → of_any test m ≡ true →
     Writable rest → Writable (perhaps m ++ rest)
-perhaps-small test small none rest h w = w
-perhaps-small test small (some x) rest h w = (small x h, w)
+perhaps-small test small None rest h w = w
+perhaps-small test small (Some x) rest h w = (small x h, w)
 
 -- what an act carries is within its range, whatever the act
 act-small : (a : Act) → numbers_right a ≡ true → Writable (act_figures a)
@@ -41,8 +41,8 @@ act-small a h =
     (last (carries a).price q.1))
   where
     last : (m : Option ℕ) → of_any is_price m ≡ true → Writable (perhaps m)
-    last none t = tt
-    last (some x) t = let n = between_facts 1 x price_most t in (omega arith, tt)
+    last None t = tt
+    last (Some x) t = let n = between_facts 1 x price_most t in (omega arith, tt)
 
 pub accepted-writable : (d : Day) (e : Event) → (outcome d e).verdict ≡ Fine → Writable (event_figures e)
 accepted-writable d e v =
