@@ -97,7 +97,7 @@ fn has_place(s: Session, entry: Option<Entry>) -> bool
 fn has_numbers(given: u64, trades: u64, entry: Option<Entry>) -> bool
     ensures { result ≡ of_any (number_left sizes given trades) entry }
 {
-    entry.is_none() | (given < sizes::NUMBERS) & (trades <= sizes::TRADES)
+    entry.is_none_or(|_| (given < sizes::NUMBERS) & (trades <= sizes::TRADES))
 }
 
 // Rows 8 to 11, which look at the book; p are the parts of the event's act.

@@ -9,7 +9,7 @@ use crate::flat;
 use terms::{Report, Said, numbers};
 
 // The fields of a report, in the order of its printed line; zero where there is none.
-#[derive(Clone, Copy)]
+#[derive(Clone, Copy, Debug, PartialEq, Eq)]
 pub struct Four {
     pub first: u64,
     pub second: u64,
@@ -21,10 +21,10 @@ fn in_order(first: u64, second: u64, third: u64, fourth: u64) -> Four
     ensures { result ≡ record { first = first; second = second; third = third; fourth = fourth } }
 {
     Four {
-        first: first,
-        second: second,
-        third: third,
-        fourth: fourth,
+        first,
+        second,
+        third,
+        fourth,
     }
 }
 
@@ -35,10 +35,7 @@ pub fn fields(s: Said) -> Four
         Said::Accept(number) => in_order(number, 0, 0, 0),
         Said::Trade(d) => in_order(d.buy, d.sell, d.lots, d.price),
         Said::Convert(o) => in_order(o.number, o.lots, o.price, 0),
-        Said::Cancel(e) => {
-            let why = e.why;
-            in_order(e.number, e.lots, numbers::of_why(why), 0)
-        }
+        Said::Cancel(e) => in_order(e.number, e.lots, u64::from(e.why), 0),
         Said::Slab(b) => in_order(b.low, b.high, 0, 0),
         Said::Ref(price) => in_order(price, 0, 0, 0),
         Said::Close(c) => in_order(c.price, c.base, 0, 0),
