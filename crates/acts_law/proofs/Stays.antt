@@ -44,6 +44,7 @@ use Rattle.soundness_law.specs.Sound.{sound}
 use Rattle.soundness_law.proofs.Parts.{Parts}
 use Rattle.soundness_law.proofs.Kept.{Tradable, clock_kept, trades-kept, given-kept, under_kept, closed_kept, last-ticked}
 use Rattle.soundness_law.proofs.Days.{BookOf, SoundDay, sound-day, day-sound, each_tradable}
+use Rattle.terms.specs.declared.parts.Parts.{Parts as Carried}
 use Rattle.terms.specs.Carried.{limit_of, carries}
 use Rattle.refusal_law.proofs.Accepted.{Accepted, time_right, lots-right, price-right, in_day, numbers-left, tick_right, band-right, place-right}
 use Rattle.acts_law.specs.Acts.{Acted, sweep_in, last_in, fate_in, entered, dropped, side_of, silent, finished, stepped, timed, act}
@@ -174,16 +175,16 @@ module _ (d : Day) (e : Event) (k : Accepted d e) where
   unfolding clock_step
   lets n z =
       let c : carries e.act ≡ carries (Enter n) = ap carries z in
-      let r : Ready (stepped d e.time).day = begins_ready (ap (λ (x : Parts). x.closes) c) in
-      let few = numbers-left d e k n (ap (λ (x : Parts). x.entry) c) in
+      let r : Ready (stepped d e.time).day = begins_ready (ap (λ (x : Carried). x.closes) c) in
+      let few = numbers-left d e k n (ap (λ (x : Carried). x.entry) c) in
       record {
         day = r;
         admitted = record {
-          few = (lots-right d e k n.lots (ap (λ (x : Parts). x.lots) c)).1;
+          few = (lots-right d e k n.lots (ap (λ (x : Carried). x.lots) c)).1;
           place = λ l. ltb-true (length (own n.side (stepped d e.time).day)) slots
-              (rw (own_by n.side (clock_step d.session e.time) d) (rw l at (place-right d e k n (ap (λ (x : Parts). x.entry) c))));
-          limit-ticked = λ p l. tick_right d e k p (ap (λ (x : Parts). x.ticked) c ∙ ap limit_of l);
-          limit-banded = λ p l. band-right d e k p (ap (λ (x : Parts). x.limit) c ∙ ap limit_of l);
+              (rw (own_by n.side (clock_step d.session e.time) d) (rw l at (place-right d e k n (ap (λ (x : Carried). x.entry) c))));
+          limit-ticked = λ p l. tick_right d e k p (ap (λ (x : Carried). x.ticked) c ∙ ap limit_of l);
+          limit-banded = λ p l. band-right d e k p (ap (λ (x : Carried). x.limit) c ∙ ap limit_of l);
           last-ticked = last-ticked (clock_step d.session e.time) r.parts;
         };
         given_few = few.0;

@@ -6,6 +6,7 @@ use mathlib.Core.List.{List, [], ◌∷◌, ◌++◌}
 use lib.Dec.{leb, eqb}
 use lib.ListN.{get_or, replicate}
 use borrow.Author.Tests.{not-true, not-false}
+use Rattle.std.specs.Prelude.{Option, Some, None}
 use Rattle.terms.specs.declared.Act.{Act}
 use Rattle.terms.specs.declared.Act.TheVariants.{Enter, Clock}
 use Rattle.terms.specs.declared.Entry.{Entry}
@@ -24,7 +25,6 @@ use Rattle.state_law.specs.declared.Dial.{Dial}
 use Rattle.state_law.specs.declared.Live.{Live}
 use Rattle.state_law.specs.declared.Session.{Session}
 use Rattle.state_law.specs.Opening.{fixed_session}
-use Rattle.desk_packing_law.specs.declared.FoundEvent.{FoundEvent}
 use Rattle.desk_packing_law.specs.Runs.{session_length, layout, settings_base, clock_base, live_base, reckoning_base, tape_base, ten_at}
 use Rattle.desk_packing_law.specs.Settings.{settings_numbers, settings_at, is_category, category_from}
 use Rattle.desk_packing_law.specs.Sessions.{flag, live_numbers, reckoning_numbers, tape_numbers, clock_from, live_from, reckoning_from, tape_from, session_numbers, is_session, session_of, session_from}
@@ -127,14 +127,14 @@ module _ (time what kind life amount price : ℕ) (act : Act) where
     tested : compared own what kind life amount price ≡ are_same (event_numbers made) (time ∷ what ∷ kind ∷ life ∷ amount ∷ price ∷ [])
     tested = rw k compared_right
 
-    pub found_so : compared own what kind life amount price ≡ true → FoundEvent.Told (record { time = time; act = act }) ≡ event_if (record { time = time; act = act }) (time ∷ what ∷ kind ∷ life ∷ amount ∷ price ∷ [])
+    pub found_so : compared own what kind life amount price ≡ true → Some (record { time = time; act = act }) ≡ event_if (record { time = time; act = act }) (time ∷ what ∷ kind ∷ life ∷ amount ∷ price ∷ [])
     found_so t = sym (cond_true (are_same (event_numbers made) (time ∷ what ∷ kind ∷ life ∷ amount ∷ price ∷ [])) _ _ (sym tested ∙ t))
 
-    pub found_none : compared own what kind life amount price ≡ false → FoundEvent.Nothing ≡ event_if (record { time = time; act = act }) (time ∷ what ∷ kind ∷ life ∷ amount ∷ price ∷ [])
+    pub found_none : compared own what kind life amount price ≡ false → None ≡ event_if (record { time = time; act = act }) (time ∷ what ∷ kind ∷ life ∷ amount ∷ price ∷ [])
     found_none t = sym (cond_false (are_same (event_numbers made) (time ∷ what ∷ kind ∷ life ∷ amount ∷ price ∷ [])) _ _ (sym tested ∙ t))
 
   -- code makes an act of the numbers by what it does, and tells the event
-  pub by_what : (o : FoundEvent) → o ≡ event_if (record { time = time; act = act }) (time ∷ what ∷ kind ∷ life ∷ amount ∷ price ∷ []) →
+  pub by_what : (o : Option Event) → o ≡ event_if (record { time = time; act = act }) (time ∷ what ∷ kind ∷ life ∷ amount ∷ price ∷ []) →
       act ≡ act_by what kind life amount price → o ≡ found_from time what kind life amount price
   unfolding found_from
   by_what o h e = rw (← e) h
@@ -142,11 +142,11 @@ module _ (time what kind life amount price : ℕ) (act : Act) where
 pub enter_by : (n m : Entry) → n ≡ m → Enter n ≡ Enter m
 enter_by n m e = rw e
 
-module _ (ns : List ℕ) (found : FoundEvent) (h : found ≡ found_in ns) where
-  pub an_event : (e : Event) → found ≡ FoundEvent.Told e → e ≡ event_from ns
+module _ (ns : List ℕ) (found : Option Event) (h : found ≡ found_in ns) where
+  pub an_event : (e : Event) → found ≡ Some e → e ≡ event_from ns
   unfolding event_from
   an_event e t = rw (← h, t)
 
-  pub no-event : found ≡ FoundEvent.Nothing → record { time = greatest; act = Clock } ≡ event_from ns
+  pub no-event : found ≡ None → record { time = greatest; act = Clock } ≡ event_from ns
   unfolding event_from
   no-event t = rw (← h, t)

@@ -14,7 +14,6 @@ use Rattle.terms.specs.declared.Side.TheVariants.{Buy, Sell}
 use Rattle.terms.specs.Options.{maybe}
 use Rattle.terms.specs.Carried.{carries}
 use Rattle.tables.specs.Same.{are_same}
-use Rattle.desk_packing_law.specs.declared.FoundEvent.{FoundEvent}
 
 abbrev pub side_number : Side → ℕ
 side_number Buy = 1
@@ -75,24 +74,24 @@ act_by what kind life amount price =
     (cond (eqb what 6) (Finish price) Clock))))
 
 -- the event, where the numbers are its own
-abbrev pub event_if : Event → List ℕ → FoundEvent
-event_if e numbers = cond (are_same (event_numbers e) numbers) (FoundEvent.Told e) FoundEvent.Nothing
+abbrev pub event_if : Event → List ℕ → Option Event
+event_if e numbers = cond (are_same (event_numbers e) numbers) (Some e) None
 
-unfoldable pub found_from : ℕ → ℕ → ℕ → ℕ → ℕ → ℕ → FoundEvent
+unfoldable pub found_from : ℕ → ℕ → ℕ → ℕ → ℕ → ℕ → Option Event
 found_from time what kind life amount price =
     event_if (record { time = time; act = act_by what kind life amount price }) (time ∷ what ∷ kind ∷ life ∷ amount ∷ price ∷ [])
 
 -- the event that some numbers stand for, or that they stand for none
-unfoldable pub found_in : List ℕ → FoundEvent
+unfoldable pub found_in : List ℕ → Option Event
 found_in ns = found_from (get_or ns 0 0) (get_or ns 1 0) (get_or ns 2 0) (get_or ns 3 0) (get_or ns 4 0) (get_or ns 5 0)
 
 -- numbers that are no event's are read as a clock event at the greatest time, which row 4 refuses
 abbrev pub greatest : ℕ
 greatest = 18446744073709551615
 
-abbrev pub or_clock : FoundEvent → Event
-or_clock (FoundEvent.Told e) = e
-or_clock FoundEvent.Nothing = record { time = greatest; act = Clock }
+abbrev pub or_clock : Option Event → Event
+or_clock (Some e) = e
+or_clock None = record { time = greatest; act = Clock }
 
 unfoldable pub event_from : List ℕ → Event
 event_from ns = or_clock (found_in ns)

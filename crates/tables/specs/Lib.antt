@@ -2,5 +2,4 @@ pub mod Lengths
 pub mod Records
 pub mod Put
 pub mod Tables
-pub mod Fields
 pub mod Same
