@@ -1,6 +1,6 @@
 -- AN EVENT as six numbers: time, do (1 buy, 2 sell, 3 cancel, 4 under, 5 clock, 6 close), kind (1 limit, 2 market), life (1 day, 2 ioc),
 -- amount (lots, or the number of the order to cancel), price (limit, underlying or settlement). Unused ones are zero.
-use Rattle.std.specs.Prelude.{ℕ, cond, List, [], ◌∷◌, Option, Some, None, eqb, get_or}
+use Rattle.std.specs.Prelude.{ℕ, cond, List, [], ◌∷◌, Option, Some, None, unwrap_or, eqb, get_or}
 use Rattle.terms.specs.declared.Act.{Act}
 use Rattle.terms.specs.declared.Act.TheVariants.{Enter, Withdraw, Under, Clock, Finish}
 use Rattle.terms.specs.declared.Entry.{Entry}
@@ -90,8 +90,7 @@ abbrev pub greatest : ℕ
 greatest = 18446744073709551615
 
 abbrev pub or_clock : Option Event → Event
-or_clock (Some e) = e
-or_clock None = record { time = greatest; act = Clock }
+or_clock found = unwrap_or found (record { time = greatest; act = Clock })
 
 unfoldable pub event_from : List ℕ → Event
 event_from ns = or_clock (found_in ns)
