@@ -137,8 +137,7 @@ pub fn kakoludar_sound(session: &[u64], buys: &[u64], sells: &[u64]) -> u64
         return 0;
     }
     let s = sessions::unpack(session);
-    let sound = soundness::is_sound(s, buys, sells);
-    sessions::flag_of(sound)
+    u64::from(soundness::is_sound(s, buys, sells))
 }
 
 // The length of a side's view.

@@ -6,6 +6,7 @@ ghost use Rattle.desk_packing_law.specs.Events.{side_number, kind_number, life_n
 
 use terms::{Act, Entry, Event, Kind, Life, Side};
 
+// The numbers of an order's words are no `From`, since they belong to the numbers of an event: neither the words nor `u64` are of this crate.
 fn of_side(side: Side) -> u64
     ensures { result ≡ side_number side }
 {
@@ -33,7 +34,7 @@ fn of_life(life: Life) -> u64
     }
 }
 
-// A limit order's price; 0 for a market order.
+// A limit order's price; 0 for a market order. `Kind` is no Option: "limit" and "market" are the paper's words for orders.
 fn limit_of(kind: Kind) -> u64
     ensures { result ≡ or_zero (limit_of kind) }
 {

@@ -1,7 +1,6 @@
 -- The first numbers of a list, written out one by one.
-use Prim.Native.Nat.{ℕ, zero, suc, ◌+◌, ◌≤◌, ◌<◌}
+use Prim.Native.Nat.{ℕ, zero, suc, ◌+◌, ◌≤◌}
 use native.Mathlib.Omega.{arith}
-use native.Mathlib.Numerals.{add-one}
 use mathlib.Core.Path.{◌≡◌, refl, sym, ap, ◌∙◌}
 use mathlib.Core.List.{List, [], ◌∷◌}
 use lib.ListN.{length, get_or, take, drop}
@@ -23,21 +22,3 @@ first-listed ns n h = part-listed ns 0 n (omega arith)
 -- the ten numbers of a list of ten are the whole list
 pub ten_all : (xs : List ℕ) → length xs ≡ 10 → ten_at xs 0 ≡ xs
 ten_all xs e = sym (first-listed xs 10 (omega arith)) ∙ take_all 10 xs (omega arith)
-
--- and so are the ten from a place on
-next-at : (s : List ℕ) (i j : ℕ) → j ≡ i + 1 → i < length s → drop i s ≡ get_or s i 0 ∷ drop j s
-next-at s i j e h = rw (e, add-one i) (drop-cons s i 0 h)
-
-pub ten_here : (ns tens : List ℕ) (at : ℕ) → at + 10 ≤ length ns → tens ≡ take 10 (drop at ns) → tens ≡ ten_at ns at
-ten_here ns tens at h e = e ∙ rw (
-      next-at ns at (at + 1) refl (omega arith),
-      next-at ns (at + 1) (at + 2) (omega arith) (omega arith),
-      next-at ns (at + 2) (at + 3) (omega arith) (omega arith),
-      next-at ns (at + 3) (at + 4) (omega arith) (omega arith),
-      next-at ns (at + 4) (at + 5) (omega arith) (omega arith),
-      next-at ns (at + 5) (at + 6) (omega arith) (omega arith),
-      next-at ns (at + 6) (at + 7) (omega arith) (omega arith),
-      next-at ns (at + 7) (at + 8) (omega arith) (omega arith),
-      next-at ns (at + 8) (at + 9) (omega arith) (omega arith),
-      next-at ns (at + 9) (at + 10) (omega arith) (omega arith),
-    ) refl
