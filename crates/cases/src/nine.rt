@@ -16,15 +16,11 @@ pub struct Word {
 // Stands in the input for the greatest 64-bit number, which has one digit more.
 const GREATEST: u64 = 9_999_999_999_999_999_999;
 
-fn byte(b: u8) -> u64 {
-    b as u64
-}
-
 fn meant(x: u64) -> u64 {
-    if x == GREATEST {
-        return u64::MAX;
+    match x {
+        GREATEST => u64::MAX,
+        _ => x,
     }
-    x
 }
 
 // The number that begins at a place, up to a byte below the digit 0, such as a space; the next number begins behind that byte.
@@ -35,7 +31,7 @@ fn read(text: &[u8], from: usize) -> Word
     let mut at = from;
     let mut value: u64 = 0;
     while at < text.len() {
-        let d = byte(text[at]);
+        let d = u64::from(text[at]);
         at += 1;
         if d < 48 {
             return Word {

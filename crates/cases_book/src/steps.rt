@@ -27,17 +27,17 @@ pub struct Counts {
 }
 
 fn side_of(x: u64) -> Side {
-    if x == 0 {
-        return Side::Buy;
+    match x {
+        0 => Side::Buy,
+        _ => Side::Sell,
     }
-    Side::Sell
 }
 
 fn kind_of(x: u64, limit: u64) -> Kind {
-    if x == 0 {
-        return Kind::Market;
+    match x {
+        0 => Kind::Market,
+        _ => Kind::Limit(limit),
     }
-    Kind::Limit(limit)
 }
 
 fn range_of(percent: u64, reference: u64) -> Range

@@ -9,36 +9,33 @@ use state_law::{Opened, Session};
 use terms::{Act, Entry, Event, Kind, Life, Settings, Side};
 
 pub fn side_of(x: u64) -> Side {
-    if x == 0 {
-        return Side::Buy;
+    match x {
+        0 => Side::Buy,
+        _ => Side::Sell,
     }
-    Side::Sell
 }
 
 fn kind_of(x: u64, price: u64) -> Kind {
-    if x == 0 {
-        return Kind::Limit(price);
+    match x {
+        0 => Kind::Limit(price),
+        _ => Kind::Market,
     }
-    Kind::Market
 }
 
 fn life_of(x: u64) -> Life {
-    if x == 0 {
-        return Life::AllDay;
+    match x {
+        0 => Life::AllDay,
+        _ => Life::Ioc,
     }
-    Life::Ioc
 }
 
 // The order that an act's number from 0 to 7 stands for: 1 for a sell, 2 for a market order and 4 for an ioc order, added up.
 fn entry_of(act: u64, lots: u64, price: u64) -> Entry {
-    let side = side_of(act % 2);
-    let kind = kind_of(act / 2 % 2, price);
-    let life = life_of(act / 4 % 2);
     Entry {
-        side: side,
-        kind: kind,
-        life: life,
-        lots: lots,
+        side: side_of(act % 2),
+        kind: kind_of(act / 2 % 2, price),
+        life: life_of(act / 4 % 2),
+        lots,
     }
 }
 
