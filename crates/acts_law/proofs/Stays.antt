@@ -6,9 +6,9 @@ use borrow.Author.Tests.{leb-true, ltb-true}
 use mathlib.Core.Path.{◌≡◌, refl, sym, ap, ◌∙◌, subst₃}
 use mathlib.Core.Bool.{true, false, ◌||◌}
 use mathlib.Core.List.{List, []}
-use Rattle.std.specs.Prelude.{Some}
 use lib.Dec.{ltb}
 use lib.ListN.{length}
+use Rattle.std.specs.Prelude.{Some}
 use Rattle.terms.specs.declared.Settings.{Settings}
 use Rattle.terms.specs.declared.Order.{Order}
 use Rattle.terms.specs.declared.Entry.{Entry}

@@ -1,6 +1,7 @@
 -- AN EVENT as six numbers: time, do (1 buy, 2 sell, 3 cancel, 4 under, 5 clock, 6 close), kind (1 limit, 2 market), life (1 day, 2 ioc),
 -- amount (lots, or the number of the order to cancel), price (limit, underlying or settlement). Unused ones are zero.
 use Rattle.std.specs.Prelude.{ℕ, cond, List, [], ◌∷◌, Option, Some, None, unwrap_or, eqb, get_or}
+use Rattle.std.specs.Option.{option_map_or, unwrap_or}
 use Rattle.terms.specs.declared.Act.{Act}
 use Rattle.terms.specs.declared.Act.TheVariants.{Enter, Withdraw, Under, Clock, Finish}
 use Rattle.terms.specs.declared.Entry.{Entry}
@@ -11,7 +12,6 @@ use Rattle.terms.specs.declared.Life.{Life}
 use Rattle.terms.specs.declared.Life.TheVariants.{AllDay, Ioc}
 use Rattle.terms.specs.declared.Side.{Side}
 use Rattle.terms.specs.declared.Side.TheVariants.{Buy, Sell}
-use Rattle.terms.specs.Options.{maybe}
 use Rattle.terms.specs.Carried.{carries}
 use Rattle.tables.specs.Same.{are_same}
 
@@ -36,15 +36,15 @@ do_number Clock = 5
 do_number (Finish settle) = 6
 
 abbrev pub or_zero : Option ℕ → ℕ
-or_zero n = maybe 0 (λ x. x) n
+or_zero n = unwrap_or n 0
 
 -- the five numbers after the time: what the act does, then what it carries
 abbrev pub act_numbers : Act → List ℕ
 act_numbers a =
     do_number a
-    ∷ maybe 0 (λ n. kind_number n.kind) (carries a).entry
-    ∷ maybe 0 (λ n. life_number n.life) (carries a).entry
-    ∷ maybe (or_zero (carries a).number) (λ lots. lots) (carries a).lots
+    ∷ option_map_or (λ n. kind_number n.kind) (carries a).entry 0
+    ∷ option_map_or (λ n. life_number n.life) (carries a).entry 0
+    ∷ unwrap_or (carries a).lots (or_zero (carries a).number)
     ∷ or_zero (carries a).price
     ∷ []
 

@@ -2,8 +2,8 @@
 use Prim.Native.Nat.{ℕ}
 use mathlib.Core.Path.{◌≡◌, refl, ap, ◌∙◌}
 use mathlib.Core.Bool.{Bool, cond}
-use Rattle.std.specs.Prelude.{Option, Some, None}
 use lib.Dec.{leb, ltb}
+use Rattle.std.specs.Prelude.{Option, Some, None}
 use Rattle.terms.specs.declared.Act.{Act}
 use Rattle.terms.specs.declared.Band.{Band}
 use Rattle.terms.specs.declared.parts.Parts.{Parts}
