@@ -34,17 +34,11 @@ fn read(text: &[u8], from: usize) -> Word
         let d = u64::from(text[at]);
         at += 1;
         if d < 48 {
-            return Word {
-                value: value,
-                next: at,
-            };
+            return Word { value, next: at };
         }
         value = value % 1_000_000_000_000_000_000 * 10 + (d - 48) % 10;
     }
-    Word {
-        value: value,
-        next: at,
-    }
+    Word { value, next: at }
 }
 
 // The next nine numbers; those that are missing are 0.
@@ -62,8 +56,5 @@ pub fn nine(text: &[u8], from: usize) -> Line
     if at == from {
         at += 1;
     }
-    Line {
-        words: words,
-        next: at,
-    }
+    Line { words, next: at }
 }

@@ -55,9 +55,9 @@ fn incoming(side: Side, w: [u64; 9]) -> Incoming
     let kind = kind_of(w[2], w[3]);
     let range = range_of(w[6], w[7]);
     Incoming {
-        side: side,
-        kind: kind,
-        range: range,
+        side,
+        kind,
+        range,
         number: w[5],
         lots: w[4],
         time: 60_000,

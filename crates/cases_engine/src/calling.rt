@@ -63,7 +63,7 @@ fn up_to(n: u64, most: usize) -> usize
 pub fn begin(w: [u64; 9]) -> Opened {
     let category = setting::category_of(w[1]);
     let g = Settings {
-        category: category,
+        category,
         base: w[2],
         close: w[3],
         settle: w[4],
@@ -84,10 +84,7 @@ pub fn apply_event(
     room: &mut [u64],
 ) -> Session {
     let act = act_of(w[5], w[6], w[7]);
-    let e = Event {
-        time: w[4],
-        act: act,
-    };
+    let e = Event { time: w[4], act };
     let nbuys = up_to(w[1], buys.len());
     let nsells = up_to(w[2], sells.len());
     let nroom = up_to(w[3], room.len());

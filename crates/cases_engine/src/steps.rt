@@ -26,8 +26,8 @@ fn put_orders(t: &mut [u64], count: u64, first: u64, price: u64, lots: u64) {
         }
         let o = Order {
             number: first % 1_000_000 + put,
-            price: price,
-            lots: lots,
+            price,
+            lots,
         };
         orders::store(t, at, o);
         at += lengths::WIDTH;

@@ -34,7 +34,7 @@ fn of_life(life: Life) -> u64
     }
 }
 
-// A limit order's price; 0 for a market order. `Kind` is no Option: "limit" and "market" are the paper's words for orders.
+// A limit order's price; 0 for a market order.
 fn limit_of(kind: Kind) -> u64
     ensures { result ≡ or_zero (limit_of kind) }
 {

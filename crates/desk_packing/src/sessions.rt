@@ -105,7 +105,7 @@ pub fn unpack(ns: &[u64]) -> Session
     session_of(ns)
 }
 
-// The numbers of a session.
+// The numbers of a session: one literal, as copying section by section would write each number twice, zeros first.
 pub fn pack(s: Session) -> [u64; 44]
     ensures { result ≡ session_numbers s }
 {

@@ -157,9 +157,9 @@ whole_read ns own said same l e g f =
     let right : RecordRead ns (report_in ns) = subst (λ (n : List ℕ). RecordRead n (report_in ns)) (sym s) (told-right _ _ _ _ _ _) in
     let found : then_some same (reported (get_or ns 1 0) said) ≡ report_if (reported (get_or ns 1 0) said) ns = told_if _ ns same (rw g at f) in
     let here : then_some same (reported (get_or ns 1 0) said) ≡ report_in ns =
-        found
-        ∙ ap (λ (x : Said). report_if (reported (get_or ns 1 0) x) ns) e
-        ∙ ap (λ (n : List ℕ). report_if (reported (get_or ns 1 0) (said_by (get_or ns 0 0) (get_or ns 2 0) (get_or ns 3 0) (get_or ns 4 0) (get_or ns 5 0))) n) s in
+    found
+    ∙ ap (λ (x : Said). report_if (reported (get_or ns 1 0) x) ns) e
+    ∙ ap (λ (n : List ℕ). report_if (reported (get_or ns 1 0) (said_by (get_or ns 0 0) (get_or ns 2 0) (get_or ns 3 0) (get_or ns 4 0) (get_or ns 5 0))) n) s in
     subst (λ (o : Option Report). RecordRead ns o) (sym here) right
 
 pub record_read : (s part ns own : List ℕ) (n : ℕ) (said : Said) (same : Bool) (o : Option Report) → part ≡ slice_range s n (length s) → length part + n ≡ length s

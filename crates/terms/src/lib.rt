@@ -43,7 +43,7 @@ pub enum Side {
     Sell,
 }
 
-// A limit order carries its price, a market order carries none.
+// A limit order carries its price, a market order carries none. It is no `Option<u64>`, since limit and market are the paper's words.
 #[derive(Clone, Copy, Debug, PartialEq, Eq)]
 pub enum Kind {
     Limit(u64),
