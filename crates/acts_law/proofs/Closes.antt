@@ -4,6 +4,7 @@ use Prim.Native.Nat.{ℕ}
 use mathlib.Core.Path.{◌≡◌, refl, sym, ap, ◌∙◌}
 use mathlib.Core.Bool.{true, false}
 use mathlib.Core.List.{List, [], ◌∷◌, ◌++◌, map, append_assoc, append-nil}
+use Rattle.std.specs.Option.{option_map_or}
 use Rattle.terms.specs.declared.Act.TheVariants.{Withdraw, Finish}
 use Rattle.terms.specs.declared.Event.{Event}
 use Rattle.terms.specs.declared.Order.{Order}
@@ -12,7 +13,6 @@ use Rattle.terms.specs.declared.Said.{Said}
 use Rattle.terms.specs.declared.Said.TheVariants.{Close}
 use Rattle.terms.specs.declared.Why.TheVariants.{DayEnd}
 use Rattle.terms.specs.Reports.{why_of}
-use Rattle.terms.specs.Options.{maybe}
 use Rattle.rules_law.specs.Close.{closing_of}
 use Rattle.book_law.specs.Matching.{report_at}
 use Rattle.book_law.specs.Priority.{rests, removed, left_of}
@@ -23,7 +23,7 @@ use Rattle.acts_law.specs.Acts.{Acted, dropped, cancel_reports, close_report, fi
 -- ---- the cancels that reports tell, in their order: number, lots and the paper's number of the reason
 
 abbrev pub cancel_in : Said → List (List ℕ)
-cancel_in x = maybe [] (λ e. (e.number ∷ e.lots ∷ why_of e.why ∷ []) ∷ []) (tells x).ended
+cancel_in x = option_map_or (λ e. (e.number ∷ e.lots ∷ why_of e.why ∷ []) ∷ []) (tells x).ended []
 
 unfoldable pub cancels_told : List Report → List (List ℕ)
 cancels_told [] = []

@@ -3,7 +3,7 @@
 use Prim.Native.Nat.{ℕ}
 use mathlib.Core.Path.{◌≡◌, refl, ap}
 use mathlib.Core.Bool.{Bool, true, false}
-use mathlib.Core.Option.{none}
+use Rattle.std.specs.Prelude.{None}
 use Rattle.terms.specs.declared.Act.{Act}
 use Rattle.terms.specs.declared.Act.TheVariants.{Enter, Withdraw, Under, Clock, Finish}
 use Rattle.terms.specs.declared.Entry.{Entry}
@@ -27,7 +27,7 @@ pub data Sets (s : Session) : Act → Session → Type 0 where
 
 -- such an act carries no order, does not close the day, and leaves these parts of the session as they are
 pub record Alike (s : Session) (a : Act) (s' : Session) : Type 0 where
-  pub entry : (carries a).entry ≡ none
+  pub entry : (carries a).entry ≡ None
   pub stays : (carries a).closes ≡ false
   pub settings : s'.settings ≡ s.settings
   pub time : s'.clock.time ≡ s.clock.time

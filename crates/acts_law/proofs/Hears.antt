@@ -6,9 +6,10 @@ use native.Mathlib.Nat.{le_refl}
 use borrow.Author.Tests.{leb-true, le-leb}
 use mathlib.Core.Path.{◌≡◌, refl, ◌∙◌}
 use mathlib.Core.Bool.{Bool, true, false, ◌||◌}
-use mathlib.Core.Option.{Option, some, none}
 use mathlib.Core.List.{List, [], ◌∷◌, ◌++◌}
 use lib.Dec.{eqb, leb}
+use Rattle.std.specs.Prelude.{Option, Some, None}
+use Rattle.std.specs.Option.{option_map_or, IfSome}
 use Rattle.terms.specs.declared.Settings.{Settings}
 use Rattle.terms.specs.declared.Band.{Band}
 use Rattle.terms.specs.declared.Deal.{Deal}
@@ -16,7 +17,6 @@ use Rattle.terms.specs.declared.Report.{Report}
 use Rattle.terms.specs.declared.Said.{Said}
 use Rattle.terms.specs.declared.Said.TheVariants.{Trade}
 use Rattle.terms.proofs.Logic.{by, cases, split, join, or_left, or-last}
-use Rattle.terms.specs.Options.{maybe, If}
 use Rattle.rules_law.specs.Slabs.{slab_of, percent_of, band_at, in_band, touches, cooling_length, cooling_after}
 use Rattle.rules_law.specs.Reference.{range_of, in_range}
 use Rattle.book_law.specs.Matching.{report_at}
@@ -59,8 +59,8 @@ pub record FineSlab (g : Settings) (l : Listener) (t : ℕ) (band : Band) : Type
 -- what must hold of a report, given what was heard before it: a trade is in the band and in the range
 abbrev pub FineSaid : Settings → Listener → ℕ → Said → Type 0
 FineSaid g l t x =
-    If (λ deal. (in_band l.band deal.price ≡ true) × (in_range (range_of (slab_of g.category) l.reference) deal.price ≡ true)) (tells x).deal
-    × If (FineSlab g l t) (tells x).band
+    IfSome (tells x).deal (λ deal. (in_band l.band deal.price ≡ true) × (in_range (range_of (slab_of g.category) l.reference) deal.price ≡ true))
+    × IfSome (tells x).band (FineSlab g l t)
 
 -- and its time is not before that of the report before it
 abbrev pub Fine : Settings → Listener → Report → Type 0
@@ -143,9 +143,9 @@ fine-at g l (x ∷ xs) later r f = fine-at g (listen l x) xs later r f.1
 -- ---- touches
 
 -- a touch whose cooling-off is over by some time is over by every later time
-passes_too : {A : Type 0} (f g : A → Bool) → ((x : A) → f x ≡ true → g x ≡ true) → (x : Option A) → maybe false f x ≡ true → maybe false g x ≡ true
-passes_too f g h none e = e
-passes_too f g h (some x) e = h x e
+passes_too : {A : Type 0} (f g : A → Bool) → ((x : A) → f x ≡ true → g x ≡ true) → (x : Option A) → option_map_or f x false ≡ true → option_map_or g x false ≡ true
+passes_too f g h None e = e
+passes_too f g h (Some x) e = h x e
 
 later_in : (b : Band) (t u time : ℕ) (x : Said) → t ≤ u → touched_in b t time x ≡ true → touched_in b u time x ≡ true
 later_in b t u time x h =

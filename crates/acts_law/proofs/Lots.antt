@@ -4,6 +4,8 @@ use Prim.Native.Nat.{ℕ, ◌+◌}
 use native.Mathlib.Omega.{arith}
 use mathlib.Core.Path.{◌≡◌, refl, sym, ap, ◌∙◌}
 use mathlib.Core.List.{List, [], ◌∷◌, ◌++◌}
+use Rattle.std.specs.Option.{option_map_or}
+use Rattle.std.specs.Prelude.{Option}
 use Rattle.terms.specs.declared.Order.{Order}
 use Rattle.terms.specs.declared.Entry.{Entry}
 use Rattle.terms.specs.declared.Event.{Event}
@@ -14,7 +16,6 @@ use Rattle.terms.specs.declared.Report.{Report}
 use Rattle.terms.specs.declared.Said.{Said}
 use Rattle.terms.specs.declared.Why.{Why}
 use Rattle.terms.specs.declared.Why.TheVariants.{Asked, DayEnd}
-use Rattle.terms.specs.Options.{maybe}
 use Rattle.book_law.specs.Priority.{removed}
 use Rattle.book_law.specs.Matching.{taker, Swept, trade_reports, settled, fate_reports}
 use Rattle.book_law.specs.Over.{tally, mine, lots_of}
@@ -168,7 +169,7 @@ does-asks id d a =
     does_by (λ (x : Acted). asked_by id a x.reports ≡ mine id number (wanted a)) d a
     (λ n e. entered-asks d.session n id (wanted a) (own n.side d) _)
     (λ number e. none (ap wanted e))
-    (λ s q. none (ap (maybe 0 (λ n. n.lots)) (sets_alike q).entry))
+    (λ s q. none (ap (λ (o : Option Entry). option_map_or (λ n. n.lots) o 0) (sets_alike q).entry))
     (λ settle e. total-none (asked_in id (wanted a)) (ends d settle).reports
     (finished_each _ d.session d.session.clock.time settle d.buys d.sells (λ x. refl) (λ c. refl)) ∙ none (ap wanted e))
 

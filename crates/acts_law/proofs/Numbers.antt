@@ -4,7 +4,8 @@ use Prim.Native.Nat.{ℕ, ◌+◌}
 use native.Mathlib.Numerals.{add-one}
 use mathlib.Core.Path.{◌≡◌, refl, sym, ap, ◌∙◌}
 use mathlib.Core.List.{List, [], ◌∷◌, ◌++◌, append_assoc, append-nil}
-use mathlib.Core.Option.{none}
+use Rattle.std.specs.Prelude.{None}
+use Rattle.std.specs.Option.{option_map_or}
 use Rattle.terms.specs.declared.Order.{Order}
 use Rattle.terms.specs.declared.Entry.{Entry}
 use Rattle.terms.specs.declared.Event.{Event}
@@ -12,7 +13,6 @@ use Rattle.terms.specs.declared.Act.{Act}
 use Rattle.terms.specs.declared.Side.{Side}
 use Rattle.terms.specs.declared.Side.TheVariants.{Buy, Sell}
 use Rattle.terms.specs.declared.Report.{Report}
-use Rattle.terms.specs.Options.{maybe}
 use Rattle.book_law.specs.declared.Fate.{Fate}
 use Rattle.book_law.specs.Matching.{Swept, trade_reports, settled, fate_reports}
 use Rattle.state_law.specs.declared.Session.{Session}
@@ -112,13 +112,13 @@ act-counts d e =
 -- ---- an order adds one to the numbers given, any other act none
 
 abbrev pub given_by : ℕ → Act → ℕ
-given_by given a = maybe given (λ n. given + 1) (carries a).entry
+given_by given a = option_map_or (λ n. given + 1) (carries a).entry given
 
 does-given : (d : Day) (a : Act) → (does d a).day.session.live.given ≡ given_by d.session.live.given a
 unfolding dropped finished
 does-given d a =
     let given : ℕ = d.session.live.given in
-    let same : (carries a).entry ≡ none → given ≡ given_by given a = λ e. rw e refl in
+    let same : (carries a).entry ≡ None → given ≡ given_by given a = λ e. rw e refl in
     does_by (λ (x : Acted). x.day.session.live.given ≡ given_by given a) d a
     (λ n e. rw e (enter_given d n))
     (λ number e. given_with (side_of number d.buys) d.session _ _ ∙ rw e refl)

@@ -6,9 +6,9 @@ use borrow.Author.Tests.{leb-true, ltb-true}
 use mathlib.Core.Path.{◌≡◌, refl, sym, ap, ◌∙◌, subst₃}
 use mathlib.Core.Bool.{true, false, ◌||◌}
 use mathlib.Core.List.{List, []}
-use mathlib.Core.Option.{some}
 use lib.Dec.{ltb}
 use lib.ListN.{length}
+use Rattle.std.specs.Prelude.{Some}
 use Rattle.terms.specs.declared.Settings.{Settings}
 use Rattle.terms.specs.declared.Order.{Order}
 use Rattle.terms.specs.declared.Entry.{Entry}
@@ -44,7 +44,8 @@ use Rattle.soundness_law.specs.Sound.{sound}
 use Rattle.soundness_law.proofs.Parts.{Parts}
 use Rattle.soundness_law.proofs.Kept.{Tradable, clock_kept, trades-kept, given-kept, under_kept, closed_kept, last-ticked}
 use Rattle.soundness_law.proofs.Days.{BookOf, SoundDay, sound-day, day-sound, each_tradable}
-use Rattle.terms.specs.Carried.{Carried, limit_of, carries}
+use Rattle.terms.specs.declared.parts.Parts.{Parts as Carried}
+use Rattle.terms.specs.Carried.{limit_of, carries}
 use Rattle.refusal_law.proofs.Accepted.{Accepted, time_right, lots-right, price-right, in_day, numbers-left, tick_right, band-right, place-right}
 use Rattle.acts_law.specs.Acts.{Acted, sweep_in, last_in, fate_in, entered, dropped, side_of, silent, finished, stepped, timed, act}
 use Rattle.acts_law.proofs.Does.{Sets, sets_under, sets_none, sets_alike, enters, ends, own_by, event_by}
@@ -144,11 +145,11 @@ dropped_stays d number why Sell r =
     (removed-sound s.live.given s.settings.tick (band_now s) d.buys d.sells r.book Sell number)
 
 -- an act that only sets the session leaves its numbers sound
-sets_parts : {s s' : Session} {a : Act} → Sets s a s' → ((p : ℕ) → (carries a).price ≡ some p → p ≤ price_most) → Parts s → Parts s'
+sets_parts : {s s' : Session} {a : Act} → Sets s a s' → ((p : ℕ) → (carries a).price ≡ Some p → p ≤ price_most) → Parts s → Parts s'
 sets_parts {s} (sets_under price) h p = under_kept s price (h price refl) p
 sets_parts sets_none h p = p
 
-silent_stays : (d : Day) (a : Act) (s : Session) → Sets d.session a s → ((p : ℕ) → (carries a).price ≡ some p → p ≤ price_most) → Ready d →
+silent_stays : (d : Day) (a : Act) (s : Session) → Sets d.session a s → ((p : ℕ) → (carries a).price ≡ Some p → p ≤ price_most) → Ready d →
     sound (silent s d).day ≡ true
 silent_stays d a s q h r =
     let k = sets_alike q in

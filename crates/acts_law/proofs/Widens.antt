@@ -7,6 +7,7 @@ use mathlib.Core.Path.{◌≡◌, refl, ◌∙◌}
 use mathlib.Core.Bool.{Bool, true, false, cond, not}
 use mathlib.Core.List.{List}
 use lib.Dec.{eqb}
+use Rattle.std.specs.Option.{option_map_or}
 use Rattle.terms.specs.declared.Act.{Act}
 use Rattle.terms.specs.declared.Entry.{Entry}
 use Rattle.terms.specs.declared.Event.{Event}
@@ -16,7 +17,6 @@ use Rattle.terms.specs.declared.Said.{Said}
 use Rattle.terms.specs.declared.Side.{Side}
 use Rattle.terms.specs.declared.Side.TheVariants.{Buy, Sell}
 use Rattle.terms.proofs.Logic.{by, cases}
-use Rattle.terms.specs.Options.{maybe}
 use Rattle.rules_law.specs.Slabs.{over_by}
 use Rattle.book_law.specs.Matching.{Swept}
 use Rattle.book_law.specs.Tells.{tells}
@@ -67,7 +67,7 @@ slab_if_changed s s' =
 
 -- "ref (only if the value changed over the event)"
 abbrev pub ref_in : Said → ℕ
-ref_in x = maybe 0 (λ price. 1) (tells x).reference
+ref_in x = option_map_or (λ price. 1) (tells x).reference 0
 
 pub ref_if_changed : (s s' : Session) → total ref_in (clock_reports s s') ≡ cond (eqb s.reckoning.reference s'.reckoning.reference) 0 1
 unfolding clock_reports

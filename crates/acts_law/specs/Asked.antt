@@ -1,10 +1,10 @@
 -- What the orders of a day ask for and have: the lots that they ask for, under the numbers that the reports of acceptance give them; the
 -- numbers given; the lots that rest.
 use Rattle.std.specs.Prelude.{ℕ, zero, suc, ◌+◌, List, [], ◌∷◌, ◌++◌}
+use Rattle.std.specs.Option.{option_map_or}
 use Rattle.terms.specs.declared.Act.{Act}
 use Rattle.terms.specs.declared.Report.{Report}
 use Rattle.terms.specs.declared.Said.{Said}
-use Rattle.terms.specs.Options.{maybe}
 use Rattle.book_law.specs.Over.{mine, lots_of}
 use Rattle.book_law.specs.Told.{total}
 use Rattle.state_law.specs.Day.{Day}
@@ -13,11 +13,11 @@ use Rattle.terms.specs.Carried.{carries}
 
 -- the lots that an act asks for
 abbrev pub wanted : Act → ℕ
-wanted a = maybe 0 (λ n. n.lots) (carries a).entry
+wanted a = option_map_or (λ n. n.lots) (carries a).entry 0
 
 -- these lots, if the report accepts the order with number id: the report of acceptance gives an order its number
 abbrev pub asked_in : ℕ → ℕ → Said → ℕ
-asked_in id lots x = maybe 0 (λ number. mine id number lots) (tells x).accepted
+asked_in id lots x = option_map_or (λ number. mine id number lots) (tells x).accepted 0
 
 -- the lots that the order with number id asks for, from an act and its reports
 abbrev pub asked_by : ℕ → Act → List Report → ℕ
@@ -30,7 +30,7 @@ resting id d = lots_of id d.buys + lots_of id d.sells
 -- ---- the numbers given
 
 abbrev pub accepts_in : Said → List ℕ
-accepts_in x = maybe [] (λ number. number ∷ []) (tells x).accepted
+accepts_in x = option_map_or (λ number. number ∷ []) (tells x).accepted []
 
 -- the numbers that the reports of acceptance give, in their order
 unfoldable pub accepts : List Report → List ℕ

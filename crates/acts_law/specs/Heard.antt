@@ -1,11 +1,11 @@
 -- What can be known from settings and reports alone: the band, the reference, whether an end of the initial band was touched, how often
 -- the band was widened. Nothing here speaks of a session.
 use Rattle.std.specs.Prelude.{ℕ, ◌+◌, Bool, false, ◌&&◌, ◌||◌, List, [], ◌∷◌, leb}
+use Rattle.std.specs.Option.{option_map_or, unwrap_or}
 use Rattle.terms.specs.declared.Settings.{Settings}
 use Rattle.terms.specs.declared.Band.{Band}
 use Rattle.terms.specs.declared.Report.{Report}
 use Rattle.terms.specs.declared.Said.{Said}
-use Rattle.terms.specs.Options.{maybe}
 use Rattle.rules_law.specs.declared.Range.{Range}
 use Rattle.rules_law.specs.Slabs.{slab_of, band_at, touches, cooling_length}
 use Rattle.rules_law.specs.Reference.{opening_reference, range_of}
@@ -27,7 +27,7 @@ abbrev pub enhanced_band : Settings → Band
 enhanced_band g = band_at g.base g.tick ((slab_of g.category).initial + (slab_of g.category).enhanced)
 
 abbrev pub band_after : Band → Said → Band
-band_after band x = maybe band (λ told. told) (tells x).band
+band_after band x = unwrap_or (tells x).band band
 
 abbrev pub band_said : Settings → List Report → Band
 band_said g rs = last_said band_after (initial_band g) rs
@@ -35,7 +35,7 @@ band_said g rs = last_said band_after (initial_band g) rs
 -- ---- the reference: at first the opening one, then what a ref report tells
 
 abbrev pub reference_after : ℕ → Said → ℕ
-reference_after reference x = maybe reference (λ told. told) (tells x).reference
+reference_after reference x = unwrap_or (tells x).reference reference
 
 abbrev pub reference_said : Settings → List Report → ℕ
 reference_said g rs = last_said reference_after (opening_reference g.base g.under g.days) rs
@@ -47,7 +47,7 @@ range_said g rs = range_of (slab_of g.category) (reference_said g rs)
 -- ---- "A trade exactly at either end" of a band, whose cooling-off of 900,000 ms is over by time t
 
 abbrev pub touched_in : Band → ℕ → ℕ → Said → Bool
-touched_in band t time x = maybe false (λ deal. touches band deal.price && leb (time + cooling_length) t) (tells x).deal
+touched_in band t time x = option_map_or (λ deal. touches band deal.price && leb (time + cooling_length) t) (tells x).deal false
 
 -- one of the reports tells such a trade
 unfoldable pub touched_by : Band → ℕ → List Report → Bool
@@ -57,7 +57,7 @@ touched_by band t (r ∷ rs) = touched_in band t r.time r.said || touched_by ban
 -- ---- how many of the reports are slab reports
 
 abbrev pub slab_in : Said → ℕ
-slab_in x = maybe 0 (λ band. 1) (tells x).band
+slab_in x = option_map_or (λ band. 1) (tells x).band 0
 
 abbrev pub slabs_told : List Report → ℕ
 slabs_told rs = total slab_in rs

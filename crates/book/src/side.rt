@@ -21,7 +21,7 @@ pub fn is_better(side: Side, p: u64, q: u64) -> bool
     }
 }
 
-// Whether order a goes before order b.
+// Whether order a goes before order b. `Order` has no `Ord`, since which price is better depends on the side.
 pub fn is_ahead(side: Side, a: Order, b: Order) -> bool
     ensures { result ≡ ahead side a b }
 {

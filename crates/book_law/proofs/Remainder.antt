@@ -7,6 +7,7 @@ use mathlib.Core.Path.{◌≡◌, refl, ap}
 use mathlib.Core.List.{List, [], ◌∷◌, ◌++◌, map}
 use lib.Dec.{eqb}
 use lib.ListN.{length}
+use Rattle.std.specs.Option.{option_map_or}
 use Rattle.terms.specs.declared.Side.{Side}
 use Rattle.terms.specs.declared.Side.TheVariants.{Buy, Sell}
 use Rattle.terms.specs.declared.Kind.{Kind}
@@ -20,7 +21,6 @@ use Rattle.terms.specs.declared.Why.{Why}
 use Rattle.terms.specs.declared.Report.{Report}
 use Rattle.terms.specs.declared.Said.{Said}
 use Rattle.terms.proofs.Logic.{by}
-use Rattle.terms.specs.Options.{maybe}
 use Rattle.rules_law.specs.Slabs.{in_band}
 use Rattle.book_law.specs.declared.Fate.{Fate}
 use Rattle.book_law.specs.declared.Fate.TheVariants.{Done, Rests, Turns, Ends}
@@ -66,7 +66,7 @@ trades-cancelled id time side number (f ∷ fs) = omega (arith, trades-cancelled
 
 -- the deals are reported in the order of the fills, best first
 abbrev deal_in : Said → List Deal
-deal_in x = maybe [] (λ deal. deal ∷ []) (tells x).deal
+deal_in x = option_map_or (λ deal. deal ∷ []) (tells x).deal []
 
 unfoldable pub deals_told : List Report → List Deal
 deals_told [] = []

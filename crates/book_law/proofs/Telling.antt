@@ -2,6 +2,7 @@
 use Prim.Native.Nat.{ℕ}
 use mathlib.Core.Path.{◌≡◌, refl}
 use mathlib.Core.List.{List, [], ◌∷◌, ◌++◌, map}
+use Rattle.std.specs.Option.{option_map_or}
 use Rattle.terms.specs.declared.Band.{Band}
 use Rattle.terms.specs.declared.Closing.{Closing}
 use Rattle.terms.specs.declared.Deal.{Deal}
@@ -9,7 +10,6 @@ use Rattle.terms.specs.declared.Ended.{Ended}
 use Rattle.terms.specs.declared.Order.{Order}
 use Rattle.terms.specs.declared.Said.{Said}
 use Rattle.terms.specs.declared.Said.TheVariants.{Accept, Trade, Convert, Cancel, Slab, Ref, Close}
-use Rattle.terms.specs.Options.{maybe}
 use Rattle.book_law.specs.Matching.{report_at}
 use Rattle.book_law.specs.Tells.{tells}
 
@@ -19,11 +19,11 @@ report_is time said = (refl, refl)
 -- the parts that a report tells, each as the number of the kind that it belongs to
 abbrev parts_told : Said → List ℕ
 parts_told x =
-    maybe [] (λ number. 1 ∷ []) (tells x).accepted
-    ++ (maybe [] (λ deal. 2 ∷ []) (tells x).deal
-    ++ (maybe [] (λ ended. 4 ∷ []) (tells x).ended
-    ++ (maybe [] (λ band. 5 ∷ []) (tells x).band
-    ++ maybe [] (λ price. 6 ∷ []) (tells x).reference)))
+    option_map_or (λ number. 1 ∷ []) (tells x).accepted []
+    ++ (option_map_or (λ deal. 2 ∷ []) (tells x).deal []
+    ++ (option_map_or (λ ended. 4 ∷ []) (tells x).ended []
+    ++ (option_map_or (λ band. 5 ∷ []) (tells x).band []
+    ++ option_map_or (λ price. 6 ∷ []) (tells x).reference [])))
 
 -- a conversion and the closing prices tell nothing of accepted orders, trades, cancels, bands and references
 pub parts : (number : ℕ) (deal : Deal) (order : Order) (ended : Ended) (band : Band) (price : ℕ) (closing : Closing) →

@@ -1,6 +1,5 @@
 -- What a report tells, listed once: whatever is computed from reports is computed from these parts.
-use Rattle.std.specs.Prelude.{ℕ}
-use Rattle.std.proofs.Math.Option.{Option, some, none}
+use Rattle.std.specs.Prelude.{ℕ, Option, Some, None}
 use Rattle.terms.specs.declared.Band.{Band}
 use Rattle.terms.specs.declared.Deal.{Deal}
 use Rattle.terms.specs.declared.Ended.{Ended}
@@ -18,10 +17,10 @@ pub record Telling : Type 0 where
   pub reference : Option ℕ
 
 abbrev pub tells : Said → Telling
-tells (Accept number) = record { accepted = some number; deal = none; ended = none; band = none; reference = none }
-tells (Trade deal) = record { accepted = none; deal = some deal; ended = none; band = none; reference = none }
-tells (Convert order) = record { accepted = none; deal = none; ended = none; band = none; reference = none }
-tells (Cancel ended) = record { accepted = none; deal = none; ended = some ended; band = none; reference = none }
-tells (Slab band) = record { accepted = none; deal = none; ended = none; band = some band; reference = none }
-tells (Ref price) = record { accepted = none; deal = none; ended = none; band = none; reference = some price }
-tells (Close closing) = record { accepted = none; deal = none; ended = none; band = none; reference = none }
+tells (Accept number) = record { accepted = Some number; deal = None; ended = None; band = None; reference = None }
+tells (Trade deal) = record { accepted = None; deal = Some deal; ended = None; band = None; reference = None }
+tells (Convert order) = record { accepted = None; deal = None; ended = None; band = None; reference = None }
+tells (Cancel ended) = record { accepted = None; deal = None; ended = Some ended; band = None; reference = None }
+tells (Slab band) = record { accepted = None; deal = None; ended = None; band = Some band; reference = None }
+tells (Ref price) = record { accepted = None; deal = None; ended = None; band = None; reference = Some price }
+tells (Close closing) = record { accepted = None; deal = None; ended = None; band = None; reference = None }

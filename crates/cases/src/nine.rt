@@ -16,15 +16,11 @@ pub struct Word {
 // Stands in the input for the greatest 64-bit number, which has one digit more.
 const GREATEST: u64 = 9_999_999_999_999_999_999;
 
-fn byte(b: u8) -> u64 {
-    b as u64
-}
-
 fn meant(x: u64) -> u64 {
-    if x == GREATEST {
-        return u64::MAX;
+    match x {
+        GREATEST => u64::MAX,
+        _ => x,
     }
-    x
 }
 
 // The number that begins at a place, up to a byte below the digit 0, such as a space; the next number begins behind that byte.
@@ -35,20 +31,14 @@ fn read(text: &[u8], from: usize) -> Word
     let mut at = from;
     let mut value: u64 = 0;
     while at < text.len() {
-        let d = byte(text[at]);
+        let d = u64::from(text[at]);
         at += 1;
         if d < 48 {
-            return Word {
-                value: value,
-                next: at,
-            };
+            return Word { value, next: at };
         }
         value = value % 1_000_000_000_000_000_000 * 10 + (d - 48) % 10;
     }
-    Word {
-        value: value,
-        next: at,
-    }
+    Word { value, next: at }
 }
 
 // The next nine numbers; those that are missing are 0.
@@ -66,8 +56,5 @@ pub fn nine(text: &[u8], from: usize) -> Line
     if at == from {
         at += 1;
     }
-    Line {
-        words: words,
-        next: at,
-    }
+    Line { words, next: at }
 }

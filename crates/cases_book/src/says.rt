@@ -1,6 +1,4 @@
 // Prints numbers, with a space after each.
-ghost use Rattle.std.specs.Prelude.{◌≤◌};
-
 use cases::print;
 
 pub fn count(x: usize) {
@@ -8,11 +6,7 @@ pub fn count(x: usize) {
 }
 
 pub fn truth(b: bool) {
-    if b {
-        print::number(1);
-        return;
-    }
-    print::number(0);
+    print::number(u64::from(b));
 }
 
 // Prints the numbers from one place up to another, as far as there are any.
@@ -31,15 +25,6 @@ pub fn bar() {
     io::write_all(1, b"| ");
 }
 
-fn one(x: u64) -> u64
-    ensures { result ≤ 1 }
-{
-    if x == 0 {
-        return 0;
-    }
-    1
-}
-
 // How many of the numbers from one place up to another are not 0.
 fn nonzero(t: &[u64], from: usize, to: usize) -> u64 {
     let mut i = from;
@@ -48,7 +33,7 @@ fn nonzero(t: &[u64], from: usize, to: usize) -> u64 {
         if to <= i {
             return found;
         }
-        found = found % 1_000_000 + one(t[i]);
+        found = found % 1_000_000 + u64::from(t[i] != 0);
         i += 1;
     }
     found

@@ -28,17 +28,17 @@ pub struct Counts {
 }
 
 fn side_of(x: u64) -> Side {
-    if x == 0 {
-        return Side::Buy;
+    match x {
+        0 => Side::Buy,
+        _ => Side::Sell,
     }
-    Side::Sell
 }
 
 fn kind_of(x: u64, limit: u64) -> Kind {
-    if x == 0 {
-        return Kind::Market;
+    match x {
+        0 => Kind::Market,
+        _ => Kind::Limit(limit),
     }
-    Kind::Limit(limit)
 }
 
 fn range_of(percent: u64, reference: u64) -> Range
@@ -56,9 +56,9 @@ fn incoming(side: Side, w: [u64; 9]) -> Incoming
     let kind = kind_of(w[2], w[3]);
     let range = range_of(w[6], w[7]);
     Incoming {
-        side: side,
-        kind: kind,
-        range: range,
+        side,
+        kind,
+        range,
         number: w[5],
         lots: w[4],
         time: 60_000,

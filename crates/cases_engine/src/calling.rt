@@ -9,36 +9,33 @@ use state_law::{Opened, Session};
 use terms::{Act, Entry, Event, Kind, Life, Settings, Side};
 
 pub fn side_of(x: u64) -> Side {
-    if x == 0 {
-        return Side::Buy;
+    match x {
+        0 => Side::Buy,
+        _ => Side::Sell,
     }
-    Side::Sell
 }
 
 fn kind_of(x: u64, price: u64) -> Kind {
-    if x == 0 {
-        return Kind::Limit(price);
+    match x {
+        0 => Kind::Limit(price),
+        _ => Kind::Market,
     }
-    Kind::Market
 }
 
 fn life_of(x: u64) -> Life {
-    if x == 0 {
-        return Life::AllDay;
+    match x {
+        0 => Life::AllDay,
+        _ => Life::Ioc,
     }
-    Life::Ioc
 }
 
 // The order that an act's number from 0 to 7 stands for: 1 for a sell, 2 for a market order and 4 for an ioc order, added up.
 fn entry_of(act: u64, lots: u64, price: u64) -> Entry {
-    let side = side_of(act % 2);
-    let kind = kind_of(act / 2 % 2, price);
-    let life = life_of(act / 4 % 2);
     Entry {
-        side: side,
-        kind: kind,
-        life: life,
-        lots: lots,
+        side: side_of(act % 2),
+        kind: kind_of(act / 2 % 2, price),
+        life: life_of(act / 4 % 2),
+        lots,
     }
 }
 
@@ -66,7 +63,7 @@ fn up_to(n: u64, most: usize) -> usize
 pub fn begin(w: [u64; 9]) -> Opened {
     let category = setting::category_of(w[1]);
     let g = Settings {
-        category: category,
+        category,
         base: w[2],
         close: w[3],
         settle: w[4],
@@ -87,10 +84,7 @@ pub fn apply_event(
     room: &mut [u64],
 ) -> Session {
     let act = act_of(w[5], w[6], w[7]);
-    let e = Event {
-        time: w[4],
-        act: act,
-    };
+    let e = Event { time: w[4], act };
     let nbuys = up_to(w[1], buys.len());
     let nsells = up_to(w[2], sells.len());
     let nroom = up_to(w[3], room.len());

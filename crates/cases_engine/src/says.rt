@@ -4,13 +4,6 @@ use engine_law::Answer;
 use state_law::Session;
 use terms::Verdict;
 
-fn truth(b: bool) -> u64 {
-    if b {
-        return 1;
-    }
-    0
-}
-
 pub fn verdict(v: Verdict) {
     match v {
         Verdict::Fine => print::number(0),
@@ -34,7 +27,7 @@ pub fn answer(a: Answer) {
 // Prints every number of a session that an event can change, except the remembered trades.
 pub fn session(s: Session) {
     print::number(s.clock.time);
-    print::number(truth(s.clock.closed));
+    print::number(u64::from(s.clock.closed));
     print::number(s.live.buys);
     print::number(s.live.sells);
     print::number(s.clock.widened);

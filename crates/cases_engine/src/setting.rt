@@ -22,98 +22,51 @@ pub fn category_of(x: u64) -> Category {
 
 fn in_settings(g: Settings, field: u64, v: u64) -> Settings {
     let mut r = g;
-    if field == 1 {
-        r.base = v;
-        return r;
+    match field {
+        1 => r.base = v,
+        2 => r.close = v,
+        3 => r.settle = v,
+        4 => r.tick = v,
+        5 => r.length = v,
+        6 => r.days = v,
+        _ => r.under = v,
     }
-    if field == 2 {
-        r.close = v;
-        return r;
-    }
-    if field == 3 {
-        r.settle = v;
-        return r;
-    }
-    if field == 4 {
-        r.tick = v;
-        return r;
-    }
-    if field == 5 {
-        r.length = v;
-        return r;
-    }
-    if field == 6 {
-        r.days = v;
-        return r;
-    }
-    r.under = v;
     r
 }
 
 fn in_session(s: Session, field: u64, v: u64) -> Session {
     let mut r = s;
-    if field == 8 {
-        r.clock.time = v;
-        return r;
+    match field {
+        8 => r.clock.time = v,
+        9 => r.clock.closed = v == 1,
+        10 => r.live.buys = v,
+        11 => r.live.sells = v,
+        12 => r.clock.widened = v,
+        13 => r.clock.cooling = v,
+        14 => r.clock.under = v,
+        _ => r.live.given = v,
     }
-    if field == 9 {
-        let closed = v == 1;
-        r.clock.closed = closed;
-        return r;
-    }
-    if field == 10 {
-        r.live.buys = v;
-        return r;
-    }
-    if field == 11 {
-        r.live.sells = v;
-        return r;
-    }
-    if field == 12 {
-        r.clock.widened = v;
-        return r;
-    }
-    if field == 13 {
-        r.clock.cooling = v;
-        return r;
-    }
-    if field == 14 {
-        r.clock.under = v;
-        return r;
-    }
-    r.live.given = v;
     r
 }
 
 fn in_reckoning(old: Reckoning, field: u64, v: u64) -> Reckoning {
     let mut r = old;
-    if field == 16 {
-        r.reference = v;
-        return r;
+    match field {
+        16 => r.reference = v,
+        17 => r.minute.count = v,
+        _ => r.minute.sum = v,
     }
-    if field == 17 {
-        r.minute.count = v;
-        return r;
-    }
-    r.minute.sum = v;
     r
 }
 
 fn in_tape(old: Tape, field: u64, v: u64) -> Tape {
     let mut r = old;
-    if field == 19 {
-        r.trades = v;
-        return r;
+    match field {
+        19 => r.trades = v,
+        20 => r.half.count = v,
+        21 => r.half.lots = v,
+        _ => r.half.value = v,
     }
-    if field == 20 {
-        r.half.count = v;
-        return r;
-    }
-    if field == 21 {
-        r.half.lots = v;
-        return r;
-    }
-    r.half.value = v;
     r
 }
 

@@ -26,8 +26,8 @@ fn put_orders(t: &mut [u64], count: u64, first: u64, price: u64, lots: u64) {
         }
         let o = Order {
             number: first % 1_000_000 + put,
-            price: price,
-            lots: lots,
+            price,
+            lots,
         };
         orders::store(t, at, o);
         at += lengths::WIDTH;
@@ -85,22 +85,19 @@ fn applies(
 }
 
 fn turn(s: Session, w: [u64; 9], buys: &mut [u64], sells: &mut [u64], room: &mut [u64]) -> Session {
-    let what = w[0];
-    if what == 0 {
-        return opens(w, buys, sells, room);
+    match w[0] {
+        0 => opens(w, buys, sells, room),
+        1 => setting::session_with(s, w[1], w[2]),
+        4 => applies(s, w, buys, sells, room),
+        5 => {
+            calling::look(s, w, buys, sells);
+            s
+        }
+        _ => {
+            edit_named(buys, sells, w);
+            s
+        }
     }
-    if what == 1 {
-        return setting::session_with(s, w[1], w[2]);
-    }
-    if what == 4 {
-        return applies(s, w, buys, sells, room);
-    }
-    if what == 5 {
-        calling::look(s, w, buys, sells);
-        return s;
-    }
-    edit_named(buys, sells, w);
-    s
 }
 
 // Takes line after line, to the end of the input; the first session is that of a refused opening.

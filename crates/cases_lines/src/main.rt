@@ -7,7 +7,6 @@ ghost use Rattle.std.specs.Prelude.{◌<◌, ◌≤◌, length};
 
 use lines_reading_law::{ReadEvent, ReadSettings};
 use lines_writing_law::Wrote;
-use records_law::ReadRecord;
 use tables::lengths;
 use terms::{Act, Event, Refusal, numbers, sizes};
 
@@ -171,12 +170,12 @@ fn show_places() {
 // Shows the report whose record stands at a place of a room.
 fn show_report(room: &[u64], at: usize) {
     match records::read_record(room, at) {
-        ReadRecord::Told(report) => {
+        Some(report) => {
             let mut line = [0u8; sizes::LINE];
             let wrote = lines_writing_reports::write_report(report, &mut line);
             show(wrote, &line);
         }
-        ReadRecord::Nothing => {
+        None => {
             io::write_all(OUTPUT, b"no report\n");
         }
     }

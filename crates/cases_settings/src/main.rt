@@ -26,20 +26,14 @@ fn plain() -> Settings {
 // The same with one field set; the fields are base, close, settle, tick, length, days and under, by their numbers.
 fn with(field: usize, v: u64) -> Settings {
     let mut g = plain();
-    if field == 0 {
-        g.base = v;
-    } else if field == 1 {
-        g.close = v;
-    } else if field == 2 {
-        g.settle = v;
-    } else if field == 3 {
-        g.tick = v;
-    } else if field == 4 {
-        g.length = v;
-    } else if field == 5 {
-        g.days = v;
-    } else {
-        g.under = v;
+    match field {
+        0 => g.base = v,
+        1 => g.close = v,
+        2 => g.settle = v,
+        3 => g.tick = v,
+        4 => g.length = v,
+        5 => g.days = v,
+        _ => g.under = v,
     }
     g
 }

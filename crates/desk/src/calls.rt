@@ -137,8 +137,7 @@ pub fn kakoludar_sound(session: &[u64], buys: &[u64], sells: &[u64]) -> u64
         return 0;
     }
     let s = sessions::unpack(session);
-    let sound = soundness::is_sound(s, buys, sells);
-    sessions::flag_of(sound)
+    u64::from(soundness::is_sound(s, buys, sells))
 }
 
 // The length of a side's view.
@@ -157,11 +156,9 @@ pub fn kakoludar_view<'a>(side: u64, session: &[u64], buys: &'a [u64], sells: &'
         return 0;
     }
     let s = sessions::unpack(session);
-    if side == 1 {
-        return view_length(Side::Buy, s, buys, sells);
+    match side {
+        1 => view_length(Side::Buy, s, buys, sells),
+        2 => view_length(Side::Sell, s, buys, sells),
+        _ => 0,
     }
-    if side == 2 {
-        return view_length(Side::Sell, s, buys, sells);
-    }
-    0
 }

@@ -6,10 +6,8 @@ ghost use Rattle.desk_law.specs.Reads.{EventReadInto, SettingsReadInto};
 ghost use Rattle.desk_law.specs.Writes.{wrote_number, Few, SettingsWrittenOn, EventWrittenOn, ReportWrittenOn};
 
 use desk_packing::{events, runs, settings};
-use desk_packing_law::FoundEvent;
 use lines_reading_law::{ReadEvent, ReadSettings};
 use lines_writing_law::Wrote;
-use records_law::ReadRecord;
 use tables::{flat, lengths};
 use terms::{Refusal, sizes};
 
@@ -78,11 +76,8 @@ pub fn kakoludar_write_report(report: &[u64], line: &mut [u8]) -> u64
         return desk_answers::refused(Refusal::SmallRoom);
     }
     match records::read_record(report, 0) {
-        ReadRecord::Told(p) => {
-            let w = lines_writing_reports::write_report(p, line);
-            wrote(w)
-        }
-        ReadRecord::Nothing => no_line(line),
+        Some(p) => wrote(lines_writing_reports::write_report(p, line)),
+        None => no_line(line),
     }
 }
 
@@ -94,11 +89,8 @@ pub fn kakoludar_write_event(event: &[u64], line: &mut [u8]) -> u64
         return desk_answers::refused(Refusal::SmallRoom);
     }
     match events::find(event) {
-        FoundEvent::Told(e) => {
-            let w = lines_writing::write_event(e, line);
-            wrote(w)
-        }
-        FoundEvent::Nothing => desk_answers::refused(Refusal::NumberRange),
+        Some(e) => wrote(lines_writing::write_event(e, line)),
+        None => desk_answers::refused(Refusal::NumberRange),
     }
 }
 

@@ -18,7 +18,6 @@ pub const VERSION: u64 = 3000;
 fn packed(st: Standing) -> [u64; 14]
     ensures { result ≡ standing_numbers st }
 {
-    let cooling = sessions::flag_of(st.cooling);
     let band = st.band;
     let range = st.range;
     [
@@ -28,7 +27,7 @@ fn packed(st: Standing) -> [u64; 14]
         range.low,
         range.high,
         st.reference,
-        cooling,
+        u64::from(st.cooling),
         st.ends,
         st.price,
         st.lots,

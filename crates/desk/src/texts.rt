@@ -36,12 +36,7 @@ fn answer_to(stop: Stop) -> u64
 fn is_refusal(stop: Stop) -> bool
     ensures { result ≡ is_refusal stop }
 {
-    match stop {
-        Stop::Waits => false,
-        Stop::Full => false,
-        Stop::Over => false,
-        Stop::Refused(_) => true,
-    }
+    matches!(stop, Stop::Refused(_))
 }
 
 // Writes the run, and both counts.

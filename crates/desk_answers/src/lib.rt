@@ -9,7 +9,7 @@ ghost use Rattle.terms.specs.declared.Verdict.TheVariants.{Fine, Refused};
 ghost use Rattle.terms.specs.Refusals.{number_of};
 ghost use Rattle.desk_packing_law.specs.Answers.{codes, count_most, answer_number, answer_of};
 
-use terms::{Refusal, numbers};
+use terms::Refusal;
 
 pub const CODES: u64 = 256;
 
@@ -32,8 +32,7 @@ pub fn done(count: u64) -> u64
 pub fn refused(r: Refusal) -> u64
     ensures { result ≡ answer_of (Refused r) 0 }
 {
-    let code = numbers::of_refusal(r);
-    number(code, 0)
+    number(u64::from(r), 0)
 }
 
 // The answer 15, with the place.
@@ -41,6 +40,5 @@ pub fn wrong_at(place: usize) -> u64
     requires { place ≤ count_most }
     ensures { result ≡ answer_number (number_of LineWrong) place }
 {
-    let code = numbers::of_refusal(Refusal::LineWrong);
-    number(code, place as u64)
+    number(u64::from(Refusal::LineWrong), place as u64)
 }

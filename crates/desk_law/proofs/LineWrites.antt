@@ -6,6 +6,7 @@ use mathlib.Core.Bool.{Bool, true, false, not}
 use mathlib.Core.List.{List, []}
 use borrow.Author.Tests.{lt-ltb, le-ltb, lt-leb, le-leb, not-true, not-false}
 use lib.ListN.{length, get_or, take, drop}
+use Rattle.std.specs.Prelude.{Option, Some, None}
 use Rattle.terms.specs.declared.Event.{Event}
 use Rattle.terms.specs.declared.Refusal.{Refusal}
 use Rattle.terms.specs.declared.Refusal.TheVariants.{SmallRoom, NumberRange, SettingsRange, SmallLineRoom}
@@ -18,13 +19,11 @@ use Rattle.tables.specs.Lengths.{record_length}
 use Rattle.terms.specs.Refusals.{first_failed}
 use Rattle.lines_text_law.specs.Numerals.{all_writable}
 use Rattle.lines_reading_law.specs.Lines.{render_event, render_settings, event_figures, settings_figures}
-use Rattle.records_law.specs.declared.ReadRecord.{ReadRecord}
 use Rattle.records_law.specs.Back.{RecordRead}
 use Rattle.records_law.proofs.Told.{told-first}
 use Rattle.lines_writing_law.specs.declared.Wrote.{Wrote}
 use Rattle.lines_writing_law.specs.Lines.{render_report, report_figures}
 use Rattle.lines_writing_law.specs.Writes.{line_verdict, wrote_of, room_of, Writes}
-use Rattle.desk_packing_law.specs.declared.FoundEvent.{FoundEvent}
 use Rattle.desk_packing_law.specs.Runs.{settings_length, event_length}
 use Rattle.desk_packing_law.specs.Settings.{is_category, settings_from}
 use Rattle.desk_packing_law.specs.Events.{found_in, event_from}
@@ -81,12 +80,12 @@ module _ (run room : List ℕ) (r : ℕ) where
   unfolding event_verdict_on
   event-no-run h x = refused-on _ SmallRoom _ room r (rw (lt-ltb (length run) event_length h)) x
 
-  module _ (h : event_length ≤ length run) (found : FoundEvent) (k : found ≡ found_in run) where
-    pub event-none : found ≡ FoundEvent.Nothing → r ≡ answer_of (Refused NumberRange) 0 → EventWrittenOn run room room r
+  module _ (h : event_length ≤ length run) (found : Option Event) (k : found ≡ found_in run) where
+    pub event-none : found ≡ None → r ≡ answer_of (Refused NumberRange) 0 → EventWrittenOn run room room r
     unfolding event_verdict_on
     event-none t x = refused-on _ NumberRange _ room r (rw (le-ltb (length run) event_length h, ← k, t)) x
 
-    pub event-written : (e : Event) (w : Wrote) (room' : List ℕ) → found ≡ FoundEvent.Told e → Writes room (render_event e) (event_figures e) w room' →
+    pub event-written : (e : Event) (w : Wrote) (room' : List ℕ) → found ≡ Some e → Writes room (render_event e) (event_figures e) w room' →
         r ≡ wrote_number w → EventWrittenOn run room room' r
     unfolding event_verdict_on event_from
     event-written e w room' t p x =
@@ -116,13 +115,13 @@ module _ (run room : List ℕ) (r : ℕ) where
   unfolding report_verdict_on
   report_no-run h x = refused-on _ SmallRoom _ room r (rw (lt-ltb (length run) record_length h)) x
 
-  module _ (h : record_length ≤ length run) (o : ReadRecord) (k : RecordRead (take record_length (drop 0 run)) o) where
-    pub report_none : o ≡ ReadRecord.Nothing → r ≡ answer_of (line_verdict room []) 0 → ReportWrittenOn run room room r
+  module _ (h : record_length ≤ length run) (o : Option Report) (k : RecordRead (take record_length (drop 0 run)) o) where
+    pub report_none : o ≡ None → r ≡ answer_of (line_verdict room []) 0 → ReportWrittenOn run room room r
     unfolding report_verdict_on
     report_none t x =
         rw (le-ltb (length run) record_length h, ← told-first run o h k, t) (record { answer = x; laid = none_written (line_verdict room []) room })
 
-    pub report_written : (p : Report) (w : Wrote) (room' : List ℕ) → o ≡ ReadRecord.Told p → Writes room (render_report p) (report_figures p) w room' →
+    pub report_written : (p : Report) (w : Wrote) (room' : List ℕ) → o ≡ Some p → Writes room (render_report p) (report_figures p) w room' →
         r ≡ wrote_number w → ReportWrittenOn run room room' r
     unfolding report_verdict_on
     report_written p w room' t q x =

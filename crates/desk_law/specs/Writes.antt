@@ -1,6 +1,8 @@
 -- THE CALLS THAT WRITE A LINE from numbers: what each call answers, and what it leaves in the line room.
-use Rattle.std.specs.Prelude.{ℕ, ◌≤◌, ◌≡◌, cond, List, [], ltb, length, get_or}
+use Rattle.std.specs.Prelude.{ℕ, ◌≤◌, ◌≡◌, cond, List, [], ltb, length, get_or, Option, Some, None}
+use Rattle.terms.specs.declared.Event.{Event}
 use Rattle.terms.specs.declared.Refusal.TheVariants.{SmallRoom, NumberRange, SettingsRange}
+use Rattle.terms.specs.declared.Report.{Report}
 use Rattle.terms.specs.declared.Verdict.{Verdict}
 use Rattle.terms.specs.declared.Verdict.TheVariants.{Fine, Refused}
 use Rattle.tables.specs.Lengths.{record_length}
@@ -8,9 +10,7 @@ use Rattle.lines_reading_law.specs.Lines.{render_event, render_settings, event_f
 use Rattle.lines_writing_law.specs.declared.Wrote.{Wrote}
 use Rattle.lines_writing_law.specs.Lines.{render_report, report_figures}
 use Rattle.lines_writing_law.specs.Writes.{line_verdict, room_of}
-use Rattle.records_law.specs.declared.ReadRecord.{ReadRecord}
 use Rattle.records_law.specs.Back.{report_in}
-use Rattle.desk_packing_law.specs.declared.FoundEvent.{FoundEvent}
 use Rattle.desk_packing_law.specs.Runs.{settings_length, event_length}
 use Rattle.desk_packing_law.specs.Settings.{is_category, settings_from}
 use Rattle.desk_packing_law.specs.Events.{found_in, event_from}
@@ -44,9 +44,9 @@ SettingsWrittenOn run room room' r = WrittenOn (settings_verdict_on run room) (r
 
 -- ---- an event: 1 if the slice is too short, 4 if the numbers are no event's, then 16 and 17
 
-abbrev pub found_verdict : FoundEvent → List ℕ → Verdict
-found_verdict (FoundEvent.Told e) room = line_verdict room (event_figures e)
-found_verdict FoundEvent.Nothing room = Refused NumberRange
+abbrev pub found_verdict : Option Event → List ℕ → Verdict
+found_verdict (Some e) room = line_verdict room (event_figures e)
+found_verdict None room = Refused NumberRange
 
 unfoldable pub event_verdict_on : List ℕ → List ℕ → Verdict
 event_verdict_on run room = cond (ltb (length run) event_length) (Refused SmallRoom) (found_verdict (found_in run) room)
@@ -56,13 +56,13 @@ EventWrittenOn run room room' r = WrittenOn (event_verdict_on run room) (render_
 
 -- ---- a report, from its record: 1 if the slice is too short, then 16 and 17. For numbers that are no report's no line is written
 
-abbrev pub told_verdict : ReadRecord → List ℕ → Verdict
-told_verdict (ReadRecord.Told p) room = line_verdict room (report_figures p)
-told_verdict ReadRecord.Nothing room = line_verdict room []
+abbrev pub told_verdict : Option Report → List ℕ → Verdict
+told_verdict (Some p) room = line_verdict room (report_figures p)
+told_verdict None room = line_verdict room []
 
-abbrev pub told_line : ReadRecord → List ℕ
-told_line (ReadRecord.Told p) = render_report p
-told_line ReadRecord.Nothing = []
+abbrev pub told_line : Option Report → List ℕ
+told_line (Some p) = render_report p
+told_line None = []
 
 unfoldable pub report_verdict_on : List ℕ → List ℕ → Verdict
 report_verdict_on run room = cond (ltb (length run) record_length) (Refused SmallRoom) (told_verdict (report_in run) room)

@@ -27,16 +27,5 @@ pub fn ten_at(ns: &[u64], at: usize) -> [u64; 10]
     requires { at + 10 ≤ length ns.now }
     ensures { result ≡ ten_at ns.now at }
 {
-    [
-        ns[at],
-        ns[at + 1],
-        ns[at + 2],
-        ns[at + 3],
-        ns[at + 4],
-        ns[at + 5],
-        ns[at + 6],
-        ns[at + 7],
-        ns[at + 8],
-        ns[at + 9],
-    ]
+    *ns[at..].first_chunk().unwrap()
 }

@@ -2,22 +2,11 @@
 ghost use Rattle.std.specs.Prelude.{◌≡◌, ◌+◌, ◌≤◌, length};
 ghost use Rattle.state_law.specs.Opening.{fixed_session};
 ghost use Rattle.desk_packing_law.specs.Runs.{session_length};
-ghost use Rattle.desk_packing_law.specs.Sessions.{flag, clock_from, live_from, reckoning_from, tape_from, session_numbers, is_session, session_of, session_from};
+ghost use Rattle.desk_packing_law.specs.Sessions.{clock_from, live_from, reckoning_from, tape_from, session_numbers, is_session, session_of, session_from};
 
 use crate::{runs, settings};
 use rules_law::{Minute, Reckoning, Tally, Tape};
 use state_law::{Dial, Live, Session};
-use terms::numbers;
-
-// 1 for true, 0 for false.
-pub fn flag_of(b: bool) -> u64
-    ensures { result ≡ flag b }
-{
-    if b {
-        return 1;
-    }
-    0
-}
 
 // Whether numbers are a session's.
 pub fn is_session(ns: &[u64]) -> bool
@@ -58,13 +47,12 @@ fn reckoning_at(ns: &[u64], at: usize) -> Reckoning
     requires { at + 3 ≤ length ns.now }
     ensures { result ≡ reckoning_from ns.now at }
 {
-    let minute = Minute {
-        count: ns[at + 1],
-        sum: ns[at + 2],
-    };
     Reckoning {
         reference: ns[at],
-        minute: minute,
+        minute: Minute {
+            count: ns[at + 1],
+            sum: ns[at + 2],
+        },
     }
 }
 
@@ -72,18 +60,15 @@ fn tape_at(ns: &[u64], at: usize) -> Tape
     requires { at + 24 ≤ length ns.now }
     ensures { result ≡ tape_from ns.now at }
 {
-    let prices = runs::ten_at(ns, at + 1);
-    let sizes = runs::ten_at(ns, at + 11);
-    let half = Tally {
-        count: ns[at + 21],
-        lots: ns[at + 22],
-        value: ns[at + 23],
-    };
     Tape {
         trades: ns[at],
-        prices: prices,
-        sizes: sizes,
-        half: half,
+        prices: runs::ten_at(ns, at + 1),
+        sizes: runs::ten_at(ns, at + 11),
+        half: Tally {
+            count: ns[at + 21],
+            lots: ns[at + 22],
+            value: ns[at + 23],
+        },
     }
 }
 
@@ -92,17 +77,12 @@ pub fn session_of(ns: &[u64]) -> Session
     requires { session_length ≤ length ns.now }
     ensures { result ≡ session_of ns.now }
 {
-    let settings = settings::settings_at(ns, runs::SETTINGS_AT);
-    let clock = clock_at(ns, runs::CLOCK_AT);
-    let live = live_at(ns, runs::LIVE_AT);
-    let reckoning = reckoning_at(ns, runs::RECKONING_AT);
-    let tape = tape_at(ns, runs::TAPE_AT);
     Session {
-        settings: settings,
-        clock: clock,
-        live: live,
-        reckoning: reckoning,
-        tape: tape,
+        settings: settings::settings_at(ns, runs::SETTINGS_AT),
+        clock: clock_at(ns, runs::CLOCK_AT),
+        live: live_at(ns, runs::LIVE_AT),
+        reckoning: reckoning_at(ns, runs::RECKONING_AT),
+        tape: tape_at(ns, runs::TAPE_AT),
     }
 }
 
@@ -125,15 +105,12 @@ pub fn unpack(ns: &[u64]) -> Session
     session_of(ns)
 }
 
-// The numbers of a session.
+// The numbers of a session: one literal, as copying section by section would write each number twice, zeros first.
 pub fn pack(s: Session) -> [u64; 44]
     ensures { result ≡ session_numbers s }
 {
     let g = s.settings;
-    let category = g.category;
-    let row = numbers::of_category(category) as u64;
     let clock = s.clock;
-    let closed = flag_of(clock.closed);
     let live = s.live;
     let reckoning = s.reckoning;
     let minute = reckoning.minute;
@@ -143,7 +120,7 @@ pub fn pack(s: Session) -> [u64; 44]
     let half = tape.half;
     [
         runs::LAYOUT,
-        row,
+        u64::from(g.category),
         g.base,
         g.close,
         g.settle,
@@ -152,7 +129,7 @@ pub fn pack(s: Session) -> [u64; 44]
         g.days,
         g.under,
         clock.time,
-        closed,
+        u64::from(clock.closed),
         clock.widened,
         clock.cooling,
         clock.under,

@@ -3,7 +3,7 @@ ghost use Rattle.std.specs.Prelude.{◌≡◌, ◌+◌, ◌≤◌, length};
 ghost use Rattle.desk_packing_law.specs.Runs.{settings_length};
 ghost use Rattle.desk_packing_law.specs.Settings.{settings_numbers, is_category, category_from, settings_at, settings_from};
 
-use terms::{Category, Settings, numbers};
+use terms::{Category, Settings};
 
 // Whether a number is the row of a category.
 pub fn is_category(n: u64) -> bool
@@ -12,32 +12,20 @@ pub fn is_category(n: u64) -> bool
     n <= 7
 }
 
-// The category of a row.
+// The category of a row; a number that is none's is taken for the last.
 fn category_from(n: u64) -> Category
     ensures { result ≡ category_from n }
 {
-    if n == 0 {
-        return Category::Broad;
+    match n {
+        0 => Category::Broad,
+        1 => Category::Narrow,
+        2 => Category::Sensitive,
+        3 => Category::Energy,
+        4 => Category::Metals,
+        5 => Category::Precious,
+        6 => Category::Gems,
+        _ => Category::Other,
     }
-    if n == 1 {
-        return Category::Narrow;
-    }
-    if n == 2 {
-        return Category::Sensitive;
-    }
-    if n == 3 {
-        return Category::Energy;
-    }
-    if n == 4 {
-        return Category::Metals;
-    }
-    if n == 5 {
-        return Category::Precious;
-    }
-    if n == 6 {
-        return Category::Gems;
-    }
-    Category::Other
 }
 
 // The settings that numbers stand for, from a place on.
@@ -45,9 +33,8 @@ pub fn settings_at(ns: &[u64], at: usize) -> Settings
     requires { at + settings_length ≤ length ns.now }
     ensures { result ≡ settings_at ns.now at }
 {
-    let category = category_from(ns[at]);
     Settings {
-        category: category,
+        category: category_from(ns[at]),
         base: ns[at + 1],
         close: ns[at + 2],
         settle: ns[at + 3],
@@ -70,8 +57,7 @@ pub fn unpack(ns: &[u64]) -> Settings
 pub fn pack(g: Settings) -> [u64; 8]
     ensures { result ≡ settings_numbers g }
 {
-    let category = g.category;
-    let row = numbers::of_category(category) as u64;
+    let row = u64::from(g.category);
     [
         row, g.base, g.close, g.settle, g.tick, g.length, g.days, g.under,
     ]

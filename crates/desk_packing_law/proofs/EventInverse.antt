@@ -3,6 +3,7 @@ use Prim.Native.Nat.{ℕ, ◌≤◌}
 use mathlib.Core.Path.{◌≡◌, refl, sym, ◌∙◌}
 use mathlib.Core.List.{List, [], ◌∷◌, ◌++◌}
 use lib.ListN.{length, get_or, take}
+use Rattle.std.specs.Prelude.{Option, Some, None}
 use Rattle.terms.specs.declared.Act.{Act}
 use Rattle.terms.specs.declared.Act.TheVariants.{Enter, Withdraw, Under, Clock, Finish}
 use Rattle.terms.specs.declared.Entry.{Entry}
@@ -17,7 +18,6 @@ use Rattle.terms.specs.Carried.{limit_of}
 use Rattle.tables.specs.Same.{are_same}
 use Rattle.terms.proofs.Logic.{by, cond_true}
 use Rattle.tables.proofs.Same.{same_itself, same_equal}
-use Rattle.desk_packing_law.specs.declared.FoundEvent.{FoundEvent}
 use Rattle.desk_packing_law.specs.Runs.{event_length}
 use Rattle.desk_packing_law.specs.Events.{side_number, kind_number, life_number, or_zero, act_numbers, event_numbers, entry_by, act_by, event_if, found_from, found_in, event_from}
 use Rattle.desk_packing_law.proofs.Listed.{first-listed}
@@ -50,7 +50,7 @@ act_again t (Under price) rest = refl
 act_again t Clock rest = refl
 act_again t (Finish settle) rest = refl
 
-pub found_back : (e : Event) (rest : List ℕ) → found_in (event_numbers e ++ rest) ≡ FoundEvent.Told e
+pub found_back : (e : Event) (rest : List ℕ) → found_in (event_numbers e ++ rest) ≡ Some e
 unfolding event_numbers
 found_back e rest = act_again e.time e.act rest ∙ cond_true (are_same (event_numbers e) (event_numbers e)) _ _ (same_itself (event_numbers e))
 
@@ -61,20 +61,20 @@ event_back_lem e rest = rw (found_back e rest)
 -- ---- an event that is read has the given numbers
 
 -- nothing was read, or an event whose numbers these are
-abbrev Only : List ℕ → FoundEvent → Type 0
-Only ns (FoundEvent.Told e) = ns ≡ event_numbers e
-Only ns FoundEvent.Nothing = Unit
+abbrev Only : List ℕ → Option Event → Type 0
+Only ns (Some e) = ns ≡ event_numbers e
+Only ns None = Unit
 
 only-told : (e : Event) (ns : List ℕ) → Only ns (event_if e ns)
-only-told e ns = by (Only ns) (are_same (event_numbers e) ns) (FoundEvent.Told e) FoundEvent.Nothing (λ h. sym (same_equal (event_numbers e) ns h)) (λ _. tt)
+only-told e ns = by (Only ns) (are_same (event_numbers e) ns) (Some e) None (λ h. sym (same_equal (event_numbers e) ns h)) (λ _. tt)
 
 only : (t w k l a p : ℕ) → Only (six t w k l a p) (found_from t w k l a p)
 unfolding found_from
 only t w k l a p = only-told (record { time = t; act = act_by w k l a p }) (six t w k l a p)
 
-pub event-numbers : (ns : List ℕ) (e : Event) → event_length ≤ length ns → found_in ns ≡ FoundEvent.Told e → event_numbers e ≡ take event_length ns
+pub event-numbers : (ns : List ℕ) (e : Event) → event_length ≤ length ns → found_in ns ≡ Some e → event_numbers e ≡ take event_length ns
 unfolding found_in
 event-numbers ns e h k =
-    let told : (f : FoundEvent) → found_in ns ≡ f → Only (six (get_or ns 0 0) (get_or ns 1 0) (get_or ns 2 0) (get_or ns 3 0) (get_or ns 4 0) (get_or ns 5 0)) f =
+    let told : (f : Option Event) → found_in ns ≡ f → Only (six (get_or ns 0 0) (get_or ns 1 0) (get_or ns 2 0) (get_or ns 3 0) (get_or ns 4 0) (get_or ns 5 0)) f =
     λ f q. rw q at (only (get_or ns 0 0) (get_or ns 1 0) (get_or ns 2 0) (get_or ns 3 0) (get_or ns 4 0) (get_or ns 5 0)) in
-    sym (told (FoundEvent.Told e) k) ∙ sym (first-listed ns 6 h)
+    sym (told (Some e) k) ∙ sym (first-listed ns 6 h)

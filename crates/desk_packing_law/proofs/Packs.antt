@@ -6,8 +6,10 @@ use mathlib.Core.List.{List, [], ◌∷◌, ◌++◌}
 use lib.Dec.{leb, eqb}
 use lib.ListN.{get_or, replicate}
 use borrow.Author.Tests.{not-true, not-false}
+use Rattle.std.specs.Prelude.{Some, None}
+use Rattle.std.specs.Bool.{then_some}
 use Rattle.terms.specs.declared.Act.{Act}
-use Rattle.terms.specs.declared.Act.TheVariants.{Enter, Clock}
+use Rattle.terms.specs.declared.Act.TheVariants.{Enter}
 use Rattle.terms.specs.declared.Entry.{Entry}
 use Rattle.terms.specs.declared.Event.{Event}
 use Rattle.terms.specs.declared.Category.{Category}
@@ -17,18 +19,16 @@ use Rattle.terms.specs.Truth.{◌⊓◌}
 use Rattle.terms.specs.Carried.{limit_of}
 use Rattle.tables.specs.Same.{are_same}
 use Rattle.terms.proofs.Logic.{cond_true, cond_false}
-use Rattle.tables.proofs.Same.{five_same, same_first}
 use Rattle.rules_law.specs.declared.Reckoning.{Reckoning}
 use Rattle.rules_law.specs.declared.Tape.{Tape}
 use Rattle.state_law.specs.declared.Dial.{Dial}
 use Rattle.state_law.specs.declared.Live.{Live}
 use Rattle.state_law.specs.declared.Session.{Session}
 use Rattle.state_law.specs.Opening.{fixed_session}
-use Rattle.desk_packing_law.specs.declared.FoundEvent.{FoundEvent}
 use Rattle.desk_packing_law.specs.Runs.{session_length, layout, settings_base, clock_base, live_base, reckoning_base, tape_base, ten_at}
 use Rattle.desk_packing_law.specs.Settings.{settings_numbers, settings_at, is_category, category_from}
 use Rattle.desk_packing_law.specs.Sessions.{flag, live_numbers, reckoning_numbers, tape_numbers, clock_from, live_from, reckoning_from, tape_from, session_numbers, is_session, session_of, session_from}
-use Rattle.desk_packing_law.specs.Events.{side_number, kind_number, life_number, or_zero, act_numbers, event_numbers, act_by, event_if, found_from, found_in, greatest, event_from}
+use Rattle.desk_packing_law.specs.Events.{side_number, kind_number, life_number, or_zero, act_numbers, event_numbers, act_by, event_if, found_from, found_in}
 
 -- ---- a session, section by section
 
@@ -107,46 +107,20 @@ module _ (e : Event) where
   unfolding event_numbers
   packs_act a h = rw h
 
--- what code compares, the time being the same: `own` are the numbers of the event that it made of these
-abbrev compared : List ℕ → ℕ → ℕ → ℕ → ℕ → ℕ → Bool
-compared own what kind life amount price =
-    eqb (get_or own 1 0) what && eqb (get_or own 2 0) kind && eqb (get_or own 3 0) life && eqb (get_or own 4 0) amount && eqb (get_or own 5 0) price
-
-module _ (time what kind life amount price : ℕ) (act : Act) where
+-- what code finds: `act` is what the numbers make, `own` the numbers of the event, and `same` whether these are the six
+module _ (ns own : List ℕ) (act : Act) (same : Bool) where
   abbrev made : Event
-  made = record { time = time; act = act }
+  made = record { time = get_or ns 0 0; act = act }
 
-  compared_right : compared (event_numbers made) what kind life amount price ≡ are_same (event_numbers made) (time ∷ what ∷ kind ∷ life ∷ amount ∷ price ∷ [])
-  unfolding event_numbers
-  compared_right =
-      let own = act_numbers act in
-      five_same (get_or own 0 0) (get_or own 1 0) (get_or own 2 0) (get_or own 3 0) (get_or own 4 0) what kind life amount price
-      ∙ same_first time own (what ∷ kind ∷ life ∷ amount ∷ price ∷ [])
+  abbrev six : List ℕ
+  six = get_or ns 0 0 ∷ get_or ns 1 0 ∷ get_or ns 2 0 ∷ get_or ns 3 0 ∷ get_or ns 4 0 ∷ get_or ns 5 0 ∷ []
 
-  module _ (own : List ℕ) (k : own ≡ event_numbers made) where
-    tested : compared own what kind life amount price ≡ are_same (event_numbers made) (time ∷ what ∷ kind ∷ life ∷ amount ∷ price ∷ [])
-    tested = rw k compared_right
-
-    pub found_so : compared own what kind life amount price ≡ true → FoundEvent.Told (record { time = time; act = act }) ≡ event_if (record { time = time; act = act }) (time ∷ what ∷ kind ∷ life ∷ amount ∷ price ∷ [])
-    found_so t = sym (cond_true (are_same (event_numbers made) (time ∷ what ∷ kind ∷ life ∷ amount ∷ price ∷ [])) _ _ (sym tested ∙ t))
-
-    pub found_none : compared own what kind life amount price ≡ false → FoundEvent.Nothing ≡ event_if (record { time = time; act = act }) (time ∷ what ∷ kind ∷ life ∷ amount ∷ price ∷ [])
-    found_none t = sym (cond_false (are_same (event_numbers made) (time ∷ what ∷ kind ∷ life ∷ amount ∷ price ∷ [])) _ _ (sym tested ∙ t))
-
-  -- code makes an act of the numbers by what it does, and tells the event
-  pub by_what : (o : FoundEvent) → o ≡ event_if (record { time = time; act = act }) (time ∷ what ∷ kind ∷ life ∷ amount ∷ price ∷ []) →
-      act ≡ act_by what kind life amount price → o ≡ found_from time what kind life amount price
-  unfolding found_from
-  by_what o h e = rw (← e) h
-
-pub enter_by : (n m : Entry) → n ≡ m → Enter n ≡ Enter m
-enter_by n m e = rw e
-
-module _ (ns : List ℕ) (found : FoundEvent) (h : found ≡ found_in ns) where
-  pub an_event : (e : Event) → found ≡ FoundEvent.Told e → e ≡ event_from ns
-  unfolding event_from
-  an_event e t = rw (← h, t)
-
-  pub no-event : found ≡ FoundEvent.Nothing → record { time = greatest; act = Clock } ≡ event_from ns
-  unfolding event_from
-  no-event t = rw (← h, t)
+  pub found_if : act ≡ act_by (get_or ns 1 0) (get_or ns 2 0) (get_or ns 3 0) (get_or ns 4 0) (get_or ns 5 0) → own ≡ event_numbers (record { time = get_or ns 0 0; act = act }) →
+      same ≡ are_same own (get_or ns 0 0 ∷ get_or ns 1 0 ∷ get_or ns 2 0 ∷ get_or ns 3 0 ∷ get_or ns 4 0 ∷ get_or ns 5 0 ∷ []) →
+      then_some same (record { time = get_or ns 0 0; act = act }) ≡ found_in ns
+  unfolding found_in found_from
+  found_if e g f = rw (← e) (told same (rw g at f))
+    where
+      told : (b : Bool) → b ≡ are_same (event_numbers made) six → then_some b made ≡ event_if made six
+      told true h = sym (cond_true (are_same (event_numbers made) six) (Some made) None (sym h))
+      told false h = sym (cond_false (are_same (event_numbers made) six) (Some made) None (sym h))

@@ -1,7 +1,7 @@
 -- AN EVENT as six numbers: time, do (1 buy, 2 sell, 3 cancel, 4 under, 5 clock, 6 close), kind (1 limit, 2 market), life (1 day, 2 ioc),
 -- amount (lots, or the number of the order to cancel), price (limit, underlying or settlement). Unused ones are zero.
-use Rattle.std.specs.Prelude.{ℕ, cond, List, [], ◌∷◌, eqb, get_or}
-use Rattle.std.proofs.Math.Option.{Option}
+use Rattle.std.specs.Prelude.{ℕ, cond, List, [], ◌∷◌, Option, Some, None, unwrap_or, eqb, get_or}
+use Rattle.std.specs.Option.{option_map_or, unwrap_or}
 use Rattle.terms.specs.declared.Act.{Act}
 use Rattle.terms.specs.declared.Act.TheVariants.{Enter, Withdraw, Under, Clock, Finish}
 use Rattle.terms.specs.declared.Entry.{Entry}
@@ -12,10 +12,8 @@ use Rattle.terms.specs.declared.Life.{Life}
 use Rattle.terms.specs.declared.Life.TheVariants.{AllDay, Ioc}
 use Rattle.terms.specs.declared.Side.{Side}
 use Rattle.terms.specs.declared.Side.TheVariants.{Buy, Sell}
-use Rattle.terms.specs.Options.{maybe}
 use Rattle.terms.specs.Carried.{carries}
 use Rattle.tables.specs.Same.{are_same}
-use Rattle.desk_packing_law.specs.declared.FoundEvent.{FoundEvent}
 
 abbrev pub side_number : Side → ℕ
 side_number Buy = 1
@@ -38,15 +36,15 @@ do_number Clock = 5
 do_number (Finish settle) = 6
 
 abbrev pub or_zero : Option ℕ → ℕ
-or_zero n = maybe 0 (λ x. x) n
+or_zero n = unwrap_or n 0
 
 -- the five numbers after the time: what the act does, then what it carries
 abbrev pub act_numbers : Act → List ℕ
 act_numbers a =
     do_number a
-    ∷ maybe 0 (λ n. kind_number n.kind) (carries a).entry
-    ∷ maybe 0 (λ n. life_number n.life) (carries a).entry
-    ∷ maybe (or_zero (carries a).number) (λ lots. lots) (carries a).lots
+    ∷ option_map_or (λ n. kind_number n.kind) (carries a).entry 0
+    ∷ option_map_or (λ n. life_number n.life) (carries a).entry 0
+    ∷ unwrap_or (carries a).lots (or_zero (carries a).number)
     ∷ or_zero (carries a).price
     ∷ []
 
@@ -76,24 +74,23 @@ act_by what kind life amount price =
     (cond (eqb what 6) (Finish price) Clock))))
 
 -- the event, where the numbers are its own
-abbrev pub event_if : Event → List ℕ → FoundEvent
-event_if e numbers = cond (are_same (event_numbers e) numbers) (FoundEvent.Told e) FoundEvent.Nothing
+abbrev pub event_if : Event → List ℕ → Option Event
+event_if e numbers = cond (are_same (event_numbers e) numbers) (Some e) None
 
-unfoldable pub found_from : ℕ → ℕ → ℕ → ℕ → ℕ → ℕ → FoundEvent
+unfoldable pub found_from : ℕ → ℕ → ℕ → ℕ → ℕ → ℕ → Option Event
 found_from time what kind life amount price =
     event_if (record { time = time; act = act_by what kind life amount price }) (time ∷ what ∷ kind ∷ life ∷ amount ∷ price ∷ [])
 
 -- the event that some numbers stand for, or that they stand for none
-unfoldable pub found_in : List ℕ → FoundEvent
+unfoldable pub found_in : List ℕ → Option Event
 found_in ns = found_from (get_or ns 0 0) (get_or ns 1 0) (get_or ns 2 0) (get_or ns 3 0) (get_or ns 4 0) (get_or ns 5 0)
 
 -- numbers that are no event's are read as a clock event at the greatest time, which row 4 refuses
 abbrev pub greatest : ℕ
 greatest = 18446744073709551615
 
-abbrev pub or_clock : FoundEvent → Event
-or_clock (FoundEvent.Told e) = e
-or_clock FoundEvent.Nothing = record { time = greatest; act = Clock }
+abbrev pub or_clock : Option Event → Event
+or_clock found = unwrap_or found (record { time = greatest; act = Clock })
 
 unfoldable pub event_from : List ℕ → Event
 event_from ns = or_clock (found_in ns)

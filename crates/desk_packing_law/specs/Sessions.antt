@@ -1,7 +1,8 @@
 -- A SESSION as 44 numbers: the layout; the eight of its settings; the clock's time, closed (0 or 1), widened, cooling and under; live buys,
 -- live sells and given; the reference, the minute's count and sum; trades, the ten prices, the ten sizes, the half hour's count, lots and
 -- value. Each group of the session is a section, which is written and read from its own place on.
-use Rattle.std.specs.Prelude.{ℕ, ◌+◌, Bool, true, false, cond, List, [], ◌∷◌, ◌++◌, leb, eqb, get_or}
+use Rattle.std.specs.Prelude.{ℕ, ◌+◌, Bool, cond, List, [], ◌∷◌, ◌++◌, leb, eqb, get_or}
+use Rattle.std.specs.Int.{from_bool}
 use Rattle.terms.specs.Truth.{◌⊓◌}
 use Rattle.rules_law.specs.declared.Reckoning.{Reckoning}
 use Rattle.rules_law.specs.declared.Tape.{Tape}
@@ -14,8 +15,7 @@ use Rattle.desk_packing_law.specs.Settings.{settings_numbers, settings_at, is_ca
 
 -- 1 for true, 0 for false
 abbrev pub flag : Bool → ℕ
-flag true = 1
-flag false = 0
+flag b = from_bool b
 
 -- ---- the sections as numbers
 

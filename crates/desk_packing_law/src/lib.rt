@@ -4,12 +4,3 @@
 // event's a clock event that no session accepts, numbers that are no run's a run that is over; an answer gives back its code and its count.
 
 #![tactic(auto)]
-
-use terms::Event;
-
-// An event, or that some numbers are no event's.
-#[derive(Clone, Copy)]
-pub enum FoundEvent {
-    Told(Event),
-    Nothing,
-}

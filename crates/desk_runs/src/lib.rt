@@ -14,6 +14,7 @@ use tables::flat;
 
 pub const RUN: usize = 45;
 
+// No `From`, since the number of a stage belongs to the numbers of a run: neither `Stage` nor `u64` is of this crate.
 fn of_stage(stage: Stage) -> u64
     ensures { result ≡ stage_number stage }
 {
@@ -27,13 +28,11 @@ fn of_stage(stage: Stage) -> u64
 fn stage_from(n: u64) -> Stage
     ensures { result ≡ stage_from n }
 {
-    if n == 0 {
-        return Stage::Awaiting;
+    match n {
+        0 => Stage::Awaiting,
+        1 => Stage::Trading,
+        _ => Stage::Over,
     }
-    if n == 1 {
-        return Stage::Trading;
-    }
-    Stage::Over
 }
 
 // Whether numbers are a run's.
@@ -41,9 +40,7 @@ fn is_run(ns: &[u64]) -> bool
     requires { run_length ≤ length ns.now }
     ensures { result ≡ is_run ns.now }
 {
-    let stage = ns[0] <= 2;
-    let session = sessions::is_session(&ns[1..]);
-    stage & session
+    (ns[0] <= 2) & sessions::is_session(&ns[1..])
 }
 
 // The run that some numbers stand for; one that is over where they are no run's.
@@ -52,17 +49,14 @@ pub fn unpack(ns: &[u64]) -> Run
     ensures { result ≡ run_from ns.now }
 {
     if !is_run(ns) {
-        let session = sessions::fixed();
         return Run {
             stage: Stage::Over,
-            session: session,
+            session: sessions::fixed(),
         };
     }
-    let stage = stage_from(ns[0]);
-    let session = sessions::unpack(&ns[1..]);
     Run {
-        stage: stage,
-        session: session,
+        stage: stage_from(ns[0]),
+        session: sessions::unpack(&ns[1..]),
     }
 }
 
@@ -80,9 +74,5 @@ pub fn lay(ns: &mut [u64], run: Run)
     requires { run_length ≤ length ns.old }
     ensures { ns.new ≡ put ns.old 0 (run_numbers run) }
 {
-    let stage = run.stage;
-    let session = run.session;
-    let first = of_stage(stage);
-    let numbers = sessions::pack(session);
-    lay_behind(ns, first, &numbers);
+    lay_behind(ns, of_stage(run.stage), &sessions::pack(run.session));
 }

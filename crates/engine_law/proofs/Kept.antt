@@ -9,8 +9,9 @@ use borrow.Author.Tests.{leb-true}
 use mathlib.Core.Path.{◌≡◌, refl, ap, ◌∙◌}
 use mathlib.Core.Bool.{true, false}
 use mathlib.Core.List.{[], ◌∷◌, ◌++◌, append-nil, append_cancel_left}
-use mathlib.Core.Option.{Option, some, none}
 use lib.ListN.{length}
+use Rattle.std.specs.Prelude.{Option, Some, None}
+use Rattle.std.specs.Option.{option_map_or}
 use Rattle.terms.specs.declared.Entry.{Entry}
 use Rattle.terms.specs.declared.Event.{Event}
 use Rattle.terms.specs.declared.Act.TheVariants.{Enter}
@@ -19,7 +20,6 @@ use Rattle.terms.specs.declared.Refusal.TheVariants.{Unsound}
 use Rattle.terms.specs.declared.Verdict.{Verdict}
 use Rattle.terms.specs.declared.Verdict.TheVariants.{Fine, Refused}
 use Rattle.tables.specs.Lengths.{reports_most}
-use Rattle.terms.specs.Options.{maybe}
 use Rattle.book_law.specs.Over.{mine}
 use Rattle.book_law.proofs.Over.{mine-zero, mine-own, mine-other}
 use Rattle.book_law.specs.Told.{total, traded, cancelled}
@@ -174,9 +174,9 @@ accepted-number d t n h =
     (outcome-counts d e ∙ ap numbers_to (accepted-asks d t n h).1 ∙ rw (add-one given))
 
 -- numbers are never taken back
-given_grows : (given : ℕ) (n : Option Entry) → given ≤ maybe given (λ n. given + 1) n
-given_grows given none = le_refl given
-given_grows given (some n) = omega arith
+given_grows : (given : ℕ) (n : Option Entry) → given ≤ option_map_or (λ n. given + 1) n given
+given_grows given None = le_refl given
+given_grows given (Some n) = omega arith
 
 pub outcome-given : (d : Day) (e : Event) → d.session.live.given ≤ (outcome d e).day.session.live.given
 outcome-given d e =
@@ -192,9 +192,9 @@ asks_old id d e h =
     (λ k. act-asks id d e ∙ mine-other id (d.session.live.given + 1) (wanted e.act) (λ z. omega arith))
     (λ r. refl)
 
-asked_new : (id given : ℕ) (n : Option Entry) → maybe given (λ n. given + 1) n < id → mine id (given + 1) (maybe 0 (λ n. n.lots) n) ≡ 0
-asked_new id given none h = mine-zero id (given + 1)
-asked_new id given (some n) h = mine-other id (given + 1) n.lots (λ z. omega arith)
+asked_new : (id given : ℕ) (n : Option Entry) → option_map_or (λ n. given + 1) n given < id → mine id (given + 1) (option_map_or (λ n. n.lots) n 0) ≡ 0
+asked_new id given None h = mine-zero id (given + 1)
+asked_new id given (Some n) h = mine-other id (given + 1) n.lots (λ z. omega arith)
 
 -- and one that is not given yet is not asked for
 pub asks_new : (id : ℕ) (d : Day) (e : Event) → (outcome d e).day.session.live.given < id → asked_by id e.act (outcome d e).reports ≡ 0

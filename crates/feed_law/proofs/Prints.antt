@@ -10,6 +10,7 @@ use mathlib.Core.List.{List, [], ◌∷◌, ◌++◌, append_assoc, append-nil}
 use lib.ListN.{length, take, drop, length-append, length-drop, drop_of_length-le}
 use lib.Seq.{drop-drop, drop_at, length-take-le, take_all, take-append_seam, drop-append_seam}
 use borrow.Author.Tests.{le-leb}
+use Rattle.std.specs.Prelude.{Option, Some, None}
 use Rattle.terms.specs.declared.Report.{Report}
 use Rattle.terms.specs.declared.Verdict.{Verdict}
 use Rattle.terms.specs.declared.Verdict.TheVariants.{Fine, Refused}
@@ -25,7 +26,6 @@ use Rattle.lines_writing_law.specs.declared.Wrote.{Wrote}
 use Rattle.lines_writing_law.specs.Lines.{report_figures, render_report}
 use Rattle.lines_writing_law.proofs.Short.{report_short}
 use Rattle.lines_writing_law.specs.Writes.{line_verdict, wrote_of, room_of, Writes}
-use Rattle.records_law.specs.declared.ReadRecord.{ReadRecord}
 use Rattle.records_law.specs.Back.{RecordRead, report_in}
 use Rattle.tables.proofs.Records.{length-record}
 use Rattle.records_law.proofs.Told.{told-first, told-front}
@@ -61,7 +61,7 @@ module _ {out line ns out' : List ℕ} {w : Wrote} (long : line_room ≤ length 
 -- ---- a record's line
 
 -- what is read at a place of the room is what its numbers tell
-pub record_found : (room : List ℕ) (at : ℕ) (r : ReadRecord) → at + record_length ≤ length room →
+pub record_found : (room : List ℕ) (at : ℕ) (r : Option Report) → at + record_length ≤ length room →
     RecordRead (take record_length (drop at room)) r → told_text r ≡ record_text (drop at room)
 unfolding record_text
 record_found room at r h k =
@@ -76,28 +76,28 @@ text-short r =
     let l = report_short r in
     by (λ (t : List ℕ). length t ≤ line_room) (all_writable (report_figures r)) _ [] (λ e. l) (λ e. omega arith)
 
-told-short : (r : ReadRecord) → length (told_text r) ≤ line_room
-told-short (ReadRecord.Told r) = text-short r
-told-short ReadRecord.Nothing = omega arith
+told-short : (r : Option Report) → length (told_text r) ≤ line_room
+told-short (Some r) = text-short r
+told-short None = omega arith
 
 pub record-short : (ns : List ℕ) → length (record_text ns) ≤ line_room
 unfolding record_text
 record-short ns = told-short (report_in ns)
 
 -- the record at a place is printed, or passed over where it is no report's
-module _ {room : List ℕ} {at : ℕ} (r : ReadRecord) {out : List ℕ} (there : at + record_length ≤ length room)
+module _ {room : List ℕ} {at : ℕ} (r : Option Report) {out : List ℕ} (there : at + record_length ≤ length room)
     (k : RecordRead (take record_length (drop at room)) r) where
   told : {n : ℕ} {out' : List ℕ} → Prints out (told_text r) n out' → RecordTold room at out n out'
   told {n} {out'} p =
       let q : Prints out (record_text (drop at room)) n out' = rw (record_found room at r there k) at p in
       record { printed = q; short = rw q.count (record-short (drop at room)) }
 
-  pub told_prints : {out' : List ℕ} {w : Wrote} (report : Report) {n : ℕ} → r ≡ ReadRecord.Told report → line_room ≤ length out →
+  pub told_prints : {out' : List ℕ} {w : Wrote} (report : Report) {n : ℕ} → r ≡ Some report → line_room ≤ length out →
       Writes out (render_report report) (report_figures report) w out' → n ≡ wrote_length w → RecordTold room at out n out'
   unfolding report_text
   told_prints report {n} e h v q = told (rw e (writes_prints h v n q))
 
-  pub nothing_prints : r ≡ ReadRecord.Nothing → RecordTold room at out 0 out
+  pub nothing_prints : r ≡ None → RecordTold room at out 0 out
   nothing_prints e = told (rw e (record { count = refl; laid = refl }))
 
 -- ---- one text behind another

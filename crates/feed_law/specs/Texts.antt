@@ -1,5 +1,5 @@
 -- Document 01, "Session lines": what the program prints.
-use Rattle.std.specs.Prelude.{ℕ, zero, suc, ◌*◌, cond, List, [], ◌∷◌, ◌++◌, drop, eqb}
+use Rattle.std.specs.Prelude.{ℕ, zero, suc, ◌*◌, cond, List, [], ◌∷◌, ◌++◌, drop, eqb, Option, Some, None}
 use Rattle.terms.specs.declared.Event.{Event}
 use Rattle.terms.specs.declared.Report.{Report}
 use Rattle.terms.specs.declared.Refusal.{Refusal}
@@ -10,7 +10,6 @@ use Rattle.terms.specs.Sizes.{line_room}
 use Rattle.tables.specs.Lengths.{reports_most, record_length}
 use Rattle.lines_text_law.specs.Numerals.{all_writable}
 use Rattle.lines_writing_law.specs.Lines.{report_figures, render_report, refused_figures, render_refused, bad_figures, render_bad}
-use Rattle.records_law.specs.declared.ReadRecord.{ReadRecord}
 use Rattle.records_law.specs.Back.{report_in}
 use Rattle.feed_law.specs.declared.Stage.{Stage}
 
@@ -69,9 +68,9 @@ end_text Stage.Over n = []
 
 -- ---- records: the lines of the first n records in a room
 
-abbrev pub told_text : ReadRecord → List ℕ
-told_text (ReadRecord.Told r) = report_text r
-told_text ReadRecord.Nothing = []
+abbrev pub told_text : Option Report → List ℕ
+told_text (Some r) = report_text r
+told_text None = []
 
 -- the line of the record that the first six numbers are, or nothing where they are no report's
 unfoldable pub record_text : List ℕ → List ℕ

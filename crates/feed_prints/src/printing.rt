@@ -8,7 +8,6 @@ ghost use Rattle.feed_law.specs.Feeds.{Prints, EndTold, RecordTold, wrote_length
 
 use feed_law::Stage;
 use lines_writing_law::Wrote;
-use records_law::ReadRecord;
 use tables::lengths;
 use terms::Refusal;
 
@@ -67,8 +66,8 @@ fn tell_record(room: &[u64], at: usize, out: &mut [u8]) -> usize
     ensures { RecordTold room.now at out.old result out.new }
 {
     match records::read_record(room, at) {
-        ReadRecord::Told(report) => length_of(lines_writing_reports::write_report(report, out)),
-        ReadRecord::Nothing => 0,
+        Some(report) => length_of(lines_writing_reports::write_report(report, out)),
+        None => 0,
     }
 }
 

@@ -1,5 +1,6 @@
 -- Document 01, "Session lines": the line of settings, and of each event. A form is a line with # where a number stands.
 use Rattle.std.specs.Prelude.{ℕ, List, [], ◌∷◌, ◌++◌}
+use Rattle.std.specs.Option.{option_to_list}
 use Rattle.terms.specs.declared.Category.{Category}
 use Rattle.terms.specs.declared.Category.TheVariants.{Broad, Narrow, Sensitive, Energy, Metals, Precious, Gems, Other}
 use Rattle.terms.specs.declared.Settings.{Settings}
@@ -12,7 +13,6 @@ use Rattle.terms.specs.declared.Life.TheVariants.{AllDay, Ioc}
 use Rattle.terms.specs.declared.Act.{Act}
 use Rattle.terms.specs.declared.Act.TheVariants.{Enter, Withdraw, Under, Clock, Finish}
 use Rattle.terms.specs.declared.Event.{Event}
-use Rattle.terms.specs.Options.{perhaps}
 use Rattle.terms.specs.Carried.{carries}
 use Rattle.lines_text_law.specs.Text.{bytes}
 use Rattle.lines_text_law.specs.Forms.{fill}
@@ -66,7 +66,7 @@ act_form (Finish settle) = bytes "close settle=#\n"
 
 -- the numbers that stand in it: those that the act carries, an order's number, its lots, a price
 abbrev pub act_figures : Act → List ℕ
-act_figures a = perhaps (carries a).number ++ (perhaps (carries a).lots ++ perhaps (carries a).price)
+act_figures a = option_to_list (carries a).number ++ (option_to_list (carries a).lots ++ option_to_list (carries a).price)
 
 -- "t=# do=", with which every event line begins
 abbrev pub act_head : List ℕ

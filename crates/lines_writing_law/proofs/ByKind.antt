@@ -2,6 +2,7 @@
 use Prim.Native.Nat.{ℕ}
 use mathlib.Core.Path.{◌≡◌}
 use mathlib.Core.List.{List, [], ◌∷◌, ◌++◌}
+use Rattle.std.specs.Option.{option_to_list}
 use Rattle.terms.specs.declared.Act.{Act}
 use Rattle.terms.specs.declared.Act.TheVariants.{Enter}
 use Rattle.terms.specs.declared.Category.{Category}
@@ -18,7 +19,6 @@ use Rattle.terms.specs.declared.Settings.{Settings}
 use Rattle.terms.specs.declared.Side.{Side}
 use Rattle.terms.specs.Refusals.{number_of}
 use Rattle.terms.specs.Reports.{why_of}
-use Rattle.terms.specs.Options.{perhaps}
 use Rattle.terms.specs.Carried.{limit_of}
 use Rattle.lines_text_law.specs.Text.{bytes}
 use Rattle.lines_text_law.specs.Forms.{holes}
@@ -29,7 +29,7 @@ use Rattle.lines_writing_law.specs.Writes.{Writes, WritesForm}
 
 module _ {d d' : List ℕ} {r : Wrote} where
   pub by_order : (head : List ℕ) (time : ℕ) (o : Entry) (kind : Kind) (life : Life) → o.kind ≡ kind → o.life ≡ life
-      → WritesForm d (head ++ order_form kind life) (time ∷ o.lots ∷ perhaps (limit_of kind)) r d'
+      → WritesForm d (head ++ order_form kind life) (time ∷ o.lots ∷ option_to_list (limit_of kind)) r d'
       → WritesForm d (head ++ order_form o.kind o.life) (order_figures time o) r d'
   by_order head time o kind life k l w = rw (k, l) w
 

@@ -1,5 +1,6 @@
 -- Document 01, "Session lines": the lines that are written and never read: those of reports, and the program's own.
 use Rattle.std.specs.Prelude.{ℕ, List, [], ◌∷◌, ◌++◌, take}
+use Rattle.std.specs.Option.{option_to_list}
 use Rattle.terms.specs.declared.Entry.{Entry}
 use Rattle.terms.specs.declared.Said.{Said}
 use Rattle.terms.specs.declared.Said.TheVariants.{Accept, Trade, Convert, Cancel, Slab, Ref, Close}
@@ -7,7 +8,6 @@ use Rattle.terms.specs.declared.Report.{Report}
 use Rattle.terms.specs.declared.Refusal.{Refusal}
 use Rattle.tables.specs.Records.{fields_of}
 use Rattle.terms.specs.Refusals.{number_of}
-use Rattle.terms.specs.Options.{perhaps}
 use Rattle.terms.specs.Carried.{limit_of}
 use Rattle.lines_text_law.specs.Text.{bytes}
 use Rattle.lines_text_law.specs.Forms.{fill, holes}
@@ -15,7 +15,7 @@ use Rattle.lines_text_law.specs.Forms.{fill, holes}
 -- ---- orders: the numbers of an order's line
 
 abbrev pub order_figures : ℕ → Entry → List ℕ
-order_figures time o = time ∷ o.lots ∷ perhaps (limit_of o.kind)
+order_figures time o = time ∷ o.lots ∷ option_to_list (limit_of o.kind)
 
 -- ---- reports: "fields are time, kind, then order numbers, lots, paise or reason"
 

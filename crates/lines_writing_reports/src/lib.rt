@@ -9,7 +9,7 @@ ghost use Rattle.lines_writing_law.specs.Writes.{Writes, WritesForm, Formed};
 
 use lines_writing::forms;
 use lines_writing_law::Wrote;
-use terms::{Refusal, Report, Said, numbers};
+use terms::{Refusal, Report, Said};
 
 // Writes a line that begins as every report line does.
 fn say(tail: &[u8], numbers: &[u64], room: &mut [u8]) -> Wrote
@@ -39,8 +39,7 @@ pub fn write_report(report: Report, room: &mut [u8]) -> Wrote
             say(b"convert id=# qty=# price=#\n", &numbers, room)
         }
         Said::Cancel(e) => {
-            let why = e.why;
-            let numbers = [time, e.number, e.lots, numbers::of_why(why)];
+            let numbers = [time, e.number, e.lots, u64::from(e.why)];
             say(b"cancel id=# qty=# why=#\n", &numbers, room)
         }
         Said::Slab(b) => {
@@ -62,7 +61,7 @@ pub fn write_report(report: Report, room: &mut [u8]) -> Wrote
 pub fn write_refused(time: u64, refusal: Refusal, room: &mut [u8]) -> Wrote
     ensures { Writes room.old (render_refused time refusal) (refused_figures time refusal) result room.new }
 {
-    let numbers = [time, numbers::of_refusal(refusal)];
+    let numbers = [time, u64::from(refusal)];
     say(b"refuse code=#\n", &numbers, room)
 }
 
@@ -70,6 +69,6 @@ pub fn write_refused(time: u64, refusal: Refusal, room: &mut [u8]) -> Wrote
 pub fn write_bad(refusal: Refusal, place: usize, room: &mut [u8]) -> Wrote
     ensures { Writes room.old (render_bad refusal place) (bad_figures refusal place) result room.new }
 {
-    let numbers = [numbers::of_refusal(refusal), place as u64];
+    let numbers = [u64::from(refusal), place as u64];
     forms::write(b"say=bad", b" code=# at=#\n", &numbers, room)
 }

@@ -4,18 +4,18 @@ use mathlib.Core.Path.{◌≡◌, refl, sym, ap, ◌∙◌}
 use mathlib.Core.List.{List, [], ◌∷◌}
 use lib.ListN.{length, drop}
 use lib.Seq.{drop_at}
+use Rattle.std.specs.Prelude.{Option, Some, None}
 use Rattle.terms.specs.declared.Report.{Report}
 use Rattle.tables.specs.Lengths.{record_length}
 use Rattle.tables.specs.Records.{record_of, records_of}
 use Rattle.tables.proofs.Records.{length-record}
-use Rattle.records_law.specs.declared.ReadRecord.{ReadRecord}
 use Rattle.records_law.specs.Back.{report_in}
 use Rattle.records_law.proofs.Told.{told-front}
 
 -- the report that was read, or another where none was
-abbrev told_or : Report → ReadRecord → Report
-told_or other (ReadRecord.Told r) = r
-told_or other ReadRecord.Nothing = other
+abbrev told_or : Report → Option Report → Report
+told_or other (Some r) = r
+told_or other None = other
 
 pub records_tell : (rs rs' : List Report) → length rs ≡ length rs' → records_of rs ≡ records_of rs' → rs ≡ rs'
 unfolding records_of

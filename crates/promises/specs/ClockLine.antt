@@ -1,5 +1,6 @@
 -- A CLOCK LINE CHANGES NO TRADE. Slab and ref reports may come at a clock event instead of a later one; every refusal and other report stays.
 use Rattle.std.specs.Prelude.{ℕ, ◌≤◌, ◌≡◌, List, [], ◌∷◌, ◌++◌}
+use Rattle.std.specs.Option.{option_map_or}
 use Rattle.terms.specs.declared.Settings.{Settings}
 use Rattle.terms.specs.declared.Event.{Event}
 use Rattle.terms.specs.declared.Act.TheVariants.{Clock}
@@ -7,7 +8,6 @@ use Rattle.terms.specs.declared.Report.{Report}
 use Rattle.terms.specs.declared.Said.{Said}
 use Rattle.terms.specs.declared.Verdict.{Verdict}
 use Rattle.terms.specs.declared.Verdict.TheVariants.{Fine}
-use Rattle.terms.specs.Options.{maybe}
 use Rattle.book_law.specs.Tells.{tells}
 use Rattle.state_law.specs.Day.{Day, opened}
 use Rattle.engine_law.specs.Outcome.{outcome, after}
@@ -17,7 +17,7 @@ clock_at t = record { time = t; act = Clock }
 
 -- a report, if it is neither slab nor ref
 abbrev pub plain_one : Report → Said → List Report
-plain_one r x = maybe (maybe (r ∷ []) (λ price. []) (tells x).reference) (λ band. []) (tells x).band
+plain_one r x = option_map_or (λ band. []) (tells x).band (option_map_or (λ price. []) (tells x).reference (r ∷ []))
 
 -- the reports of acceptances, trades, conversions, cancels and closing prices
 unfoldable pub plain : List Report → List Report

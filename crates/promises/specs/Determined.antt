@@ -1,7 +1,8 @@
 -- DETERMINACY: a contract allows one result for one input. Two results of a call coincide, with every lent number.
-use Rattle.std.specs.Prelude.{ℕ, ◌≡◌, List}
+use Rattle.std.specs.Prelude.{ℕ, ◌≡◌, List, Option}
 use Rattle.terms.specs.declared.Settings.{Settings}
 use Rattle.terms.specs.declared.Event.{Event}
+use Rattle.terms.specs.declared.Report.{Report}
 use Rattle.terms.specs.declared.Side.{Side}
 use Rattle.terms.specs.declared.Verdict.{Verdict}
 use Rattle.terms.specs.Settings.{settings_verdict}
@@ -15,7 +16,6 @@ use Rattle.engine_law.specs.Standings.{standing_call}
 use Rattle.lines_reading_law.specs.declared.ReadEvent.{ReadEvent}
 use Rattle.lines_reading_law.specs.declared.ReadSettings.{ReadSettings}
 use Rattle.lines_reading_law.specs.Answers.{event_answer, EventRead, SettingsRead}
-use Rattle.records_law.specs.declared.ReadRecord.{ReadRecord}
 use Rattle.records_law.specs.Back.{RecordRead}
 use Rattle.lines_writing_law.specs.declared.Wrote.{Wrote}
 use Rattle.lines_writing_law.specs.Writes.{Writes}
@@ -76,7 +76,7 @@ WriteDetermined = (room line numbers room₁ room₂ : List ℕ) (r₁ r₂ : Wr
 
 -- `records::read_record`
 abbrev pub RecordReadDetermined : Type 0
-RecordReadDetermined = (numbers : List ℕ) (r r' : ReadRecord) → RecordRead numbers r → RecordRead numbers r' → r ≡ r'
+RecordReadDetermined = (numbers : List ℕ) (r r' : Option Report) → RecordRead numbers r → RecordRead numbers r' → r ≡ r'
 
 -- ---- text in, text out
 

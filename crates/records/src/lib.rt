@@ -3,113 +3,64 @@
 
 #![tactic(auto)]
 
-ghost use Rattle.std.specs.Prelude.{◌≡◌, [], ◌∷◌, take, drop};
+ghost use Rattle.std.specs.Prelude.{◌≡◌, take, drop};
 ghost use Rattle.tables.specs.Lengths.{record_length};
-ghost use Rattle.records_law.specs.Back.{RecordRead, why_by, report_if, report_from};
+ghost use Rattle.records_law.specs.Back.{RecordRead, why_by, said_by};
 
-use records_law::ReadRecord;
-use tables::lengths;
-use terms::{Band, Closing, Deal, Ended, Order, Report, Said, Why, numbers};
+use tables::room;
+use terms::{Band, Closing, Deal, Ended, Order, Report, Said, Why};
 
 // The reason with this number; a number that is none's is taken for the last.
 fn why_by(n: u64) -> Why
     ensures { result ≡ why_by n }
 {
-    if n == 1 {
-        return Why::Asked;
+    match n {
+        1 => Why::Asked,
+        2 => Why::Immediate,
+        3 => Why::OutOfRange,
+        4 => Why::OutsideBand,
+        _ => Why::DayEnd,
     }
-    if n == 2 {
-        return Why::Immediate;
-    }
-    if n == 3 {
-        return Why::OutOfRange;
-    }
-    if n == 4 {
-        return Why::OutsideBand;
-    }
-    Why::DayEnd
 }
 
-// The report, where the six numbers are its record.
-fn told_if(said: Said, kind: u64, time: u64, a: u64, b: u64, c: u64, d: u64) -> ReadRecord
-    ensures { result ≡ report_if (record { time = time; said = said }) (kind ∷ time ∷ a ∷ b ∷ c ∷ d ∷ []) }
+// What a report of this kind says by its four fields, a row for each kind; a number that is no kind's is taken for the last.
+#[tactic(auto, unfolding(records_law::specs::Back::said_by))]
+fn said_by(kind: u64, a: u64, b: u64, c: u64, d: u64) -> Said
+    ensures { result ≡ said_by kind a b c d }
 {
-    let own = tables::room::fields(said);
-    let own_kind = numbers::of_said(said);
-    if (own_kind == kind)
-        & (own.first == a)
-        & (own.second == b)
-        & (own.third == c)
-        & (own.fourth == d)
-    {
-        return ReadRecord::Told(Report {
-            time: time,
-            said: said,
-        });
-    }
-    ReadRecord::Nothing
-}
-
-// The report that six numbers stand for, a row for each kind; a number that is no kind's is taken for the last.
-fn report_from(kind: u64, time: u64, a: u64, b: u64, c: u64, d: u64) -> ReadRecord
-    ensures { result ≡ report_from kind time a b c d }
-{
-    if kind == 1 {
-        return told_if(Said::Accept(a), kind, time, a, b, c, d);
-    }
-    if kind == 2 {
-        let deal = Deal {
+    match kind {
+        1 => Said::Accept(a),
+        2 => Said::Trade(Deal {
             buy: a,
             sell: b,
             lots: c,
             price: d,
-        };
-        return told_if(Said::Trade(deal), kind, time, a, b, c, d);
-    }
-    if kind == 3 {
-        let order = Order {
+        }),
+        3 => Said::Convert(Order {
             number: a,
             price: c,
             lots: b,
-        };
-        return told_if(Said::Convert(order), kind, time, a, b, c, d);
-    }
-    if kind == 4 {
-        let why = why_by(c);
-        let ended = Ended {
+        }),
+        4 => Said::Cancel(Ended {
             number: a,
             lots: b,
-            why: why,
-        };
-        return told_if(Said::Cancel(ended), kind, time, a, b, c, d);
+            why: why_by(c),
+        }),
+        5 => Said::Slab(Band { low: a, high: b }),
+        6 => Said::Ref(a),
+        _ => Said::Close(Closing { price: a, base: b }),
     }
-    if kind == 5 {
-        let band = Band { low: a, high: b };
-        return told_if(Said::Slab(band), kind, time, a, b, c, d);
-    }
-    if kind == 6 {
-        return told_if(Said::Ref(a), kind, time, a, b, c, d);
-    }
-    let closing = Closing { price: a, base: b };
-    told_if(Said::Close(closing), kind, time, a, b, c, d)
 }
 
 // The report whose record stands in a report room from `at` on.
-pub fn read_record(room: &[u64], at: usize) -> ReadRecord
+pub fn read_record(room: &[u64], at: usize) -> Option<Report>
     ensures { RecordRead (take record_length (drop at room.now)) result }
 {
-    if room.len() < at {
-        return ReadRecord::Nothing;
-    }
-    if room.len() - at < lengths::RECORD {
-        return ReadRecord::Nothing;
-    }
-    report_from(
-        room[at],
-        room[at + 1],
-        room[at + 2],
-        room[at + 3],
-        room[at + 4],
-        room[at + 5],
-    )
+    let numbers: &[u64; 6] = room.get(at..)?.first_chunk()?;
+    let [kind, time, a, b, c, d] = *numbers;
+    let report = Report {
+        time,
+        said: said_by(kind, a, b, c, d),
+    };
+    (room::record(report) == *numbers).then_some(report)
 }

@@ -1,5 +1,5 @@
 -- Document 01, "Book and report room": a report read back from the six numbers of its record.
-use Rattle.std.specs.Prelude.{ℕ, ◌≡◌, cond, List, [], ◌∷◌, get_or, eqb}
+use Rattle.std.specs.Prelude.{ℕ, ◌≡◌, cond, List, [], ◌∷◌, get_or, eqb, Option, Some, None}
 use Rattle.terms.specs.declared.Report.{Report}
 use Rattle.terms.specs.declared.Said.{Said}
 use Rattle.terms.specs.declared.Said.TheVariants.{Accept, Trade, Convert, Cancel, Slab, Ref, Close}
@@ -7,12 +7,11 @@ use Rattle.terms.specs.declared.Why.{Why}
 use Rattle.terms.specs.declared.Why.TheVariants.{Asked, Immediate, OutOfRange, OutsideBand, DayEnd}
 use Rattle.tables.specs.Records.{record_of}
 use Rattle.tables.specs.Same.{are_same}
-use Rattle.records_law.specs.declared.ReadRecord.{ReadRecord}
 
 -- the contract: the answer is the report whose record the numbers are, or says that no report has them
-abbrev pub RecordRead : List ℕ → ReadRecord → Type 0
-RecordRead numbers (ReadRecord.Told r) = numbers ≡ record_of r
-RecordRead numbers ReadRecord.Nothing = (r : Report) → numbers ≡ record_of r → ⊥
+abbrev pub RecordRead : List ℕ → Option Report → Type 0
+RecordRead numbers (Some r) = numbers ≡ record_of r
+RecordRead numbers None = (r : Report) → numbers ≡ record_of r → ⊥
 
 -- ---- the same answer computed
 
@@ -32,13 +31,13 @@ said_by kind a b c d =
     (Close (record { price = a; base = b })))))))
 
 -- the report, where the numbers are its record
-abbrev pub report_if : Report → List ℕ → ReadRecord
-report_if r numbers = cond (are_same (record_of r) numbers) (ReadRecord.Told r) ReadRecord.Nothing
+abbrev pub report_if : Report → List ℕ → Option Report
+report_if r numbers = cond (are_same (record_of r) numbers) (Some r) None
 
 -- the report that six numbers stand for
-unfoldable pub report_from : ℕ → ℕ → ℕ → ℕ → ℕ → ℕ → ReadRecord
+unfoldable pub report_from : ℕ → ℕ → ℕ → ℕ → ℕ → ℕ → Option Report
 report_from kind time a b c d = report_if (record { time = time; said = said_by kind a b c d }) (kind ∷ time ∷ a ∷ b ∷ c ∷ d ∷ [])
 
 -- the report that the first six of some numbers stand for
-abbrev pub report_in : List ℕ → ReadRecord
+abbrev pub report_in : List ℕ → Option Report
 report_in ns = report_from (get_or ns 0 0) (get_or ns 1 0) (get_or ns 2 0) (get_or ns 3 0) (get_or ns 4 0) (get_or ns 5 0)

@@ -2,12 +2,3 @@
 // It has no code and may use terms and tables. It promises: a report's record is read back as that report, and no other answer is right.
 
 #![tactic(auto)]
-
-use terms::Report;
-
-// A report, or that some numbers are no report's.
-#[derive(Clone, Copy)]
-pub enum ReadRecord {
-    Told(Report),
-    Nothing,
-}

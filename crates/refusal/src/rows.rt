@@ -6,7 +6,6 @@ ghost use Rattle.terms.specs.Truth.{◌⊓◌};
 ghost use Rattle.terms.specs.Numbers.{is_price, is_lots, is_time, is_number, on_tick};
 ghost use Rattle.terms.specs.Options.{of_any};
 ghost use Rattle.terms.specs.Carried.{carries};
-ghost use Rattle.terms.specs.code.Parts.{number_in, entry_in, carried_in};
 ghost use Rattle.terms.specs.Refusals.{first_failed};
 ghost use Rattle.rules_law.specs.Slabs.{in_band};
 ghost use Rattle.state_law.specs.Now.{Clocked, band_now};
@@ -18,48 +17,17 @@ ghost use Rattle.refusal_law.specs.code.Tabled.{Tabled, live_on, place_on};
 use state::clock;
 use state_law::Session;
 use tables::side::Orders;
-use terms::parts::{MaybeEntry, MaybeNumber, Parts};
-use terms::{Event, Life, Refusal, Side, Verdict, numbers, parts, sizes};
+use terms::parts::Parts;
+use terms::{Entry, Event, Life, Refusal, Side, Verdict, numbers, parts, sizes};
 
-// Row 4, part by part: a number that is carried is in its range.
-fn lots_right(lots: MaybeNumber) -> bool
-    ensures { result ≡ of_any is_lots (number_in lots) }
-{
-    match lots {
-        MaybeNumber::Given(n) => numbers::is_lots(n),
-        MaybeNumber::Missing => true,
-    }
-}
-
-fn price_right(price: MaybeNumber) -> bool
-    ensures { result ≡ of_any is_price (number_in price) }
-{
-    match price {
-        MaybeNumber::Given(p) => numbers::is_price(p),
-        MaybeNumber::Missing => true,
-    }
-}
-
-fn number_right(number: MaybeNumber) -> bool
-    ensures { result ≡ of_any is_number (number_in number) }
-{
-    match number {
-        MaybeNumber::Given(n) => numbers::is_number(n),
-        MaybeNumber::Missing => true,
-    }
-}
-
-// Row 4: whether every number of the event is in its range.
+// Row 4: whether every number of the event that it carries is in its range.
 fn numbers_right(t: u64, p: Parts) -> bool
-    ensures { result ≡ (is_time t ⊓ (of_any is_lots (number_in p.lots) ⊓ of_any is_price (number_in p.price) ⊓ of_any is_number (number_in p.number))) }
+    ensures { result ≡ (is_time t ⊓ (of_any is_lots p.lots ⊓ of_any is_price p.price ⊓ of_any is_number p.number)) }
 {
-    let lots = p.lots;
-    let price = p.price;
-    let number = p.number;
     let time = numbers::is_time(t);
-    let sized = lots_right(lots);
-    let priced = price_right(price);
-    let named = number_right(number);
+    let sized = p.lots.is_none_or(numbers::is_lots);
+    let priced = p.price.is_none_or(numbers::is_price);
+    let named = p.number.is_none_or(numbers::is_number);
     time & (sized & priced & named)
 }
 
@@ -74,58 +42,35 @@ fn in_hours(closes: bool, t: u64, length: u64) -> bool
 }
 
 // Row 7: whether a limit or settlement is a multiple of the tick.
-fn tick_right(tick: u64, ticked: MaybeNumber) -> bool
+fn tick_right(tick: u64, ticked: Option<u64>) -> bool
     requires { 1 ≤ tick }
-    ensures { result ≡ of_any (on_tick tick) (number_in ticked) }
+    ensures { result ≡ of_any (on_tick tick) ticked }
 {
-    match ticked {
-        MaybeNumber::Given(price) => numbers::on_tick(tick, price),
-        MaybeNumber::Missing => true,
-    }
+    ticked.is_none_or(|price| numbers::on_tick(tick, price))
 }
 
 // Row 8: whether a limit lies in the band after the clock steps.
-fn band_right(s: Session, t: u64, limit: MaybeNumber) -> bool
+fn band_right(s: Session, t: u64, limit: Option<u64>) -> bool
     requires { Clocked s }
-    ensures { result ≡ of_any (in_band (band_now (clock_step s t))) (number_in limit) }
+    ensures { result ≡ of_any (in_band (band_now (clock_step s t))) limit }
 {
-    match limit {
-        MaybeNumber::Given(price) => {
-            let band = clock::band_at(s, t);
-            rules::slabs::in_band(band, price)
-        }
-        MaybeNumber::Missing => true,
-    }
+    limit.is_none_or(|price| rules::slabs::in_band(clock::band_at(s, t), price))
 }
 
 // Row 9: whether the order to cancel rests.
-fn finds_it(s: Session, number: MaybeNumber, buys: &[u64], sells: &[u64]) -> bool
+fn finds_it(s: Session, number: Option<u64>, buys: &[u64], sells: &[u64]) -> bool
     requires { Tabled s buys.now sells.now }
-    ensures { result ≡ of_any (rests_on (day_in s buys.now sells.now)) (number_in number) }
+    ensures { result ≡ of_any (rests_on (day_in s buys.now sells.now)) number }
 {
-    match number {
-        MaybeNumber::Given(n) => {
-            let nbuys = s.live.buys as usize;
-            let nsells = s.live.sells as usize;
-            if book::side::is_resting(
-                Orders {
-                    table: buys,
-                    count: nbuys,
-                },
-                n,
-            ) {
-                return true;
-            }
-            book::side::is_resting(
-                Orders {
-                    table: sells,
-                    count: nsells,
-                },
-                n,
-            )
-        }
-        MaybeNumber::Missing => true,
-    }
+    let bought = Orders {
+        table: buys,
+        count: s.live.buys as usize,
+    };
+    let sold = Orders {
+        table: sells,
+        count: s.live.sells as usize,
+    };
+    number.is_none_or(|n| book::side::is_resting(bought, n) || book::side::is_resting(sold, n))
 }
 
 // How many orders of a side are live.
@@ -148,47 +93,34 @@ fn life_has_place(life: Life, held: u64) -> bool
 }
 
 // Row 10: whether the side of a day order has a free place.
-fn has_place(s: Session, entry: MaybeEntry) -> bool
-    ensures { result ≡ of_any (place_on s) (entry_in entry) }
+fn has_place(s: Session, entry: Option<Entry>) -> bool
+    ensures { result ≡ of_any (place_on s) entry }
 {
-    match entry {
-        MaybeEntry::Given(n) => {
-            let side = n.side;
-            let life = n.life;
-            life_has_place(life, held(s, side))
-        }
-        MaybeEntry::Missing => true,
-    }
+    entry.is_none_or(|n| life_has_place(n.life, held(s, n.side)))
 }
 
 // Row 11: whether an order can get a number, and its trades have room in the day.
-fn has_numbers(given: u64, trades: u64, entry: MaybeEntry) -> bool
-    ensures { result ≡ of_any (number_left sizes given trades) (entry_in entry) }
+fn has_numbers(given: u64, trades: u64, entry: Option<Entry>) -> bool
+    ensures { result ≡ of_any (number_left sizes given trades) entry }
 {
-    match entry {
-        MaybeEntry::Given(_) => (given < sizes::NUMBERS) & (trades <= sizes::TRADES),
-        MaybeEntry::Missing => true,
-    }
+    entry.is_none_or(|_| (given < sizes::NUMBERS) & (trades <= sizes::TRADES))
 }
 
 // Rows 8 to 11, which look at the book; p are the parts of the event's act.
 fn book_rows(s: Session, e: Event, p: Parts, buys: &[u64], sells: &[u64]) -> Verdict
-    requires { Clocked s × Tabled s buys.now sells.now × (carried_in p ≡ carries e.act) }
+    requires { Clocked s × Tabled s buys.now sells.now × (p ≡ carries e.act) }
     ensures { result ≡ first_failed (book_rules sizes (day_in s buys.now sells.now) e) }
 {
-    let limit = p.limit;
-    let number = p.number;
-    let entry = p.entry;
-    if !band_right(s, e.time, limit) {
+    if !band_right(s, e.time, p.limit) {
         return Verdict::Refused(Refusal::OutsideBand);
     }
-    if !finds_it(s, number, buys, sells) {
+    if !finds_it(s, p.number, buys, sells) {
         return Verdict::Refused(Refusal::NotResting);
     }
-    if !has_place(s, entry) {
+    if !has_place(s, p.entry) {
         return Verdict::Refused(Refusal::SideFull);
     }
-    if !has_numbers(s.live.given, s.tape.trades, entry) {
+    if !has_numbers(s.live.given, s.tape.trades, p.entry) {
         return Verdict::Refused(Refusal::DayFull);
     }
     Verdict::Fine
@@ -196,14 +128,13 @@ fn book_rows(s: Session, e: Event, p: Parts, buys: &[u64], sells: &[u64]) -> Ver
 
 // Rows 6 and 7, which look at the settings, then those of the book.
 fn market_rows(s: Session, e: Event, p: Parts, buys: &[u64], sells: &[u64]) -> Verdict
-    requires { Clocked s × Tabled s buys.now sells.now × (carried_in p ≡ carries e.act) }
+    requires { Clocked s × Tabled s buys.now sells.now × (p ≡ carries e.act) }
     ensures { result ≡ first_failed (market_rules sizes (day_in s buys.now sells.now) e) }
 {
-    let ticked = p.ticked;
     if !in_hours(p.closes, e.time, s.settings.length) {
         return Verdict::Refused(Refusal::OutOfHours);
     }
-    if !tick_right(s.settings.tick, ticked) {
+    if !tick_right(s.settings.tick, p.ticked) {
         return Verdict::Refused(Refusal::OffTick);
     }
     book_rows(s, e, p, buys, sells)
@@ -214,8 +145,7 @@ fn event_rows(s: Session, e: Event, buys: &[u64], sells: &[u64]) -> Verdict
     requires { Clocked s × Tabled s buys.now sells.now }
     ensures { result ≡ first_failed (later_rules sizes (day_in s buys.now sells.now) e) }
 {
-    let act = e.act;
-    let p = parts::carried(act);
+    let p = parts::carried(e.act);
     let running = !s.clock.closed;
     if !running {
         return Verdict::Refused(Refusal::Closed);

@@ -4,10 +4,10 @@ use native.Mathlib.Omega.{arith}
 use mathlib.Core.Path.{◌≡◌, refl}
 use mathlib.Core.Bool.{Bool, true, false, cond, ◌&&◌, ◌||◌, not}
 use mathlib.Core.List.{List, [], ◌∷◌}
-use mathlib.Core.Option.{Option, some}
 use borrow.Author.Tests.{leb-true, ltb-true, eqb-false, not-true}
 use lib.Dec.{leb, ltb, eqb}
 use lib.ListN.{length}
+use Rattle.std.specs.Prelude.{Option, Some}
 use Rattle.terms.specs.declared.Entry.{Entry}
 use Rattle.terms.specs.declared.Event.{Event}
 use Rattle.terms.specs.declared.Refusal.{Refusal}
@@ -76,7 +76,7 @@ accepted d e h =
 
 -- ---- the numbers of an accepted event, by what its act carries
 
-any_some : {A : Type 0} (f : A → Bool) (x : Option A) (y : A) → of_any f x ≡ true → x ≡ some y → f y ≡ true
+any_some : {A : Type 0} (f : A → Bool) (x : Option A) (y : A) → of_any f x ≡ true → x ≡ Some y → f y ≡ true
 any_some f x y h e = rw e at h
 
 module _ (d : Day) (e : Event) (k : Accepted d e) where
@@ -87,13 +87,13 @@ module _ (d : Day) (e : Event) (k : Accepted d e) where
   pub time_right : e.time ≤ time_most
   time_right = leb-true e.time time_most (both k.ranged).0
 
-  pub lots-right : (lots : ℕ) → (carries e.act).lots ≡ some lots → (1 ≤ lots) × (lots ≤ lots_most)
+  pub lots-right : (lots : ℕ) → (carries e.act).lots ≡ Some lots → (1 ≤ lots) × (lots ≤ lots_most)
   lots-right lots c = between_facts 1 lots lots_most (any_some is_lots (carries e.act).lots lots (both (both right).0).0 c)
 
-  pub price-right : (price : ℕ) → (carries e.act).price ≡ some price → (1 ≤ price) × (price ≤ price_most)
+  pub price-right : (price : ℕ) → (carries e.act).price ≡ Some price → (1 ≤ price) × (price ≤ price_most)
   price-right price c = between_facts 1 price price_most (any_some is_price (carries e.act).price price (both (both right).0).1 c)
 
-  pub number-right : (number : ℕ) → (carries e.act).number ≡ some number → (1 ≤ number) × (number ≤ numbers_most)
+  pub number-right : (number : ℕ) → (carries e.act).number ≡ Some number → (1 ≤ number) × (number ≤ numbers_most)
   number-right number c = between_facts 1 number numbers_most (any_some is_number (carries e.act).number number (both right).1 c)
 
   -- every event but the close comes before the day's length
@@ -102,27 +102,27 @@ module _ (d : Day) (e : Event) (k : Accepted d e) where
   in_day c = rw c at k.timely
 
   -- for an order there is a number left, and room for its trades
-  pub numbers-left : (n : Entry) → (carries e.act).entry ≡ some n → (d.session.live.given < numbers_most) × (d.session.tape.trades ≤ trades_before)
+  pub numbers-left : (n : Entry) → (carries e.act).entry ≡ Some n → (d.session.live.given < numbers_most) × (d.session.tape.trades ≤ trades_before)
   unfolding has_numbers
   numbers-left n c =
       let q = both (any_some (λ (x : Entry). ltb d.session.live.given numbers_most ⊓ leb d.session.tape.trades trades_before) (carries e.act).entry n k.numbered c) in
       (ltb-true d.session.live.given numbers_most q.0, leb-true d.session.tape.trades trades_before q.1)
 
   -- a limit or settlement is a multiple of the tick, and a limit lies in the band after the clock steps
-  pub tick_right : (p : ℕ) → (carries e.act).ticked ≡ some p → on_tick d.session.settings.tick p ≡ true
+  pub tick_right : (p : ℕ) → (carries e.act).ticked ≡ Some p → on_tick d.session.settings.tick p ≡ true
   unfolding ticks_right
   tick_right p c = any_some (on_tick d.session.settings.tick) (carries e.act).ticked p k.ticked c
 
-  pub band-right : (p : ℕ) → (carries e.act).limit ≡ some p → in_band (band_now (clock_step d.session e.time)) p ≡ true
+  pub band-right : (p : ℕ) → (carries e.act).limit ≡ Some p → in_band (band_now (clock_step d.session e.time)) p ≡ true
   unfolding band_right
   band-right p c = any_some (in_band (band_now (clock_step d.session e.time))) (carries e.act).limit p k.banded c
 
   -- an order that is to be cancelled rests, and for one that comes in there is a place
-  pub rests-right : (number : ℕ) → (carries e.act).number ≡ some number → (rests number d.buys || rests number d.sells) ≡ true
+  pub rests-right : (number : ℕ) → (carries e.act).number ≡ Some number → (rests number d.buys || rests number d.sells) ≡ true
   unfolding finds
   rests-right number c = any_some (λ n. rests n d.buys || rests n d.sells) (carries e.act).number number k.found c
 
-  pub place-right : (n : Entry) → (carries e.act).entry ≡ some n → life_has_place sizes n.life (length (own n.side d)) ≡ true
+  pub place-right : (n : Entry) → (carries e.act).entry ≡ Some n → life_has_place sizes n.life (length (own n.side d)) ≡ true
   unfolding has_place
   place-right n c = any_some (λ n. life_has_place sizes n.life (length (own n.side d))) (carries e.act).entry n k.placed c
 

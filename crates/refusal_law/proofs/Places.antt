@@ -14,8 +14,7 @@ use Rattle.state_law.specs.declared.Session.{Session}
 use Rattle.state_law.specs.Day.{own}
 use Rattle.soundness_law.specs.Sound.{day_in}
 use Rattle.terms.specs.Options.{of_any}
-use Rattle.terms.specs.Carried.{Carried, carries}
-use Rattle.terms.specs.code.Parts.{entry_in, carried_in}
+use Rattle.terms.specs.Carried.{carries}
 use Rattle.refusal_law.specs.Refusals.{life_has_place, has_place}
 use Rattle.refusal_law.specs.code.Tabled.{live_on, place_on}
 use Rattle.refusal_law.proofs.Carried.{any_same}
@@ -28,6 +27,6 @@ place_same : (s : Session) (buys sells : List ℕ) (act : Act) → of_any (place
 unfolding has_place
 place_same s buys sells act = any_same _ _ (λ n. ap (life_has_place sizes n.life) (live_is n.side s buys sells)) (carries act).entry
 
-pub place-row : (p : Parts) (act : Act) (found : Bool) → carried_in p ≡ carries act → (s : Session) (buys sells : List ℕ) →
-    found ≡ of_any (place_on s) (entry_in p.entry) → found ≡ has_place sizes (day_in s buys sells) act
-place-row p act found h s buys sells f = f ∙ ap (λ (c : Carried). of_any (place_on s) c.entry) h ∙ place_same s buys sells act
+pub place-row : (p : Parts) (act : Act) (found : Bool) → p ≡ carries act → (s : Session) (buys sells : List ℕ) →
+    found ≡ of_any (place_on s) p.entry → found ≡ has_place sizes (day_in s buys sells) act
+place-row p act found h s buys sells f = f ∙ ap (λ (c : Parts). of_any (place_on s) c.entry) h ∙ place_same s buys sells act

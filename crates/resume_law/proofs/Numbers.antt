@@ -3,16 +3,17 @@ use Prim.Native.Nat.{ℕ, ◌≤◌}
 use native.Mathlib.Omega.{arith}
 use mathlib.Core.Path.{◌≡◌, sym, ◌∙◌}
 use mathlib.Core.Bool.{Bool, true}
-use mathlib.Core.Option.{Option, some, none}
 use mathlib.Core.List.{List, ◌++◌}
 use borrow.Author.Tests.{leb-true}
+use Rattle.std.specs.Prelude.{Option, Some, None}
+use Rattle.std.specs.Option.{option_to_list}
 use Rattle.terms.specs.declared.Act.{Act}
 use Rattle.terms.specs.declared.Event.{Event}
 use Rattle.terms.specs.declared.Settings.{Settings}
 use Rattle.terms.specs.declared.Verdict.TheVariants.{Fine}
 use Rattle.terms.specs.Sizes.{price_most, lots_most, time_most, numbers_most, written_most}
 use Rattle.terms.specs.Numbers.{is_price, is_lots, is_number, Writable}
-use Rattle.terms.specs.Options.{of_any, perhaps}
+use Rattle.terms.specs.Options.{of_any}
 use Rattle.terms.specs.Carried.{carries}
 use Rattle.terms.specs.Settings.{settings_verdict}
 use Rattle.terms.proofs.Logic.{both, between_facts}
@@ -26,9 +27,9 @@ use Rattle.engine_law.proofs.Kept.{outcome-verdict}
 
 -- a number that may be missing, in front of others
 perhaps-small : (test : ℕ → Bool) → ((x : ℕ) → test x ≡ true → x ≤ written_most) → (m : Option ℕ) (rest : List ℕ) → of_any test m ≡ true →
-    Writable rest → Writable (perhaps m ++ rest)
-perhaps-small test small none rest h w = w
-perhaps-small test small (some x) rest h w = (small x h, w)
+    Writable rest → Writable (option_to_list m ++ rest)
+perhaps-small test small None rest h w = w
+perhaps-small test small (Some x) rest h w = (small x h, w)
 
 -- what an act carries is within its range, whatever the act
 act-small : (a : Act) → numbers_right a ≡ true → Writable (act_figures a)
@@ -40,9 +41,9 @@ act-small a h =
     (perhaps-small is_lots (λ x t. let n = between_facts 1 x lots_most t in omega arith) (carries a).lots _ q.0
     (last (carries a).price q.1))
   where
-    last : (m : Option ℕ) → of_any is_price m ≡ true → Writable (perhaps m)
-    last none t = tt
-    last (some x) t = let n = between_facts 1 x price_most t in (omega arith, tt)
+    last : (m : Option ℕ) → of_any is_price m ≡ true → Writable (option_to_list m)
+    last None t = tt
+    last (Some x) t = let n = between_facts 1 x price_most t in (omega arith, tt)
 
 pub accepted-writable : (d : Day) (e : Event) → (outcome d e).verdict ≡ Fine → Writable (event_figures e)
 accepted-writable d e v =

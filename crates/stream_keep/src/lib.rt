@@ -25,7 +25,7 @@ use resume_law::{Back, Comeback};
 use state_law::Session;
 use stream_law::{Finish, Kept, Mode, Sink, Source};
 use tables::lengths;
-use terms::{Refusal, numbers, sizes};
+use terms::{Refusal, sizes};
 
 // ---- a day goes on
 
@@ -35,7 +35,7 @@ fn trading(session: Session) -> Run
 {
     Run {
         stage: Stage::Trading,
-        session: session,
+        session,
     }
 }
 
@@ -111,7 +111,7 @@ fn tell_bad(live: &Live, to: Sink, expected: &[u8], refusal: Refusal, place: usi
 fn is_unbegun(refusal: Refusal) -> bool
     ensures { result ≡ is_unbegun refusal }
 {
-    numbers::of_refusal(refusal) == 14
+    refusal == Refusal::LineUnfinished
 }
 
 // Where no day has begun the file is emptied, and the settings come from the input; another bad line is told, and nothing is read.

@@ -1,18 +1,18 @@
--- Reports as records: one record written behind another, and the six numbers of a record written as two runs of three.
-use Prim.Native.Nat.{ℕ, ◌+◌, ◌*◌, ◌≤◌}
+-- Reports as records: one record written behind another, and a record written over a part of the room.
+use Prim.Native.Nat.{ℕ, ◌+◌, ◌-◌, ◌*◌, ◌≤◌}
 use native.Mathlib.Omega.{arith}
 use mathlib.Core.Path.{◌≡◌, refl, sym}
 use mathlib.Core.List.{List, [], ◌∷◌, ◌++◌, append_assoc}
-use lib.ListN.{length}
+use lib.ListN.{length, get_or}
+use borrow.Rule.Slice.PartMut.{put_mid}
 use Rattle.terms.specs.declared.Report.{Report}
 use Rattle.terms.specs.declared.Said.{Said}
-use Rattle.tables.specs.Lengths.{record_length}
+use Rattle.terms.specs.declared.Said.TheVariants.{Accept, Trade, Convert, Cancel, Slab, Ref, Close}
 use Rattle.terms.specs.Reports.{kind_of}
+use Rattle.tables.specs.Lengths.{record_length}
 use Rattle.tables.specs.Records.{fields_of, record_of, records_of}
-use Rattle.tables.proofs.Records.{length_records}
+use Rattle.tables.proofs.Records.{length-record, length_records}
 use Rattle.tables.specs.Put.{put}
-use Rattle.tables.specs.Fields.{listed}
-use Rattle.tables.specs.declared.room.Four.{Four}
 use Rattle.tables.proofs.Puts.{put-put}
 
 records_append : (rs ss : List Report) → records_of (rs ++ ss) ≡ records_of rs ++ records_of ss
@@ -27,10 +27,24 @@ put_records room at rs ss h =
     let l : length (records_of rs) ≡ record_length * length rs = length_records rs in
     rw (records_append rs ss, ← l) (put-put room at (records_of rs) (records_of ss) (omega arith))
 
--- kind, time and first field, then the other three fields: together they are the record
-pub record_done : (t u v : List ℕ) (at : ℕ) (r : Report) (f : Four) (s : Said) (k : ℕ) → r.said ≡ s → listed f ≡ fields_of s → k ≡ kind_of s
-    → u ≡ put t at (k ∷ r.time ∷ f.first ∷ []) → v ≡ put u (at + 3) (f.second ∷ f.third ∷ f.fourth ∷ []) → at + record_length ≤ length t
-    → v ≡ put t at (record_of r)
+-- a record written over a part that is as long
+pub record_done : (t zs : List ℕ) (at : ℕ) (r : Report) → zs ≡ record_of r → put_mid at (at + record_length - at) t zs ≡ put t at (record_of r)
+unfolding put
+record_done t zs at r e =
+    let d : at + record_length - at ≡ record_length = omega arith in
+    rw (e, d, length-record r) refl
+
+-- the four fields, taken apart and put behind the kind and the time
+pub fields_again : (s : Said) → get_or (fields_of s) 0 0 ∷ get_or (fields_of s) 1 0 ∷ get_or (fields_of s) 2 0 ∷ get_or (fields_of s) 3 0 ∷ [] ≡ fields_of s
+fields_again (Accept number) = refl
+fields_again (Trade d) = refl
+fields_again (Convert o) = refl
+fields_again (Cancel e) = refl
+fields_again (Slab b) = refl
+fields_again (Ref price) = refl
+fields_again (Close c) = refl
+
+pub record_made : (r : Report) (kind : ℕ) (fields : List ℕ) → kind ≡ kind_of r.said → fields ≡ fields_of r.said
+    → kind ∷ r.time ∷ get_or fields 0 0 ∷ get_or fields 1 0 ∷ get_or fields 2 0 ∷ get_or fields 3 0 ∷ [] ≡ record_of r
 unfolding record_of
-record_done t u v at r f s k d e g p q h =
-    rw (d, ← e, ← g) (cc (put-put t at (k ∷ r.time ∷ f.first ∷ []) (f.second ∷ f.third ∷ f.fourth ∷ []) (omega arith)))
+record_made r kind fields k f = rw (k, f, fields_again r.said) refl

@@ -1,8 +1,7 @@
 -- Whether two runs of numbers are the same.
-use Rattle.std.specs.Prelude.{ℕ, Bool, true, false, ◌&&◌, List, [], ◌∷◌, eqb}
+use Rattle.std.specs.Prelude.{ℕ, Bool, List, eqb}
+use Rattle.std.specs.Cmp.Lexicographic.{pointwise}
 
-unfoldable pub are_same : List ℕ → List ℕ → Bool
-are_same [] [] = true
-are_same [] (m ∷ ms) = false
-are_same (n ∷ ns) [] = false
-are_same (n ∷ ns) (m ∷ ms) = eqb n m && are_same ns ms
+-- they are as long, and number for number the same: what `==` answers at arrays of numbers
+abbrev pub are_same : List ℕ → List ℕ → Bool
+are_same ns ms = pointwise eqb ns ms

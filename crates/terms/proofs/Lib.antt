@@ -1,6 +1,5 @@
 pub mod Logic
 pub mod Numbered
-pub mod Carried
 pub mod Cascade
 pub mod Valid
 pub mod Multiples

@@ -1,3 +1,2 @@
 -- What only code needs: a reader of the paper leaves it out.
 pub mod Ticks
-pub mod Parts

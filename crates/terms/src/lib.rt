@@ -12,7 +12,7 @@ pub mod sizes;
 pub mod ticks;
 
 // What the contract is on (document 01, "Slabs"), in the words of session lines.
-#[derive(Clone, Copy)]
+#[derive(Clone, Copy, Debug, PartialEq, Eq)]
 pub enum Category {
     Broad,
     Narrow,
@@ -25,7 +25,7 @@ pub enum Category {
 }
 
 // One contract on one day. Prices in paise, times in milliseconds from the open; an underlying of 0 means none known.
-#[derive(Clone, Copy)]
+#[derive(Clone, Copy, Debug, PartialEq, Eq)]
 pub struct Settings {
     pub category: Category,
     pub base: u64,
@@ -37,28 +37,28 @@ pub struct Settings {
     pub under: u64,
 }
 
-#[derive(Clone, Copy)]
+#[derive(Clone, Copy, Debug, PartialEq, Eq)]
 pub enum Side {
     Buy,
     Sell,
 }
 
-// A limit order carries its price, a market order carries none.
-#[derive(Clone, Copy)]
+// A limit order carries its price, a market order carries none. It is no `Option<u64>`, since limit and market are the paper's words.
+#[derive(Clone, Copy, Debug, PartialEq, Eq)]
 pub enum Kind {
     Limit(u64),
     Market,
 }
 
 // How long an order lives: all day (the paper's "day"), or immediate or cancel.
-#[derive(Clone, Copy)]
+#[derive(Clone, Copy, Debug, PartialEq, Eq)]
 pub enum Life {
     AllDay,
     Ioc,
 }
 
 // An order that comes in.
-#[derive(Clone, Copy)]
+#[derive(Clone, Copy, Debug, PartialEq, Eq)]
 pub struct Entry {
     pub side: Side,
     pub kind: Kind,
@@ -67,7 +67,7 @@ pub struct Entry {
 }
 
 // What an event does: buy or sell, cancel an order by its number, set the underlying, let time pass, or close with today's settlement.
-#[derive(Clone, Copy)]
+#[derive(Clone, Copy, Debug, PartialEq, Eq)]
 pub enum Act {
     Enter(Entry),
     Withdraw(u64),
@@ -76,14 +76,14 @@ pub enum Act {
     Finish(u64),
 }
 
-#[derive(Clone, Copy)]
+#[derive(Clone, Copy, Debug, PartialEq, Eq)]
 pub struct Event {
     pub time: u64,
     pub act: Act,
 }
 
 // An order that rests, with the lots that it has left; or a part of an order, that traded or was cancelled.
-#[derive(Clone, Copy)]
+#[derive(Clone, Copy, Debug, PartialEq, Eq)]
 pub struct Order {
     pub number: u64,
     pub price: u64,
@@ -91,14 +91,14 @@ pub struct Order {
 }
 
 // The lowest and the highest price of the band: a limit outside it is refused.
-#[derive(Clone, Copy)]
+#[derive(Clone, Copy, Debug, PartialEq, Eq)]
 pub struct Band {
     pub low: u64,
     pub high: u64,
 }
 
 // Why an order, or its remainder, was cancelled.
-#[derive(Clone, Copy)]
+#[derive(Clone, Copy, Debug, PartialEq, Eq)]
 pub enum Why {
     Asked,
     Immediate,
@@ -107,7 +107,7 @@ pub enum Why {
     DayEnd,
 }
 
-#[derive(Clone, Copy)]
+#[derive(Clone, Copy, Debug, PartialEq, Eq)]
 pub struct Deal {
     pub buy: u64,
     pub sell: u64,
@@ -115,7 +115,7 @@ pub struct Deal {
     pub price: u64,
 }
 
-#[derive(Clone, Copy)]
+#[derive(Clone, Copy, Debug, PartialEq, Eq)]
 pub struct Ended {
     pub number: u64,
     pub lots: u64,
@@ -123,14 +123,14 @@ pub struct Ended {
 }
 
 // The close price and the next day's base.
-#[derive(Clone, Copy)]
+#[derive(Clone, Copy, Debug, PartialEq, Eq)]
 pub struct Closing {
     pub price: u64,
     pub base: u64,
 }
 
 // What a report says, by its seven kinds.
-#[derive(Clone, Copy)]
+#[derive(Clone, Copy, Debug, PartialEq, Eq)]
 pub enum Said {
     Accept(u64),
     Trade(Deal),
@@ -141,14 +141,14 @@ pub enum Said {
     Close(Closing),
 }
 
-#[derive(Clone, Copy)]
+#[derive(Clone, Copy, Debug, PartialEq, Eq)]
 pub struct Report {
     pub time: u64,
     pub said: Said,
 }
 
 // The rows of document 01's table of refusals, in its order; then those of document 02.
-#[derive(Clone, Copy)]
+#[derive(Clone, Copy, Debug, PartialEq, Eq)]
 pub enum Refusal {
     SmallRoom,
     Unsound,

@@ -7,31 +7,79 @@ ghost use Rattle.terms.specs.Categories.{row_of};
 
 use crate::{Category, Refusal, Said, Why, sizes};
 
-pub fn of_refusal(r: Refusal) -> u64
-    ensures { result ≡ number_of r }
-{
-    match r {
-        Refusal::SmallRoom => 1,
-        Refusal::Unsound => 2,
-        Refusal::Closed => 3,
-        Refusal::NumberRange => 4,
-        Refusal::TimeBack => 5,
-        Refusal::OutOfHours => 6,
-        Refusal::OffTick => 7,
-        Refusal::OutsideBand => 8,
-        Refusal::NotResting => 9,
-        Refusal::SideFull => 10,
-        Refusal::DayFull => 11,
-        Refusal::SettingsRange => 12,
-        Refusal::SettingsOffTick => 13,
-        Refusal::LineUnfinished => 14,
-        Refusal::LineWrong => 15,
-        Refusal::SmallLineRoom => 16,
-        Refusal::NumberLong => 17,
-        Refusal::LineRefused => 22,
+impl From<Refusal> for u64 {
+    ghost from_gives = { λ refusal n. n ≡ number_of refusal };
+
+    fn from(refusal: Refusal) -> u64 {
+        match refusal {
+            Refusal::SmallRoom => 1,
+            Refusal::Unsound => 2,
+            Refusal::Closed => 3,
+            Refusal::NumberRange => 4,
+            Refusal::TimeBack => 5,
+            Refusal::OutOfHours => 6,
+            Refusal::OffTick => 7,
+            Refusal::OutsideBand => 8,
+            Refusal::NotResting => 9,
+            Refusal::SideFull => 10,
+            Refusal::DayFull => 11,
+            Refusal::SettingsRange => 12,
+            Refusal::SettingsOffTick => 13,
+            Refusal::LineUnfinished => 14,
+            Refusal::LineWrong => 15,
+            Refusal::SmallLineRoom => 16,
+            Refusal::NumberLong => 17,
+            Refusal::LineRefused => 22,
+        }
     }
 }
 
+impl From<Why> for u64 {
+    ghost from_gives = { λ why n. n ≡ why_of why };
+
+    fn from(why: Why) -> u64 {
+        match why {
+            Why::Asked => 1,
+            Why::Immediate => 2,
+            Why::OutOfRange => 3,
+            Why::OutsideBand => 4,
+            Why::DayEnd => 5,
+        }
+    }
+}
+
+// The row of a category in the table of slabs, counted from 0.
+impl From<Category> for u64 {
+    ghost from_gives = { λ category n. n ≡ row_of category };
+
+    fn from(category: Category) -> u64 {
+        match category {
+            Category::Broad => 0,
+            Category::Narrow => 1,
+            Category::Sensitive => 2,
+            Category::Energy => 3,
+            Category::Metals => 4,
+            Category::Precious => 5,
+            Category::Gems => 6,
+            Category::Other => 7,
+        }
+    }
+}
+
+// The numbers of refusals and reasons under the names that docs/PROMISES.md cites.
+pub fn of_refusal(r: Refusal) -> u64
+    ensures { result ≡ number_of r }
+{
+    u64::from(r)
+}
+
+pub fn of_why(w: Why) -> u64
+    ensures { result ≡ why_of w }
+{
+    u64::from(w)
+}
+
+// The number of a report's kind. It is a function and no `From`, since the number leaves out all that the report says of its kind.
 pub fn of_said(s: Said) -> u64
     ensures { result ≡ kind_of s }
 {
@@ -43,34 +91,6 @@ pub fn of_said(s: Said) -> u64
         Said::Slab(_) => 5,
         Said::Ref(_) => 6,
         Said::Close(_) => 7,
-    }
-}
-
-pub fn of_why(w: Why) -> u64
-    ensures { result ≡ why_of w }
-{
-    match w {
-        Why::Asked => 1,
-        Why::Immediate => 2,
-        Why::OutOfRange => 3,
-        Why::OutsideBand => 4,
-        Why::DayEnd => 5,
-    }
-}
-
-// The row of a category in the table of slabs, counted from 0.
-pub fn of_category(c: Category) -> usize
-    ensures { result ≡ row_of c }
-{
-    match c {
-        Category::Broad => 0,
-        Category::Narrow => 1,
-        Category::Sensitive => 2,
-        Category::Energy => 3,
-        Category::Metals => 4,
-        Category::Precious => 5,
-        Category::Gems => 6,
-        Category::Other => 7,
     }
 }
 

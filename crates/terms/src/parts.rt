@@ -1,99 +1,77 @@
 // What an act carries, part by part: the rows of the table of refusals are tests of these parts, whatever the act.
-ghost use Rattle.std.specs.Prelude.{◌≡◌, false};
-ghost use Rattle.std.proofs.Math.Option.{none};
+ghost use Rattle.std.specs.Prelude.{◌≡◌};
 ghost use Rattle.terms.specs.Carried.{limit_of, carries};
-ghost use Rattle.terms.specs.code.Parts.{number_in, carried_in};
 
 use crate::{Act, Entry, Kind};
 
-#[derive(Clone, Copy)]
-pub enum MaybeNumber {
-    Given(u64),
-    Missing,
-}
-
-#[derive(Clone, Copy)]
-pub enum MaybeEntry {
-    Given(Entry),
-    Missing,
-}
-
-// The parts that specs/Carried.antt lists.
-#[derive(Clone, Copy)]
+// The parts that an act can have; specs/Carried.antt says which has which.
+#[derive(Clone, Copy, Debug, PartialEq, Eq)]
 pub struct Parts {
-    pub entry: MaybeEntry,
-    pub number: MaybeNumber,
-    pub lots: MaybeNumber,
-    pub price: MaybeNumber,
-    pub ticked: MaybeNumber,
-    pub limit: MaybeNumber,
+    // An order that comes in.
+    pub entry: Option<Entry>,
+    // The number of the order to cancel.
+    pub number: Option<u64>,
+    pub lots: Option<u64>,
+    // Any price: a limit, a settlement or an underlying.
+    pub price: Option<u64>,
+    // A price that must be a multiple of the tick: a limit or a settlement.
+    pub ticked: Option<u64>,
+    pub limit: Option<u64>,
+    // Whether it ends the day.
     pub closes: bool,
 }
 
+// An act that carries nothing.
+const BARE: Parts = Parts {
+    entry: None,
+    number: None,
+    lots: None,
+    price: None,
+    ticked: None,
+    limit: None,
+    closes: false,
+};
+
 // The limit price of an order; a market order has none.
-fn limit_of(kind: Kind) -> MaybeNumber
-    ensures { number_in result ≡ limit_of kind }
+fn limit_of(kind: Kind) -> Option<u64>
+    ensures { result ≡ limit_of kind }
 {
     match kind {
-        Kind::Limit(price) => MaybeNumber::Given(price),
-        Kind::Market => MaybeNumber::Missing,
-    }
-}
-
-// An act that carries no order, at most a number and a price, and is no close.
-fn plain(number: MaybeNumber, price: MaybeNumber) -> Parts
-    ensures { carried_in result ≡ record { entry = none; number = number_in number; lots = none; price = number_in price; ticked = none; limit = none; closes = false } }
-{
-    Parts {
-        entry: MaybeEntry::Missing,
-        number: number,
-        lots: MaybeNumber::Missing,
-        price: price,
-        ticked: MaybeNumber::Missing,
-        limit: MaybeNumber::Missing,
-        closes: false,
-    }
-}
-
-fn of_entry(n: Entry) -> Parts
-    ensures { carried_in result ≡ carries (Act.Enter n) }
-{
-    let kind = n.kind;
-    let limit = limit_of(kind);
-    Parts {
-        entry: MaybeEntry::Given(n),
-        number: MaybeNumber::Missing,
-        lots: MaybeNumber::Given(n.lots),
-        price: limit,
-        ticked: limit,
-        limit: limit,
-        closes: false,
-    }
-}
-
-fn of_close(settle: u64) -> Parts
-    ensures { carried_in result ≡ carries (Act.Finish settle) }
-{
-    Parts {
-        entry: MaybeEntry::Missing,
-        number: MaybeNumber::Missing,
-        lots: MaybeNumber::Missing,
-        price: MaybeNumber::Given(settle),
-        ticked: MaybeNumber::Given(settle),
-        limit: MaybeNumber::Missing,
-        closes: true,
+        Kind::Limit(price) => Some(price),
+        Kind::Market => None,
     }
 }
 
 // The parts of an act.
 pub fn carried(act: Act) -> Parts
-    ensures { carried_in result ≡ carries act }
+    ensures { result ≡ carries act }
 {
     match act {
-        Act::Enter(n) => of_entry(n),
-        Act::Withdraw(number) => plain(MaybeNumber::Given(number), MaybeNumber::Missing),
-        Act::Under(price) => plain(MaybeNumber::Missing, MaybeNumber::Given(price)),
-        Act::Clock => plain(MaybeNumber::Missing, MaybeNumber::Missing),
-        Act::Finish(settle) => of_close(settle),
+        Act::Enter(n) => {
+            let limit = limit_of(n.kind);
+            Parts {
+                entry: Some(n),
+                lots: Some(n.lots),
+                price: limit,
+                ticked: limit,
+                limit,
+                ..BARE
+            }
+        }
+        Act::Withdraw(number) => Parts {
+            number: Some(number),
+            ..BARE
+        },
+        Act::Under(price) => Parts {
+            price: Some(price),
+            ..BARE
+        },
+        Act::Clock => BARE,
+        Act::Finish(settle) => Parts {
+            price: Some(settle),
+            ticked: Some(settle),
+            closes: true,
+            ..BARE
+        },
     }
 }

@@ -1,15 +1,15 @@
--- Six numbers stand there and are read, or there are too few.
-use Rattle.records_law.proofs.Told.{too_few, past_end, told-there}
+-- The place is past the room's end, or there is no whole record, or one is read.
 use borrow.Author.Rules.{rules}
+use Rattle.records_law.proofs.Told.{past_end, not_whole, record_read}
 use Rattle.records.proofs.read_record.Goals as goal
 
-ruleset answers = (rules, too_few, past_end, told-there)
+pub returns-in_err-get : goal.returns-in_err-get
+returns-in_err-get c = past_end c.args.room.now c.args.at _ (search rules) (search rules)
 
-pub returns-then-room-at : goal.returns-then-room-at
-returns-then-room-at c = search answers
-
-pub returns-then-room-at-lt-RECORD : goal.returns-then-room-at-lt-RECORD
-returns-then-room-at-lt-RECORD c = search answers
+pub returns-in_err-numbers : goal.returns-in_err-numbers
+returns-in_err-numbers c = not_whole c.args.room.now c.in_ok-get.field-0.now c.args.at _ (search rules) (search rules) (search rules)
 
 pub returns : goal.returns
-returns c = search answers
+returns c =
+    record_read c.args.room.now c.in_ok-get.field-0.now c.in_ok-numbers.numbers.now _ c.args.at _ _ _ (search rules) (search rules) (search rules) (search rules) c.said_by.ensures
+    c.record.ensures c.eq.ensures c.then_some.ensures

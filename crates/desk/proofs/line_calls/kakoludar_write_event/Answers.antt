@@ -8,8 +8,8 @@ returns-then-event-lt-EVENT c = search event-no-run
 pub wrote-requires : goal.wrote-requires
 wrote-requires c = search event-few
 
-pub returns-in-Told : goal.returns-in-Told
-returns-in-Told c = search event-written
+pub returns-in-Some : goal.returns-in-Some
+returns-in-Some c = search event-written
 
-pub returns-in-Nothing : goal.returns-in-Nothing
-returns-in-Nothing c = search event-none
+pub returns-in-None : goal.returns-in-None
+returns-in-None c = search event-none

@@ -8,8 +8,8 @@ returns-then-report-lt-RECORD c = search report_no-run
 pub wrote-requires : goal.wrote-requires
 wrote-requires c = search report_few
 
-pub returns-in-Told : goal.returns-in-Told
-returns-in-Told c = search report_written
+pub returns-in-Some : goal.returns-in-Some
+returns-in-Some c = search report_written
 
-pub returns-in-Nothing : goal.returns-in-Nothing
-returns-in-Nothing c = search report_none
+pub returns-in-None : goal.returns-in-None
+returns-in-None c = search report_none

@@ -1,7 +1,7 @@
--- The code reads the six numbers that the definition reads.
-use Rattle.desk_packing_law.specs.Events.{found_in}
+-- The event that the numbers make is told just where they are its own.
+use borrow.Author.Rules.{rules}
+use Rattle.desk_packing_law.proofs.Packs.{found_if}
 use Rattle.desk_packing.proofs.events.find.Goals as goal
 
 pub returns : goal.returns
-unfolding found_in
-returns c = c.found_from.ensures
+returns c = search (rules, found_if)

@@ -4,4 +4,4 @@ use Rattle.desk_packing.proofs.settings.pack.Goals as goal
 
 pub returns : goal.returns
 unfolding settings_numbers
-returns c = rw c.of_category-row.ensures
+returns c = rw c.from-row.ensures

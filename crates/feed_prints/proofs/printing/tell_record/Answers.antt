@@ -5,8 +5,8 @@ use Rattle.feed_prints.proofs.printing.tell_record.Goals as goal
 
 ruleset answers = (rules, told_prints, nothing_prints)
 
-pub returns-in-Told : goal.returns-in-Told
-returns-in-Told c = search answers
+pub returns-in-Some : goal.returns-in-Some
+returns-in-Some c = search answers
 
-pub returns-in-Nothing : goal.returns-in-Nothing
-returns-in-Nothing c = search answers
+pub returns-in-None : goal.returns-in-None
+returns-in-None c = search answers

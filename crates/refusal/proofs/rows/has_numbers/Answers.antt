@@ -1,8 +1,8 @@
 -- The test is made where an order comes in.
-use Rattle.terms.proofs.Carried.{of_part}
+use Rattle.std.proofs.Common.{rules}
 use Rattle.terms.specs.Truth.{◌⊓◌}
 use Rattle.refusal.proofs.rows.has_numbers.Goals as goal
 
-pub returns-in-Given : goal.returns-in-Given
+pub returns : goal.returns
 unfolding ◌⊓◌
-returns-in-Given c = search of_part
+returns c = search rules
