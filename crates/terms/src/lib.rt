@@ -148,7 +148,7 @@ pub struct Report {
 }
 
 // The rows of document 01's table of refusals, in its order; then those of document 02.
-#[derive(Clone, Copy)]
+#[derive(Clone, Copy, Debug, PartialEq, Eq)]
 pub enum Refusal {
     SmallRoom,
     Unsound,
@@ -171,8 +171,4 @@ pub enum Refusal {
 }
 
 // A judgement: nothing applies, or the first refusal that does.
-#[derive(Clone, Copy)]
-pub enum Verdict {
-    Fine,
-    Refused(Refusal),
-}
+pub type Verdict = Result<(), Refusal>;
