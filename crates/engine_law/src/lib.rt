@@ -8,11 +8,7 @@ use state_law::Session;
 use terms::{Band, Refusal, Verdict};
 
 // The answer to an event: the count of its reports, or the refusal.
-#[derive(Clone, Copy)]
-pub enum Answer {
-    Reported(u64),
-    Refused(Refusal),
-}
+pub type Answer = Result<u64, Refusal>;
 
 // The answer to an event, and the session after it.
 #[derive(Clone, Copy)]

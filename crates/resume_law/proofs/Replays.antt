@@ -6,11 +6,11 @@ use mathlib.Core.Bool.{Bool, true, false}
 use mathlib.Core.List.{List}
 use lib.ListN.{length, drop, length-drop}
 use lib.Seq.{drop-drop}
+use Rattle.std.specs.Prelude.{Ok, Err}
 use Rattle.terms.specs.declared.Event.{Event}
 use Rattle.terms.specs.declared.Refusal.{Refusal}
 use Rattle.terms.specs.declared.Refusal.TheVariants.{LineWrong, LineRefused}
-use Rattle.terms.specs.declared.Verdict.{Verdict}
-use Rattle.terms.specs.declared.Verdict.TheVariants.{Fine, Refused}
+use Rattle.terms.specs.Refusals.{Verdict}
 use Rattle.lines_text_law.specs.Grammar.{LineAnswer, whole, unfinished, wrong}
 use Rattle.lines_text_law.specs.Reading.{Right}
 use Rattle.lines_reading_law.specs.Lines.{EventLine}
@@ -23,8 +23,8 @@ use Rattle.state_law.specs.Day.{Day}
 use Rattle.soundness_law.specs.Sound.{day_in}
 use Rattle.engine_law.specs.Outcome.{outcome}
 use Rattle.engine_law.specs.Calls.{LongEnough}
-use Rattle.resume_law.specs.declared.Comeback.{Comeback}
-use Rattle.resume_law.specs.declared.SavedLine.{SavedLine}
+use Rattle.resume_law.specs.Answers.{Comeback, SavedLine, bad_at}
+use Rattle.resume_law.specs.declared.Halt.{Halt}
 use Rattle.resume_law.specs.declared.Halted.{Halted}
 use Rattle.resume_law.specs.declared.Replayed.{Replayed}
 use Rattle.resume_law.specs.declared.LineReplayed.{LineReplayed}
@@ -59,7 +59,7 @@ replaying_start bytes first now buys sells h =
     }
 
 -- a refusal, whatever the tables hold
-refused_as : {x : Rebuilt} {buys sells : List ℕ} {y : Replayed} {r : Refusal} {n : ℕ} → x ≡ refused r n → y ≡ replayed_to (Comeback.Refused r n) fixed_session false →
+refused_as : {x : Rebuilt} {buys sells : List ℕ} {y : Replayed} {r : Refusal} {n : ℕ} → x ≡ refused r n → y ≡ replayed_to (bad_at r n) fixed_session false →
     ReplayedAs x buys sells y
 refused_as {x} {buys} {sells} {y} e q =
     subst (λ (z : Rebuilt). ReplayedAs z buys sells y) (sym e)
@@ -73,7 +73,7 @@ refused_as {x} {buys} {sells} {y} e q =
 
 -- lines that come to an end
 ended_as : {x : Rebuilt} {now : Session} {buys sells : List ℕ} {y : Replayed} {at : ℕ} {moved : Bool} → (moved ≡ true → Clean now buys sells) →
-    x ≡ rebuilt at moved (day_in now buys sells) → y ≡ replayed_to (Comeback.Counts at) now moved → ReplayedAs x buys sells y
+    x ≡ rebuilt at moved (day_in now buys sells) → y ≡ replayed_to (Ok at) now moved → ReplayedAs x buys sells y
 ended_as {x} {now} {buys} {sells} {y} c e q =
     subst (λ (z : Rebuilt). ReplayedAs z buys sells y) (sym e)
     (record {
@@ -92,7 +92,7 @@ module _ (bytes : List ℕ) (x : Rebuilt) (now : Session) (buys sells : List ℕ
   left = drop at bytes
 
   -- at the end of the bytes
-  pub replaying_end : length bytes < 2 ^ 64 → length bytes ≤ at → Halts bytes x buys sells (record { line = SavedLine.Unfinished; at = at; session = now; moved = moved })
+  pub replaying_end : length bytes < 2 ^ 64 → length bytes ≤ at → Halts bytes x buys sells (record { line = (Err Halt.Unfinished); at = at; session = now; moved = moved })
   replaying_end l h =
       let none : length left ≤ 0 = rw (length-drop at bytes) (omega arith) in
       record {
@@ -130,11 +130,11 @@ module _ (bytes : List ℕ) (x : Rebuilt) (now : Session) (buys sells : List ℕ
       Stops = (y : Replayed) → used_by r.line ≡ 0 → y ≡ stopped_at r.line at r.session moved → ReplayedAs x buys' sells' y
 
       stops_judged : (e : Event) (n : ℕ) (v : Verdict) → read_event left ≡ whole e n → (outcome d e).verdict ≡ v → Stops
-      stops_judged e n Fine q w y u h =
-          absurd (sorts.some event-lines left e n (right-at e n q) (sym (ap used_by (by_verdict e n Fine q w).line) ∙ u))
-      stops_judged e n (Refused f) q w y u h =
+      stops_judged e n (Ok tt) q w y u h =
+          absurd (sorts.some event-lines left e n (right-at e n q) (sym (ap used_by (by_verdict e n (Ok tt) q w).line) ∙ u))
+      stops_judged e n (Err f) q w y u h =
           refused_as (again ∙ line_refused at moved d left (g.fuel - 1) e n f q w)
-          (h ∙ ap (λ (l : SavedLine). stopped_at l at r.session moved) (by_verdict e n (Refused f) q w).line)
+          (h ∙ ap (λ (l : SavedLine). stopped_at l at r.session moved) (by_verdict e n (Err f) q w).line)
 
       same-session : read_event left ≡ unfinished → r.session ≡ now
       same-session q = ap (λ (z : Day). z.session) (by_read unfinished q).day
@@ -146,7 +146,7 @@ module _ (bytes : List ℕ) (x : Rebuilt) (now : Session) (buys sells : List ℕ
           let same = t.same refl in
           let tables : ReplayedAs x buys sells y =
           ended_as g.clean (again ∙ line-unfinished at moved d left (suc (g.fuel - 1)) q)
-          (h ∙ ap (λ (l : SavedLine). stopped_at l at r.session moved) t.line ∙ ap (λ (s : Session). replayed_to (Comeback.Counts at) s moved) (same-session q)) in
+          (h ∙ ap (λ (l : SavedLine). stopped_at l at r.session moved) t.line ∙ ap (λ (s : Session). replayed_to (Ok at) s moved) (same-session q)) in
           subst (λ (z : List ℕ). ReplayedAs x buys' z y) (sym same.1) (subst (λ (z : List ℕ). ReplayedAs x z sells y) (sym same.0) tables)
       stops_by (wrong n) q y u h =
           refused_as (again ∙ line_wrong at moved d left (g.fuel - 1) n q)
@@ -162,9 +162,9 @@ module _ (bytes : List ℕ) (x : Rebuilt) (now : Session) (buys sells : List ℕ
       abbrev Goes : Type 0
       Goes = (used_by r.line ≡ 0 → ⊥) → Replaying bytes x r.session buys' sells' (at + used_by r.line) true
 
-      goes-applied : (e : Event) (n : ℕ) → read_event left ≡ whole e n → (outcome d e).verdict ≡ Fine → Goes
+      goes-applied : (e : Event) (n : ℕ) → read_event left ≡ whole e n → (outcome d e).verdict ≡ Ok tt → Goes
       goes-applied e n q w some =
-          let t = by_verdict e n Fine q w in
+          let t = by_verdict e n (Ok tt) q w in
           let u : used_by r.line ≡ n = ap used_by t.line in
           let l = length-drop at bytes in
           let h = (right-at e n q).0 in
@@ -184,8 +184,8 @@ module _ (bytes : List ℕ) (x : Rebuilt) (now : Session) (buys sells : List ℕ
       stays z e some = absurd (some (ap used_by e ∙ z))
 
       goes_judged : (e : Event) (n : ℕ) (v : Verdict) → read_event left ≡ whole e n → (outcome d e).verdict ≡ v → Goes
-      goes_judged e n Fine q w = goes-applied e n q w
-      goes_judged e n (Refused f) q w = stays refl (by_verdict e n (Refused f) q w).line
+      goes_judged e n (Ok tt) q w = goes-applied e n q w
+      goes_judged e n (Err f) q w = stays refl (by_verdict e n (Err f) q w).line
 
       goes_by : (o : LineAnswer Event) → read_event left ≡ o → Goes
       goes_by (whole e n) q = goes_judged e n (outcome d e).verdict q refl
@@ -204,29 +204,29 @@ module _ (bytes : List ℕ) (x : Rebuilt) (now : Session) (buys sells : List ℕ
 -- ---- where no line is applied
 
 module _ (line : SavedLine) (at : ℕ) (session : Session) (moved : Bool) (y : Replayed) where
-  pub stops-applied : (n : ℕ) → line ≡ SavedLine.Applied n → y ≡ replayed_to (Comeback.Counts at) session moved → y ≡ stopped_at line at session moved
+  pub stops-applied : (n : ℕ) → line ≡ Ok n → y ≡ replayed_to (Ok at) session moved → y ≡ stopped_at line at session moved
   stops-applied n e q = rw e q
 
-  pub stops-refused : line ≡ SavedLine.Refused → y ≡ replayed_to (Comeback.Refused LineRefused at) fixed_session false → y ≡ stopped_at line at session moved
+  pub stops-refused : line ≡ Err Halt.Refused → y ≡ replayed_to (bad_at LineRefused at) fixed_session false → y ≡ stopped_at line at session moved
   stops-refused e q = rw e q
 
-  pub stops-unfinished : line ≡ SavedLine.Unfinished → y ≡ replayed_to (Comeback.Counts at) session moved → y ≡ stopped_at line at session moved
+  pub stops-unfinished : line ≡ Err Halt.Unfinished → y ≡ replayed_to (Ok at) session moved → y ≡ stopped_at line at session moved
   stops-unfinished e q = rw e q
 
-  pub stops-wrong : (n : ℕ) → line ≡ SavedLine.Wrong n → y ≡ replayed_to (Comeback.Refused LineWrong (at + n)) fixed_session false →
+  pub stops-wrong : (n : ℕ) → line ≡ Halt.Wrong n → y ≡ replayed_to (bad_at LineWrong (at + n)) fixed_session false →
       y ≡ stopped_at line at session moved
   stops-wrong n e q = rw e q
 
 -- the place of a wrong byte is a number of the machine
-pub wrong-fits : (line : SavedLine) (n at : ℕ) → line ≡ SavedLine.Wrong n → at + place_in line < 2 ^ 64 → at + n < 2 ^ 64
+pub wrong-fits : (line : SavedLine) (n at : ℕ) → line ≡ Halt.Wrong n → at + place_in line < 2 ^ 64 → at + n < 2 ^ 64
 wrong-fits line n at e h = rw e at h
 
 -- where it halts tells the answer
 stopped-within : (n : ℕ) (line : SavedLine) (at : ℕ) (s : Session) (moved : Bool) → at ≤ n → CountsWithin n (stopped_at line at s moved).answer
-stopped-within n (SavedLine.Applied m) at s moved h = h
-stopped-within n SavedLine.Refused at s moved h = tt
-stopped-within n SavedLine.Unfinished at s moved h = h
-stopped-within n (SavedLine.Wrong m) at s moved h = tt
+stopped-within n (Ok m) at s moved h = h
+stopped-within n (Err Halt.Refused) at s moved h = tt
+stopped-within n (Err Halt.Unfinished) at s moved h = h
+stopped-within n (Err (Halt.Wrong m)) at s moved h = tt
 
 pub halts_replayed : (bytes : List ℕ) (first : ℕ) (s : Session) (buys sells buys' sells' : List ℕ) (h : Halted) (y : Replayed) →
     Halts bytes (held_from bytes first s buys sells) buys' sells' h → y ≡ stopped_at h.line h.at h.session h.moved →

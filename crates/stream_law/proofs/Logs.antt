@@ -9,12 +9,13 @@ use lib.ListN.{length, take, length-append}
 use lib.Seq.{take_all}
 use lib.Dec.{leb}
 use borrow.Author.Tests.{leb-true, leb-false}
+use Rattle.std.specs.Prelude.{Ok}
 use Rattle.state_law.specs.Day.{Day}
 use Rattle.feed_law.specs.declared.Stage.{Stage}
 use Rattle.feed_law.specs.Texts.{bad_text}
 use Rattle.feed_law.specs.Worlds.{days}
 use Rattle.feed_law.specs.Turns.{said_from}
-use Rattle.resume_law.specs.declared.Comeback.{Comeback}
+use Rattle.resume_law.specs.Answers.{Comeback, bad_at}
 use Rattle.resume_law.specs.Rebuilt.{resumed}
 use Rattle.resume_law.specs.Pieces.{is_unbegun, tells_bad, too_many}
 use Rattle.stream_law.specs.declared.Source.{Source}
@@ -70,8 +71,8 @@ module _ (given expected : List ℕ) (short : length given < too_many) where
 
   module _ (f : Finish) where
     keeps-tells : (c : Comeback) (d : Day) → KeepsAs expected (Gives given (Source.Text 0)) (Sink.Match 0) c d f → Tells (kept_log c d given expected) expected f
-    keeps-tells (Comeback.Counts n) d k = goes-tells n Stage.Trading d f k
-    keeps-tells (Comeback.Refused q place) d k = go (is_unbegun q) k
+    keeps-tells (Ok n) d k = goes-tells n Stage.Trading d f k
+    keeps-tells (bad_at q place) d k = go (is_unbegun q) k
       where
         go : (b : Bool) → RefusedBy b expected (Gives given (Source.Text 0)) (Sink.Match 0) q place f →
             Tells (cond b (log_behind 0 Stage.Awaiting no_day given expected) (shown_part (bad_text q place))) expected f
