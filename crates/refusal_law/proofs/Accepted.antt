@@ -16,7 +16,7 @@ use Rattle.terms.specs.declared.Refusal.TheVariants.{Unsound, Closed, NumberRang
 use Rattle.terms.specs.Truth.{◌⊓◌}
 use Rattle.terms.specs.Sizes.{time_most, lots_most, price_most, numbers_most, trades_before, sizes}
 use Rattle.terms.specs.Numbers.{is_time, is_lots, is_price, is_number, on_tick}
-use Rattle.terms.specs.Refusals.{number_of, Rule, first_failed, code_of}
+use Rattle.terms.specs.Refusals.{Verdict, number_of, Rule, first_failed, code_of}
 use Rattle.terms.proofs.Logic.{by, cases, split, both, between_facts}
 use Rattle.terms.specs.Options.{of_any}
 use Rattle.rules_law.specs.Slabs.{in_band}
@@ -33,7 +33,7 @@ unfoldable row_of : ℕ → List Rule → Bool
 row_of n [] = true
 row_of n (r ∷ rs) = cond (eqb (number_of r.refusal) n) r.holds (row_of n rs)
 
-not-fine : {P : Type 0} (r : Refusal) → Err r ≡ Ok tt → P
+not-fine : {P : Type 0} (r : Refusal) → ◌≡◌ {A = Verdict} (Err r) (Ok tt) → P
 not-fine r e = absurd (let z : ◌≡◌ {A = ℕ} 0 1 = cc in omega arith)
 
 row-holds : (rs : List Rule) → first_failed rs ≡ Ok tt → (n : ℕ) → row_of n rs ≡ true

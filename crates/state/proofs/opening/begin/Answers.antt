@@ -4,7 +4,7 @@ use mathlib.Core.Path.{sym, ◌∙◌}
 use Rattle.terms.proofs.Valid.{fine-valid}
 use Rattle.state.proofs.opening.begin.Goals as goal
 
-pub opened-requires : goal.opened-session-requires
+pub opened-requires : goal.opened-requires
 opened-requires c = fine-valid c.args.g (sym c.check.ensures ∙ c.in-Ok.is)
 
 pub returns-in-Ok : goal.returns-in-Ok
