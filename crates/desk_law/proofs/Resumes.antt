@@ -6,11 +6,11 @@ use mathlib.Core.List.{List, [], ◌∷◌}
 use borrow.Author.Tests.{lt-ltb, le-ltb}
 use lib.ListN.{length, set}
 use Rattle.std.specs.Prelude.{Ok, Err}
-use Rattle.terms.specs.declared.Refusal.{Refusal}
 use Rattle.terms.specs.declared.Refusal.TheVariants.{SmallRoom}
 use Rattle.tables.specs.Put.{put}
 use Rattle.state_law.specs.declared.Session.{Session}
-use Rattle.resume_law.specs.Answers.{Comeback, bad_at}
+use Rattle.resume_law.specs.declared.BadLine.{BadLine}
+use Rattle.resume_law.specs.Answers.{Comeback}
 use Rattle.resume_law.specs.declared.Resumed.{Resumed}
 use Rattle.resume_law.specs.Rebuilt.{Rebuilt}
 use Rattle.resume_law.specs.Calls.{ResumedBy, ResumedAs, ResumedLent}
@@ -25,13 +25,13 @@ module _ {a : Comeback} {r : ℕ} where
   pub code_counts : {n : ℕ} → a ≡ Ok n → r ≡ answer_of (Ok tt) 0 → r ≡ resume_number a
   code_counts e x = rw e x
 
-  pub code_refused : {q : Refusal} {n : ℕ} → a ≡ bad_at q n → r ≡ answer_of (Err q) 0 → r ≡ resume_number a
+  pub code_refused : {b : BadLine} → a ≡ Err b → r ≡ answer_of (Err b.refusal) 0 → r ≡ resume_number a
   code_refused e x = rw e x
 
   pub place-counts : {n : ℕ} → a ≡ Ok n → r ≡ n → r ≡ place_number a
   place-counts e x = rw e x
 
-  pub place-refused : {q : Refusal} {n : ℕ} → a ≡ bad_at q n → r ≡ n → r ≡ place_number a
+  pub place-refused : {b : BadLine} → a ≡ Err b → r ≡ b.place → r ≡ place_number a
   place-refused e x = rw e x
 
 -- ---- the session and the place are written

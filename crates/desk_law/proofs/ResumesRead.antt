@@ -7,7 +7,7 @@ use mathlib.Core.List.{List, [], ◌∷◌}
 use borrow.Author.Tests.{le-ltb}
 use lib.Dec.{ltb}
 use lib.ListN.{length, get_or}
-use Rattle.std.specs.Prelude.{Ok}
+use Rattle.std.specs.Prelude.{Ok, Err}
 use Rattle.terms.specs.declared.Refusal.{Refusal}
 use Rattle.terms.specs.Refusals.{number_of}
 use Rattle.terms.specs.Truth.{◌⊓◌}
@@ -97,14 +97,14 @@ module _ {x : Rebuilt} {run buys sells place run' buys' sells' place' : List ℕ
     where
       go : (a : Comeback) → 0 ≡ resume_number a → get_or place' 0 0 ≡ place_number a → a ≡ Ok (get_or place' 0 0)
       go (Ok n) e l = ap Ok (sym l)
-      go (bad_at q n) e l = absurd (omega (arith, (refusal-number q).0))
+      go (Err b) e l = absurd (omega (arith, (refusal-number b.refusal).0))
 
   refused_else : kept run place ≡ true → (r ≡ 0 → ⊥) → (q : Refusal) × (n : ℕ) × (x.answer ≡ bad_at q n)
   refused_else w z = go x.answer refl
     where
       go : (a : Comeback) → x.answer ≡ a → (q : Refusal) × (n : ℕ) × (x.answer ≡ bad_at q n)
       go (Ok n) e = absurd (z (counts_read w n e).0)
-      go (bad_at q n) e = (q, n, e)
+      go (Err b) e = (b.refusal, b.place, e)
 
 -- ---- both calls are of this form
 

@@ -3,7 +3,7 @@
 use Rattle.std.specs.Prelude.{ℕ, ◌≡◌, false, List, [], ◌∷◌, Ok, Err}
 use Rattle.terms.specs.declared.Refusal.TheVariants.{SmallRoom}
 use Rattle.tables.specs.Put.{put}
-use Rattle.resume_law.specs.Answers.{Comeback, bad_at}
+use Rattle.resume_law.specs.Answers.{Comeback}
 use Rattle.resume_law.specs.declared.Resumed.{Resumed}
 use Rattle.resume_law.specs.Rebuilt.{Rebuilt}
 use Rattle.resume_law.specs.Calls.{table_after, resumed_if, resumed_on, all_long, Scrubbed}
@@ -17,7 +17,7 @@ use Rattle.desk_law.specs.Calls.{where_long}
 -- 0 where a session comes back, else the refusal. It is the code alone: saved bytes may be more than an answer can count
 abbrev pub resume_number : Comeback → ℕ
 resume_number (Ok n) = answer_number 0 0
-resume_number (bad_at r n) = answer_of (Err r) 0
+resume_number (Err b) = answer_of (Err b.refusal) 0
 
 -- how many numbers are lent for the place
 abbrev pub place_length : ℕ
@@ -26,7 +26,7 @@ place_length = 1
 -- what is written there: it "says how many bytes count", or the place of the refusal; "places count from the first saved byte"
 abbrev pub place_number : Comeback → ℕ
 place_number (Ok n) = n
-place_number (bad_at r n) = n
+place_number (Err b) = b.place
 
 -- ---- what is written
 

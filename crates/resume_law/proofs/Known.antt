@@ -5,7 +5,7 @@ use mathlib.Core.Path.{◌≡◌, refl, sym, ap, ◌∙◌, subst}
 use mathlib.Core.Bool.{Bool, true, false, false≢true}
 use mathlib.Core.List.{List}
 use lib.ListN.{length}
-use Rattle.std.specs.Prelude.{Ok}
+use Rattle.std.specs.Prelude.{Ok, Err}
 use Rattle.terms.specs.declared.Refusal.{Refusal}
 use Rattle.terms.specs.declared.Refusal.TheVariants.{LineUnfinished}
 use Rattle.resume_law.specs.Answers.{Comeback, bad_at}
@@ -47,8 +47,14 @@ module _ (gives : List ℕ → Bool → Type 0) (bytes buys sells : List ℕ) (r
 
   bad_as : (c : Comeback) → r.answer ≡ c → tells_bad c ≡ true → BackBy (resumed bytes) buys sells r → BadBack bytes buys sells r
   bad_as (Ok n) e t k = absurd (false≢true t)
-  bad_as (bad_at q n) e t k =
-      record { by = k; refusal = q; place = n; bad = e; finished = λ u. absurd (false≢true (subst (λ (x : Refusal). tells_bad (bad_at x n) ≡ true) u t)) }
+  bad_as (Err b) e t k =
+      record {
+        by = k;
+        refusal = b.refusal;
+        place = b.place;
+        bad = e;
+        finished = λ u. absurd (false≢true (subst (λ (x : Refusal). tells_bad (bad_at x b.place) ≡ true) u t));
+      }
 
   -- and then a read that fails: it is told, unless a bad line is
   pub broken_back : ((b : List ℕ) → gives b true → ⊥) → BackAs gives buys sells r → r.read ≡ true → BadBack bytes buys sells r

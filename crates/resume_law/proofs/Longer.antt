@@ -160,7 +160,7 @@ passes (suc n) at moved d xs h = passes_read at moved d xs n (passes n) h (read_
 
 abbrev pub later : ℕ → Comeback → Comeback
 later b (Ok n) = Ok (b + n)
-later b (bad_at r n) = bad_at r (b + n)
+later b (Err e) = bad_at e.refusal (b + e.place)
 
 abbrev pub later_by : ℕ → Rebuilt → Rebuilt
 later_by b x = record { answer = later b x.answer; moved = x.moved; day = x.day }

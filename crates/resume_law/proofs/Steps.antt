@@ -30,7 +30,7 @@ use Rattle.resume_law.specs.Answers.{SavedLine}
 use Rattle.resume_law.specs.declared.Halt.{Halt}
 use Rattle.resume_law.specs.declared.LineReplayed.{LineReplayed}
 use Rattle.resume_law.specs.Rebuilt.{Step, line_by, step_of, used_by}
-use Rattle.resume_law.specs.code.Replaying.{Clean, LineReplayedAs, AppliedLong, line_for, line_replayed_to, place_in, EventReplayed, LineTold, LineFrom}
+use Rattle.resume_law.specs.code.Replaying.{Clean, LineReplayedAs, AppliedLong, line_for, line_replayed_to, place_on, EventReplayed, LineTold, LineFrom}
 
 -- ---- the parts of a step, each as it has to be
 
@@ -121,7 +121,7 @@ module _ (s : Session) (e : Event) (buys sells room buys' sells' room' : List �
 
 -- a whole line and a wrong one lie within the bytes
 abbrev Within : List ℕ → SavedLine → Type 0
-Within bytes l = (used_by l ≤ length bytes) × (place_in l ≤ length bytes)
+Within bytes l = (used_by l ≤ length bytes) × (place_on l ≤ length bytes)
 
 bounds : (bytes : List ℕ) (v : Verdict) (n : ℕ) → n ≤ length bytes → Within bytes (line_by v n)
 bounds bytes (Ok tt) n h = (h, omega arith)

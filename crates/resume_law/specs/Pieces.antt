@@ -1,5 +1,5 @@
 -- A file that is read in pieces of any length: what is still to come back, and what came back at its end.
-use Rattle.std.specs.Prelude.{ℕ, ◌+◌, ◌-◌, ◌^◌, ◌≤◌, ◌≡◌, Bool, true, false, not, List, [], ◌++◌, length, take, drop, eqb, Ok}
+use Rattle.std.specs.Prelude.{ℕ, ◌+◌, ◌-◌, ◌^◌, ◌≤◌, ◌≡◌, Bool, true, false, not, List, [], ◌++◌, length, take, drop, eqb, Ok, Err}
 use Rattle.terms.specs.declared.Refusal.{Refusal}
 use Rattle.terms.specs.declared.Refusal.TheVariants.{LineUnfinished}
 use Rattle.terms.specs.Refusals.{number_of}
@@ -31,7 +31,7 @@ is_unbegun q = eqb (number_of q) (number_of LineUnfinished)
 -- a bad line is told, whatever stands behind it; of an unfinished one the rest may follow
 abbrev pub tells_bad : Comeback → Bool
 tells_bad (Ok n) = false
-tells_bad (bad_at q n) = not (is_unbegun q)
+tells_bad (Err b) = not (is_unbegun b.refusal)
 
 -- so many bytes may not all be read: the machine's numbers end there, and the turns of reading
 abbrev pub too_many : ℕ
@@ -124,7 +124,7 @@ pub record StartTold (bytes : List ℕ) (r : Bool) : Type 0 where
 -- the number that an answer carries
 abbrev pub place_of : Comeback → ℕ
 place_of (Ok n) = n
-place_of (bad_at r n) = n
+place_of (Err b) = b.place
 
 -- THE CONTRACT of `stood`: what the replay of a piece comes to, behind so many bytes of earlier ones; or the sum is no number of the machine
 pub data StoodAs (t : Replayed) (before : ℕ) (r : Passed) : Type 0 where

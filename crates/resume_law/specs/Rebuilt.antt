@@ -48,9 +48,7 @@ step_of d (wrong n) = record { line = Halt.Wrong n; day = d }
 -- how many bytes it takes
 abbrev pub used_by : SavedLine → ℕ
 used_by (Ok n) = n
-used_by (Err Halt.Refused) = 0
-used_by (Err Halt.Unfinished) = 0
-used_by (Err (Halt.Wrong n)) = 0
+used_by (Err h) = 0
 
 -- it begins at a place. An applied line is followed by `more`; "drops the unfinished tail and says how many bytes count"; "then by the first
 -- bad line 15, or 22 where the engine refuses it, .. with its start; places count from the first saved byte"

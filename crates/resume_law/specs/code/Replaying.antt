@@ -50,11 +50,14 @@ abbrev pub line_replayed_to : SavedLine → Session → LineReplayed
 line_replayed_to line session = record { line = line; session = session }
 
 -- the place of the first wrong byte
-abbrev pub place_in : SavedLine → ℕ
-place_in (Ok n) = 0
-place_in (Err Halt.Refused) = 0
-place_in (Err Halt.Unfinished) = 0
-place_in (Err (Halt.Wrong n)) = n
+abbrev pub place_in : Halt → ℕ
+place_in Halt.Refused = 0
+place_in Halt.Unfinished = 0
+place_in (Halt.Wrong n) = n
+
+abbrev pub place_on : SavedLine → ℕ
+place_on (Ok n) = 0
+place_on (Err h) = place_in h
 
 -- THE CONTRACTS of a whole line of an event; of the line that bytes begin with, which lies within them; and of the line from a place on
 pub record EventReplayed (session : Session) (event : Event) (used : ℕ) (buys sells buys' sells' : List ℕ) (r : LineReplayed) : Type 0 where
@@ -63,12 +66,12 @@ pub record EventReplayed (session : Session) (event : Event) (used : ℕ) (buys 
 pub record LineTold (session : Session) (bytes buys sells buys' sells' : List ℕ) (r : LineReplayed) : Type 0 where
   pub replayed : LineReplayedAs (step_of (day_in session buys sells) (read_event bytes)) buys sells buys' sells' r
   pub used_there : used_by r.line ≤ length bytes
-  pub place_there : place_in r.line ≤ length bytes
+  pub place_there : place_on r.line ≤ length bytes
 
 pub record LineFrom (session : Session) (bytes : List ℕ) (at : ℕ) (buys sells buys' sells' : List ℕ) (r : LineReplayed) : Type 0 where
   pub replayed : LineReplayedAs (step_of (day_in session buys sells) (read_event (drop at bytes))) buys sells buys' sells' r
   pub used_there : at + used_by r.line ≤ length bytes
-  pub place_there : at + place_in r.line ≤ length bytes
+  pub place_there : at + place_on r.line ≤ length bytes
 
 -- ---- all of them
 
@@ -76,11 +79,10 @@ abbrev pub replayed_to : Comeback → Session → Bool → Replayed
 replayed_to answer session moved = record { answer = answer; session = session; moved = moved }
 
 -- where no line is applied at a place
-abbrev pub stopped_at : SavedLine → ℕ → Session → Bool → Replayed
-stopped_at (Ok n) at s moved = replayed_to (Ok at) s moved
-stopped_at (Err Halt.Refused) at s moved = replayed_to (bad_at LineRefused at) fixed_session false
-stopped_at (Err Halt.Unfinished) at s moved = replayed_to (Ok at) s moved
-stopped_at (Err (Halt.Wrong n)) at s moved = replayed_to (bad_at LineWrong (at + n)) fixed_session false
+abbrev pub stopped_at : Halt → ℕ → Session → Bool → Replayed
+stopped_at Halt.Refused at s moved = replayed_to (bad_at LineRefused at) fixed_session false
+stopped_at Halt.Unfinished at s moved = replayed_to (Ok at) s moved
+stopped_at (Halt.Wrong n) at s moved = replayed_to (bad_at LineWrong (at + n)) fixed_session false
 
 -- all event lines of the bytes from a place on, on what lent numbers hold; and on a session without orders
 abbrev pub held_from : List ℕ → ℕ → Session → List ℕ → List ℕ → Rebuilt
@@ -100,7 +102,7 @@ pub record ReplayedAs (x : Rebuilt) (buys sells : List ℕ) (r : Replayed) : Typ
 -- no more bytes count than there are
 abbrev pub CountsWithin : ℕ → Comeback → Type 0
 CountsWithin n (Ok k) = k ≤ n
-CountsWithin n (bad_at r k) = Unit {0}
+CountsWithin n (Err b) = Unit {0}
 
 -- THE CONTRACT of `replay_lines`
 pub record LinesReplayed (bytes : List ℕ) (first : ℕ) (s : Session) (buys sells buys' sells' : List ℕ) (r : Replayed) : Type 0 where
@@ -109,9 +111,9 @@ pub record LinesReplayed (bytes : List ℕ) (first : ℕ) (s : Session) (buys se
 
 -- the same where the replay halts, before it is said what that comes to; the place of a wrong byte is a number of the machine
 pub record Halts (bytes : List ℕ) (x : Rebuilt) (buys sells : List ℕ) (h : Halted) : Type 0 where
-  pub comes : ReplayedAs x buys sells (stopped_at h.line h.at h.session h.moved)
+  pub comes : ReplayedAs x buys sells (stopped_at h.halt h.at h.session h.moved)
   pub within : h.at ≤ length bytes
-  pub fits : h.at + place_in h.line < 2 ^ 64
+  pub fits : h.at + place_in h.halt < 2 ^ 64
 
 -- the spare tables laid over the lent ones, where an event was among the lines
 pub record LaidIf (moved : Bool) (buys sells bought sold buys' sells' : List ℕ) : Type 0 where
