@@ -54,7 +54,7 @@ run_again run s e buys sells room i = go (call_verdict s e buys sells room)
     go : (v : Verdict) →
         session_from (run_by (decided v (day_in s buys sells) (act (day_in s buys sells) e)).verdict (decided v (day_in s buys sells) (act (day_in s buys sells) e)).day.session run)
         ≡ (decided v (day_in s buys sells) (act (day_in s buys sells) e)).day.session
-    go (Ok tt) = laid_back run (act (day_in s buys sells) e).day.session (act_ten (day_in s buys sells) e (rw i (from_ten run)))
+    go (Ok _) = laid_back run (act (day_in s buys sells) e).day.session (act_ten (day_in s buys sells) e (rw i (from_ten run)))
     go (Err r) = sym i
 
 pub applied_again : (run event buys sells room run' buys' sells' room' : List ℕ) (r : ℕ) → session_length ≤ length run → event_length ≤ length event →

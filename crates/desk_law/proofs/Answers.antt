@@ -21,7 +21,7 @@ abbrev pub number_for : Answer → ℕ
 number_for a = answer_number (answer_code a) (answer_count a)
 
 number_by : (v : Verdict) (count : ℕ) → answer_of v count ≡ number_for (answer_by v count)
-number_by (Ok tt) count = refl
+number_by (Ok _) count = refl
 number_by (Err r) count = refl
 
 module _ (run event buys sells room : List ℕ) (s : session_length ≤ length run) (e : event_length ≤ length event) where

@@ -37,11 +37,11 @@ use Rattle.desk_law.proofs.Turned.{no-session_unsound}
 -- ---- the engine's answer and the verdict
 
 answered-refused : (v : Verdict) (k : ℕ) (n : Refusal) → Err n ≡ answer_by v k → v ≡ Err n
-answered-refused (Ok tt) k n p = absurd (let z : ◌≡◌ {A = ℕ} 0 1 = cc in omega arith)
+answered-refused (Ok _) k n p = absurd (let z : ◌≡◌ {A = ℕ} 0 1 = cc in omega arith)
 answered-refused (Err r) k n p = cc
 
 answered-fine : (v : Verdict) (k count : ℕ) → Ok count ≡ answer_by v k → (v ≡ Ok tt) × (count ≡ k)
-answered-fine (Ok tt) k count p = (refl, cc)
+answered-fine (Ok _) k count p = (refl, cc)
 answered-fine (Err r) k count p = absurd (let z : ◌≡◌ {A = ℕ} 0 1 = cc in omega arith)
 
 -- a call's reports are no more than the room holds
@@ -50,7 +50,7 @@ unfolding called call_verdict refusal_of
 called-few s e buys sells room = go (call_verdict s e buys sells room) refl
   where
     go : (v : Verdict) → call_verdict s e buys sells room ≡ v → length (decided v (day_in s buys sells) (act (day_in s buys sells) e)).reports ≤ reports_most
-    go (Ok tt) h =
+    go (Ok _) h =
         let k : refusal_of (day_in s buys sells) e ≡ Ok tt = (fine-first SmallRoom (roomy buys sells room) (rules (day_in s buys sells) e) h).1 in
         act-few (day_in s buys sells) e (accepted (day_in s buys sells) e k).whole
     go (Err r) h = omega arith

@@ -34,11 +34,11 @@ use Rattle.lines_writing_law.proofs.Short.{event-short, settings-short, report_s
 -- ---- lines of any sort
 
 pub wrote-few : (v : Verdict) (n : ℕ) (w : Wrote) → n ≤ count_most → w ≡ wrote_of v n → Few w
-wrote-few (Ok tt) n w h e = rw e h
+wrote-few (Ok _) n w h e = rw e h
 wrote-few (Err r) n w h e = rw e tt
 
 pub wrote-number : (v : Verdict) (n : ℕ) → wrote_number (wrote_of v n) ≡ answer_of v n
-wrote-number (Ok tt) n = refl
+wrote-number (Ok _) n = refl
 wrote-number (Err r) n = refl
 
 writes_few : (room line ns room' : List ℕ) (w : Wrote) → length line ≤ count_most → Writes room line ns w room' → Few w
@@ -98,7 +98,7 @@ event-few e room room' w p = writes_few room (render_event e) (event_figures e) 
 
 -- where there is no line to write, the room stays as it was, whatever the verdict
 none_written : (v : Verdict) (room : List ℕ) → room ≡ room_of v [] room
-none_written (Ok tt) room = refl
+none_written (Ok _) room = refl
 none_written (Err r) room = refl
 
 module _ (room : List ℕ) (r : ℕ) where

@@ -31,14 +31,14 @@ use Rattle.desk_law.specs.Standings.{standing_length, standing_numbers, stood_on
 
 -- only a verdict without a refusal is answered 0
 done_fine : (v : Verdict) → 0 ≡ answer_of v 0 → v ≡ Ok tt
-done_fine (Ok tt) e = refl
+done_fine (Ok _) e = refl
 done_fine (Err r) e = absurd (omega (arith, (refusal-number r).0))
 
 -- so both slices were long enough
 long-stood : (short : Stood) (a b : Bool) (st : Stood) → short.verdict ≡ Err SmallRoom → (cond a short (cond b short st)).verdict ≡ Ok tt →
     cond a short (cond b short st) ≡ st
-long-stood short true b st e f = let no : Err SmallRoom ≡ Ok tt = sym e ∙ f in cc
-long-stood short false true st e f = let no : Err SmallRoom ≡ Ok tt = sym e ∙ f in cc
+long-stood short true b st e f = let no : ◌≡◌ {A = Verdict} (Err SmallRoom) (Ok tt) = sym e ∙ f in cc
+long-stood short false true st e f = let no : ◌≡◌ {A = Verdict} (Err SmallRoom) (Ok tt) = sym e ∙ f in cc
 long-stood short false false st e f = refl
 
 flagged : (b : Bool) → eqb (flag b) 1 ≡ b

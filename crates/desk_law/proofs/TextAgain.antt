@@ -50,7 +50,7 @@ unfolding called
 called_ten s e buys sells room t = go (call_verdict s e buys sells room)
   where
     go : (v : Verdict) → Ten (decided v (day_in s buys sells) (act (day_in s buys sells) e)).day.session
-    go (Ok tt) = act_ten (day_in s buys sells) e t
+    go (Ok _) = act_ten (day_in s buys sells) e t
     go (Err r) = t
 
 settings_ten : (l : Lent) (a : LineAnswer Settings) → Ten l.session → Ten (settings_turn calls l a).world.session
@@ -116,12 +116,12 @@ feed_calls =
     }
   where
     ten : (run : Run) (buys sells room bytes out : List ℕ) (v : Verdict) → Ten run.session → Ten (fed_by v run buys sells room bytes out).world.session
-    ten run buys sells room bytes out (Ok tt) t = fed_ten (length out) run.stage (lent_of run.session buys sells room) bytes t
+    ten run buys sells room bytes out (Ok _) t = fed_ten (length out) run.stage (lent_of run.session buys sells room) bytes t
     ten run buys sells room bytes out (Err r) t = t
 
     idle : (run : Run) (buys sells room bytes out : List ℕ) (v : Verdict) → is_refusal (fed_by v run buys sells room bytes out).stop ≡ true →
         Idle buys sells room (fed_by v run buys sells room bytes out)
-    idle run buys sells room bytes out (Ok tt) e =
+    idle run buys sells room bytes out (Ok _) e =
         absurd (true≢false (sym e ∙ fed_fine (length out) run.stage (lent_of run.session buys sells room) bytes))
     idle run buys sells room bytes out (Err r) e = record { bought = refl; sold = refl; told = refl; silent = refl }
 
@@ -204,7 +204,7 @@ unfolding fed_of
 of_lines run buys sells room bytes out = go (feed_verdict buys sells room)
   where
     go : (v : Verdict) → is_refusal (fed_by v run buys sells room bytes out).stop ≡ false → fed_by v run buys sells room bytes out ≡ lines_of run buys sells room bytes out
-    go (Ok tt) e = refl
+    go (Ok _) e = refl
     go (Err r) e = absurd (true≢false e)
 
 module _ (run bytes buys sells room out counts run' buys' sells' room' out' counts' : List ℕ) (r : ℕ) (h : run_length ≤ length run)

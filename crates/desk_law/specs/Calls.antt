@@ -51,7 +51,7 @@ strange_verdict buys sells room = cond (roomy buys sells room) (Err Unsound) (Er
 
 -- the session's numbers afterwards: an accepted event writes them anew; "All refusals return the number and the session given, and write nothing."
 abbrev pub run_by : Verdict → Session → List ℕ → List ℕ
-run_by (Ok tt) s run = put run 0 (session_numbers s)
+run_by (Ok _) s run = put run 0 (session_numbers s)
 run_by (Err r) s run = run
 
 -- the answer, and the session's numbers, both tables and the room afterwards, given what the event comes to

@@ -20,7 +20,7 @@ unfoldable pub start_verdict : List ℕ → Verdict
 start_verdict run = cond (ltb (length run) run_length) (Err SmallRoom) (Ok tt)
 
 abbrev pub started_by : Verdict → List ℕ → List ℕ
-started_by (Ok tt) run = put run 0 (run_numbers fresh_run)
+started_by (Ok _) run = put run 0 (run_numbers fresh_run)
 started_by (Err r) run = run
 
 pub record StartedAs (run run' : List ℕ) (r : ℕ) : Type 0 where

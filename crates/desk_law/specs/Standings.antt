@@ -43,7 +43,7 @@ stood_on run buys sells standing =
 
 -- the slice for the standing afterwards: its numbers are written to the front; a refusal writes nothing
 abbrev pub standing_by : Verdict → Standing → List ℕ → List ℕ
-standing_by (Ok tt) st run = put run 0 (standing_numbers st)
+standing_by (Ok _) st run = put run 0 (standing_numbers st)
 standing_by (Err r) st run = run
 
 -- the answer, and that slice afterwards, given what the call comes to

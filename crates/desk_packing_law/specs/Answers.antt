@@ -16,5 +16,5 @@ answer_number code count = code + codes * count
 
 -- the answer for a verdict, with the count of what was done
 abbrev pub answer_of : Verdict → ℕ → ℕ
-answer_of (Ok tt) count = answer_number 0 count
+answer_of (Ok _) count = answer_number 0 count
 answer_of (Err r) count = answer_number (number_of r) 0

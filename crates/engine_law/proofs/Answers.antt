@@ -18,17 +18,17 @@ use Rattle.engine_law.specs.Calls.{call_verdict, called, answer_by, AppliedAs}
 
 -- an answer has the number of its verdict, whatever was counted
 pub code_by : (v : Verdict) (count : ℕ) → answer_code (answer_by v count) ≡ code_of v
-code_by (Ok tt) count = refl
+code_by (Ok _) count = refl
 code_by (Err r) count = refl
 
 -- an answer counts the reports of its verdict: a refusal has none
 count_by : (v : Verdict) (d : Day) (a : Acted) →
     answer_count (answer_by (decided v d a).verdict (length (decided v d a).reports)) ≡ length (decided v d a).reports
-count_by (Ok tt) d a = refl
+count_by (Ok _) d a = refl
 count_by (Err r) d a = refl
 
 decided_by : (v : Verdict) (d : Day) (a : Acted) → (decided v d a).verdict ≡ v
-decided_by (Ok tt) d a = refl
+decided_by (Ok _) d a = refl
 decided_by (Err r) d a = refl
 
 module _ (s : Session) (e : Event) (buys sells room : List ℕ) where

@@ -54,7 +54,7 @@ unfolding outcome
 by_verdict P d e f g = go (refusal_of d e) (λ h. accepted d e h)
   where
     go : (v : Verdict) → (v ≡ Ok tt → Accepted d e) → P (decided v d (act d e))
-    go (Ok tt) h = f (h refl)
+    go (Ok _) h = f (h refl)
     go (Err r) h = g r
 
 -- "All refusals return the number and the session given, and write nothing."
@@ -70,7 +70,7 @@ unfolding outcome
 outcome-verdict d e = go (refusal_of d e)
   where
     go : (v : Verdict) → (decided v d (act d e)).verdict ≡ v
-    go (Ok tt) = refl
+    go (Ok _) = refl
     go (Err r) = refl
 
 -- so every event leaves an unsound day as it is, since 2 refuses it

@@ -63,7 +63,7 @@ module _ (s s' : Session) (buys sells buys' sells' : List ℕ) (e : Event) (sess
   refused-day same q b t = (λ i. day_in (q i) (b i) (t i)) ∙ sym same
 
   by_verdict : (v : Verdict) → o.verdict ≡ v → day_in s' buys' sells' ≡ o.day
-  by_verdict (Ok tt) v = accepted-day v
+  by_verdict (Ok _) v = accepted-day v
   by_verdict (Err r) v =
       let same : o.day ≡ day_in s buys sells = (refused-nothing (day_in s buys sells) e r v).0 in
       refused-day same

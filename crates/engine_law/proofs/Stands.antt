@@ -84,7 +84,7 @@ module _ (s : Session) (buys sells : List ℕ) where
 
   -- what is shown of a session that is not refused is what is in force in it
   by_verdict : (v : Verdict) (st : Standing) → stood_by v s ≡ record { verdict = Ok tt; standing = st } → st ≡ standing_now s
-  by_verdict (Ok tt) st e = ap (λ (x : Stood). x.standing) (sym e)
+  by_verdict (Ok _) st e = ap (λ (x : Stood). x.standing) (sym e)
   by_verdict (Err r) st e = let no : ◌≡◌ {A = Verdict} (Err r) (Ok tt) = ap (λ (x : Stood). x.verdict) e in cc
 
   pub fine-shows : (st : Standing) → standing_call s buys sells ≡ record { verdict = Ok tt; standing = st } → st ≡ standing_now s

@@ -45,12 +45,12 @@ called s e buys sells room = decided (call_verdict s e buys sells room) (day_in 
 
 -- "The count of reports is returned"; "All refusals return the number and the session given"
 abbrev pub answer_by : Verdict → ℕ → Answer
-answer_by (Ok tt) count = Ok count
+answer_by (Ok _) count = Ok count
 answer_by (Err r) count = Err r
 
 -- "After acceptance the rest .. is zero and everything past it is untouched"; a refusal writes nothing
 abbrev pub table_by : Verdict → List Order → List ℕ → List ℕ
-table_by (Ok tt) os t = table_of os t
+table_by (Ok _) os t = table_of os t
 table_by (Err r) os t = t
 
 -- THE CONTRACT of `apply`: answer, session, both tables and the room, each by an equation. "Numbers past the last report are untouched."

@@ -14,7 +14,7 @@ pub record Outcome : Type 0 where
 
 -- "All refusals return the number and the session given, and write nothing."
 abbrev pub decided : Verdict → Day → Acted → Outcome
-decided (Ok tt) d a = record { verdict = Ok tt; day = a.day; reports = a.reports }
+decided (Ok _) d a = record { verdict = Ok tt; day = a.day; reports = a.reports }
 decided (Err r) d a = record { verdict = Err r; day = d; reports = [] }
 
 unfoldable pub outcome : Day → Event → Outcome

@@ -61,7 +61,7 @@ unfoldable pub standing_verdict : Session → List ℕ → List ℕ → Verdict
 standing_verdict s buys sells = first_failed (unless SmallRoom (long_tables buys sells) ∷ unless Unsound (sound (day_in s buys sells)) ∷ [])
 
 abbrev pub stood_by : Verdict → Session → Stood
-stood_by (Ok tt) s = record { verdict = Ok tt; standing = standing_now s }
+stood_by (Ok _) s = record { verdict = Ok tt; standing = standing_now s }
 stood_by (Err r) s = record { verdict = Err r; standing = no_standing }
 
 -- THE CONTRACT of `standing`: its answer

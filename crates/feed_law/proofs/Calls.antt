@@ -23,7 +23,7 @@ use Rattle.feed_law.proofs.Starts.{taken-there, end-used}
 module _ (run : Run) (buys sells room bytes out : List ℕ) where
   -- no more bytes are taken than are there
   lines-there : (v : Verdict) → (fed_by v run buys sells room bytes out).used ≤ length bytes
-  lines-there (Ok tt) = taken-there calls (length out) run.stage (lent_of run.session buys sells room) bytes
+  lines-there (Ok _) = taken-there calls (length out) run.stage (lent_of run.session buys sells room) bytes
   lines-there (Err n) = omega arith
 
   judged : (v : Verdict) → feed_verdict buys sells room ≡ v → fed_of run buys sells room bytes out ≡ fed_by v run buys sells room bytes out

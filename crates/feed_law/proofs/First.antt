@@ -92,7 +92,7 @@ module _ {W : Type 0} (on : World W) where
     turn_saves = by-stage stage
       where
         by_verdict : (v : Verdict) (n : ℕ) → saves_by v n ≤ n
-        by_verdict (Ok tt) n = omega arith
+        by_verdict (Ok _) n = omega arith
         by_verdict (Err r) n = omega arith
 
         by_settings : (o : LineAnswer Settings) → (settings_turn on w o).saves ≤ (settings_turn on w o).used

@@ -147,11 +147,11 @@ module _ {s : Session} {e : Event} {buys sells room buys' sells' room' : List �
 
   -- where a count is answered, the event was not refused, and the count is that of its reports
   counted : (v : Verdict) (n count : ℕ) → answer_by v n ≡ Ok count → (v ≡ Ok tt) × (count ≡ n)
-  counted (Ok tt) n count q = (refl, (cc))
+  counted (Ok _) n count q = (refl, (cc))
   counted (Err r) n count q = absurd (let z : ◌≡◌ {A = ℕ} 0 1 = cc in omega arith)
 
   refused : (v : Verdict) (n : ℕ) (r : Refusal) → answer_by v n ≡ Err r → v ≡ Err r
-  refused (Ok tt) n r q = absurd (let z : ◌≡◌ {A = ℕ} 0 1 = cc in omega arith)
+  refused (Ok _) n r q = absurd (let z : ◌≡◌ {A = ℕ} 0 1 = cc in omega arith)
   refused (Err r') n r q = cc
 
   by_count : {count : ℕ} → p.answer ≡ Ok count → (verdict ≡ Ok tt) × (count ≡ length reports)

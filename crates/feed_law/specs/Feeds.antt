@@ -118,7 +118,7 @@ abbrev pub lines_of : Feed
 lines_of run buys sells room bytes out = fed_in calls (length bytes) (length out) run.stage (lent_of run.session buys sells room) bytes
 
 abbrev pub fed_by : Verdict → Run → List ℕ → List ℕ → List ℕ → List ℕ → List ℕ → Fed Lent
-fed_by (Ok tt) run buys sells room bytes out = lines_of run buys sells room bytes out
+fed_by (Ok _) run buys sells room bytes out = lines_of run buys sells room bytes out
 fed_by (Err r) run buys sells room bytes out = halted calls (Stop.Refused r) run.stage (lent_of run.session buys sells room)
 
 unfoldable pub fed_of : Feed

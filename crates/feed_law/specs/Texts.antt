@@ -51,12 +51,12 @@ bad_text r place = written (bad_figures r place) (render_bad r place)
 
 -- an event prints its reports, or its refusal
 abbrev pub event_text : Event → Verdict → List Report → List ℕ
-event_text e (Ok tt) rs = reports_text rs
+event_text e (Ok _) rs = reports_text rs
 event_text e (Err r) rs = refused_text e.time r
 
 -- settings print nothing; "refused settings print 12 or 13 with at=0"
 abbrev pub settings_text : Verdict → List ℕ
-settings_text (Ok tt) = []
+settings_text (Ok _) = []
 settings_text (Err r) = bad_text r 0
 
 -- What the end of the input prints, where n bytes stand behind the last line: "Bytes after the last newline that begin a line print code=14

@@ -33,12 +33,12 @@ pub record Fed (W : Type 0) : Type 0 where
 
 -- "a bad line and refused settings end the run, a refused event doesn't"
 abbrev pub stage_by : Verdict → Stage
-stage_by (Ok tt) = Stage.Trading
+stage_by (Ok _) = Stage.Trading
 stage_by (Err r) = Stage.Over
 
 -- document 02, item 4: "The app saves each accepted event as its line, after the settings line"; all of a line, or nothing
 abbrev pub saves_by : Verdict → ℕ → ℕ
-saves_by (Ok tt) n = n
+saves_by (Ok _) n = n
 saves_by (Err r) n = 0
 
 abbrev pub stop_at : Stage → Stop

@@ -30,7 +30,7 @@ writes_one a b = (a.answer ∙ sym b.answer, a.laid ∙ sym b.laid)
 
 -- the number of an answer is that of the first row that applies
 code_by : (v : Verdict) (n : ℕ) → wrote_code (wrote_of v n) ≡ code_of v
-code_by (Ok tt) n = refl
+code_by (Ok _) n = refl
 code_by (Err r) n = refl
 
 pub written_code : {d line ns d' : List ℕ} {r : Wrote} → Writes d line ns r d' → wrote_code r ≡ code_of (line_verdict d ns)
@@ -49,7 +49,7 @@ written-line {d} {line} {ns} {d'} {n} w = go (line_verdict d ns) refl w.answer w
   where
     go : (v : Verdict) → line_verdict d ns ≡ v → Wrote.Written n ≡ wrote_of v (length line) → d' ≡ room_of v line d
         → (n ≡ length line) × (d' ≡ line ++ drop (length line) d) × Writable ns
-    go (Ok tt) e p q = ((cc), q, fine-writable d ns e)
+    go (Ok _) e p q = ((cc), q, fine-writable d ns e)
     go (Err r) e p q = absurd (never n r p)
 
 -- the length that is answered is within the room

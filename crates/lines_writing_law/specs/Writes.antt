@@ -13,7 +13,7 @@ line_verdict room numbers = first_failed (unless SmallLineRoom (leb line_room (l
 
 -- the answer: the line's length, or the refusal
 abbrev pub wrote_of : Verdict → ℕ → Wrote
-wrote_of (Ok tt) n = Wrote.Written n
+wrote_of (Ok _) n = Wrote.Written n
 wrote_of (Err r) n = Wrote.Refused r
 
 -- the paper's number of an answer: that of the refusal, or 0 for a line
@@ -23,7 +23,7 @@ wrote_code (Wrote.Refused r) = number_of r
 
 -- the room afterwards: the line at its start, "Line room past the newline is untouched"; refusals "write nothing"
 abbrev pub room_of : Verdict → List ℕ → List ℕ → List ℕ
-room_of (Ok tt) line room = line ++ drop (length line) room
+room_of (Ok _) line room = line ++ drop (length line) room
 room_of (Err r) line room = room
 
 -- the line, with these numbers in it, was written into room, which is room' afterwards, and r was answered

@@ -152,7 +152,7 @@ act-plain d t e k h =
 
 decided-plain : (v : Verdict) (d d' : Day) (a a' : Acted) → plain a.reports ≡ plain a'.reports →
     plain (decided v d a).reports ≡ plain (decided v d' a').reports
-decided-plain (Ok tt) d d' a a' e = e
+decided-plain (Ok _) d d' a a' e = e
 decided-plain (Err r) d d' a a' e = refl
 
 outcome-plain : (d : Day) (t : ℕ) (e : Event) → Ticks d t → t ≤ e.time → plain (outcome (ticked d t) e).reports ≡ plain (outcome d e).reports
@@ -186,7 +186,7 @@ act-replies d t e es k h x y =
 
 decided-replies : (v : Verdict) (d d' : Day) (a a' : Acted) (es : List Event) → (v ≡ Ok tt → replies a.day es ≡ replies a'.day es) →
     replies d es ≡ replies d' es → replies (decided v d a).day es ≡ replies (decided v d' a').day es
-decided-replies (Ok tt) d d' a a' es f e = f refl
+decided-replies (Ok _) d d' a a' es f e = f refl
 decided-replies (Err r) d d' a a' es f e = e
 
 rest-replies : (d : Day) (t : ℕ) (e : Event) (es : List Event) → Ticks d t → t ≤ e.time → replies (ticked d t) es ≡ replies d es →

@@ -12,7 +12,7 @@ use Rattle.terms.specs.declared.Refusal.{Refusal}
 use Rattle.terms.specs.Settings.{settings_verdict}
 use Rattle.state_law.specs.Day.{opened}
 use Rattle.engine_law.specs.Outcome.{after}
-use Rattle.resume_law.specs.Answers.{bad_at}
+use Rattle.resume_law.specs.Answers.{Comeback, bad_at}
 use Rattle.resume_law.specs.Saved.{saved, any_event, AllAccepted}
 use Rattle.resume_law.specs.Rebuilt.{Rebuilt, rebuilt, resumed}
 use Rattle.resume_law.specs.Comes.{FoundAs}
@@ -28,7 +28,7 @@ pub record Counted (bytes : List ℕ) (n : ℕ) : Type 0 where
   pub comes : resumed bytes ≡ rebuilt (length (saved g es)) (any_event es) (after (opened g) es)
 
 module _ (bytes : List ℕ) (n : ℕ) (answer : (resumed bytes).answer ≡ Ok n) where
-  counts_are : {m : ℕ} → Ok m ≡ Ok n → n ≡ m
+  counts_are : {m : ℕ} → ◌≡◌ {A = Comeback} (Ok m) (Ok n) → n ≡ m
   counts_are q = cc
 
   refusing : {r : Refusal} {m : ℕ} → bad_at r m ≡ Ok n → ⊥

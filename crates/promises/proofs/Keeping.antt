@@ -108,7 +108,7 @@ module _ (n : ℕ) (d : Day) (bytes : List ℕ) (e : Event) (m : ℕ) (q : read_
 
   trades_by : (v : Verdict) → (outcome d e).verdict ≡ v → Next → Trades (suc n) d bytes
   unfolding event_lines after
-  trades_by (Ok tt) v k =
+  trades_by (Ok _) v k =
       record {
         events = e ∷ k.events;
         lines = saves-on (Ok tt) v ∙ (λ i. event-lines.spelled bytes e m q i ++ k.lines i);
@@ -164,7 +164,7 @@ module _ (n : ℕ) (input : List ℕ) (g : Settings) (m : ℕ) (q : read_setting
 
   begins_by : (v : Verdict) → settings_verdict g ≡ v → Begins (suc n) input
   unfolding days
-  begins_by (Ok tt) v =
+  begins_by (Ok _) v =
       let o = opens (Ok tt) v in
       let k : Trades n (opened g) (drop m input) = trades n (opened g) (drop m input) in
       begun g k.events

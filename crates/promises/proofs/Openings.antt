@@ -39,7 +39,7 @@ unfolding opening_of
 by_opening P g f h = go (settings_verdict g) refl
   where
     go : (v : Verdict) → settings_verdict g ≡ v → P (opened_by g v)
-    go (Ok tt) e = f e
+    go (Ok _) e = f e
     go (Err r) e = h r e
 
 -- no order is live after an opening, whatever lies in the tables

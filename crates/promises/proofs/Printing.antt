@@ -60,7 +60,7 @@ Long l = roomy l.buys l.sells l.room ≡ true
 
 none_live : (v : Verdict) (g : Settings) → ((opened_by g v).session.live.buys ≡ 0) × ((opened_by g v).session.live.sells ≡ 0)
 unfolding opened_session fixed_session
-none_live (Ok tt) g = (refl, refl)
+none_live (Ok _) g = (refl, refl)
 none_live (Err r) g = (refl, refl)
 
 opened-day : (g : Settings) (l : Lent) → day_lent (calls.opened l (opening_of g).session) ≡ days.opened (day_lent l) (opening_of g).session
@@ -90,7 +90,7 @@ module _ (l : Lent) (e : Event) (long : Long l) where
 
   -- it leaves tables and room long enough
   table_kept : (v : Verdict) (os : List Order) (t : List ℕ) → (v ≡ Ok tt → length os ≤ slots) → table_length ≤ length t → length (table_by v os t) ≡ length t
-  table_kept (Ok tt) os t f h = length-table_of os t (f refl) h
+  table_kept (Ok _) os t f h = length-table_of os t (f refl) h
   table_kept (Err r) os t f h = refl
 
   all-long : (table_length ≤ length l.buys) × (table_length ≤ length l.sells) × (room_length ≤ length l.room)

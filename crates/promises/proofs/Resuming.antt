@@ -29,7 +29,7 @@ use Rattle.engine_law.specs.Outcome.{Outcome, outcome, after, told}
 use Rattle.engine_law.specs.Calls.{roomy, LongTables, called, answer_by, table_by}
 use Rattle.engine_law.proofs.Applies.{called-outcome}
 use Rattle.engine_law.proofs.Left.{sides_few}
-use Rattle.resume_law.specs.Answers.{bad_at}
+use Rattle.resume_law.specs.Answers.{Comeback, bad_at}
 use Rattle.resume_law.specs.Saved.{saved, any_event, AllAccepted, accepted_of, whole_in}
 use Rattle.resume_law.specs.Rebuilt.{Rebuilt, rebuilt, resumed}
 use Rattle.resume_law.specs.Calls.{table_after, tables_long, resumed_on}
@@ -81,7 +81,7 @@ module _ (h h₁ h₂ : Held) (e : Event) (es : List Event) (rs : List Report) (
 
   leaves_by : (v : Verdict) → o.verdict ≡ v → Leaves h₁ o.day es h₂ → Leaves h (day_held h) (e ∷ es) h₂
   unfolding accepted_of after
-  leaves_by (Ok tt) v k =
+  leaves_by (Ok _) v k =
       let few = sides_few (day_held h) e v in
       let b : Bool = any_event (accepted_of o.day es) in
       let still : b ≡ false → after o.day es ≡ o.day = none_after o.day es in
@@ -282,7 +282,7 @@ module _ (bytes buys sells : List ℕ) (n : ℕ) (h : Held) (c : Came bytes buys
   unfolding resumed_on
   long_is =
       cases (tables_long buys sells) (λ t. t)
-      (λ f. absurd (let q : bad_at SmallRoom 0 ≡ Ok n = rw f at answer_is in let z : ◌≡◌ {A = ℕ} 0 1 = cc in omega arith))
+      (λ f. absurd (let q : ◌≡◌ {A = Comeback} (bad_at SmallRoom 0) (Ok n) = rw f at answer_is in let z : ◌≡◌ {A = ℕ} 0 1 = cc in omega arith))
 
   x_is : x ≡ resumed bytes
   unfolding resumed_on

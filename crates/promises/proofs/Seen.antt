@@ -92,7 +92,7 @@ called-long {P} h h' c rs k f g = go (verdict_on h c) refl
     table v os t u e w = rw (w, e) (table_long os t)
 
     go : (v : Verdict) → verdict_on h c ≡ v → P
-    go (Ok tt) v =
+    go (Ok _) v =
         let fine = verdict-called h c ∙ v in
         f (table _ _ _ h'.buys fine k.contract.bought, table _ _ _ h'.sells fine k.contract.sold)
     go (Err r) v = g (refused-call h h' c rs k r v).1
@@ -129,7 +129,7 @@ module _ {g : Settings} {es : List Event} {rs : List Report} {h : Held} (r : Run
   start_seen id = ap (resting id) (start-held r) ∙ (λ i. lots_of id (sym (none_seen Buy) i) + lots_of id (sym (none_seen Sell) i))
 
 by_code : {P : Type 0} (v : Verdict) → (code_of v ≡ 0 → P) → ((code_of v ≡ 0 → ⊥) → P) → P
-by_code (Ok tt) f g = f refl
+by_code (Ok _) f g = f refl
 by_code (Err r) f g = g (λ z. omega (arith, (refusal-number r).0))
 
 pub calls-show-resting : CallsShowResting

@@ -141,7 +141,7 @@ module _ (bytes : List ℕ) (g : Settings) (v : settings_verdict g ≡ Ok tt) wh
   module _ (n : ℕ) (again : All n) (es : List Event) (rest : List ℕ) (here : At es rest) (h : length rest ≤ suc n) where
     by_verdict : (e : Event) (m : ℕ) → read_event rest ≡ whole e m → (w : Verdict) → (outcome (after (opened g) es) e).verdict ≡ w →
         FoundAs bytes (From (suc n) es rest)
-    by_verdict e m q (Ok tt) w =
+    by_verdict e m q (Ok _) w =
         found (onward es rest here e m q n w)
         (again (es ++ (e ∷ [])) (drop m rest) (next es rest here e m q w) (shorter es rest here e m q n h))
     by_verdict e m q (Err r) w = stopped es rest here e m q n r w
@@ -179,7 +179,7 @@ module _ (bytes : List ℕ) where
 
     by_opening : (v : Verdict) → settings_verdict g ≡ v → FoundAs bytes (trading_by v g n bytes)
     unfolding after
-    by_opening (Ok tt) v =
+    by_opening (Ok _) v =
         subst (λ (m : ℕ). FoundAs bytes (lines_from (length bytes) m false (opened g) (drop n bytes))) (sym length_is)
         (find bytes g v (length bytes) [] (drop n bytes) (record { split = begins; accepted = tt }) (let l = length-drop n bytes in omega arith))
     by_opening (Err r) v = settings_refused g (take n bytes) (drop n bytes) r (sym (take-append-drop n bytes)) head.1 v
@@ -212,7 +212,7 @@ unfolding outcome
 accepted_time d e v = go (refusal_of d e) v
   where
     go : (w : Verdict) → (decided w d (act d e)).verdict ≡ Ok tt → (decided w d (act d e)).day.session.clock.time ≡ e.time
-    go (Ok tt) q = (act-moved d e).time
+    go (Ok _) q = (act-moved d e).time
     go (Err r) q = absurd (let z : ◌≡◌ {A = ℕ} 0 1 = cc in omega arith)
 
 accepted-last : (d : Day) (es : List Event) (e : Event) → AllAccepted d (es ++ (e ∷ [])) → (outcome (after d es) e).verdict ≡ Ok tt
@@ -231,7 +231,7 @@ module _ (d : Day) (e : Event) (es : List Event) where
 
   replays_by : (v : Verdict) → (outcome d e).verdict ≡ v → Replays (outcome d e).day es → Replays d (e ∷ es)
   unfolding accepted_of after told
-  replays_by (Ok tt) v r =
+  replays_by (Ok _) v r =
       record {
         accepted = rw v (v, r.accepted);
         same_day = rw v r.same_day;

@@ -126,7 +126,7 @@ module _ (g : Settings) (o : Opened) (begun : o ≡ opening_of g) where
   judged v e = by_verdict (settings_verdict g) ∙ ap (λ (x : Opened). x.verdict) (sym begun) ∙ e
     where
       by_verdict : (w : Verdict) → w ≡ (opened_by g w).verdict
-      by_verdict (Ok tt) = refl
+      by_verdict (Ok _) = refl
       by_verdict (Err r) = refl
 
   pub session_is : o.verdict ≡ Ok tt → o.session ≡ opened_session g

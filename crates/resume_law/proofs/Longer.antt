@@ -66,7 +66,7 @@ module _ (at : ℕ) (moved : Bool) (d : Day) (bytes : List ℕ) where
   module _ (n k : ℕ) (again : SameFuel n k) (h : length bytes ≤ suc n) (j : length bytes ≤ suc k) where
     fuel_judged : (e : Event) (m : ℕ) → read_event bytes ≡ whole e m → (v : Verdict) → (outcome d e).verdict ≡ v →
         lines_from (suc n) at moved d bytes ≡ lines_from (suc k) at moved d bytes
-    fuel_judged e m q (Ok tt) v =
+    fuel_judged e m q (Ok _) v =
         line-applied at moved d bytes n e m q v
         ∙ again (at + m) true (outcome d e).day (drop m bytes) (fewer bytes e m n q h) (fewer bytes e m k q j)
         ∙ sym (line-applied at moved d bytes k e m q v)
@@ -137,7 +137,7 @@ module _ (at : ℕ) (moved : Bool) (d : Day) (xs : List ℕ) where
 
   module _ (n : ℕ) (again : All n) (h : length xs ≤ suc n) where
     passes_judged : (e : Event) (m : ℕ) → read_event xs ≡ whole e m → (v : Verdict) → (outcome d e).verdict ≡ v → Passes at moved d xs (lines_from (suc n) at moved d xs)
-    passes_judged e m q (Ok tt) v =
+    passes_judged e m q (Ok _) v =
         found (line-applied at moved d xs n e m q v) (onward e m q v (again (at + m) true (outcome d e).day (drop m xs) (fewer xs e m n q h)))
     passes_judged e m q (Err r) v =
         found (line_refused at moved d xs n e m r q v)

@@ -140,7 +140,7 @@ module _ (bytes : List ℕ) (x : Rebuilt) (now : Session) (buys sells : List ℕ
       Stops = (halt : Halt) (y : Replayed) → r.line ≡ Err halt → y ≡ stopped_at halt at r.session moved → ReplayedAs x buys' sells' y
 
       stops_judged : (e : Event) (n : ℕ) (v : Verdict) → read_event left ≡ whole e n → (outcome d e).verdict ≡ v → Stops
-      stops_judged e n (Ok tt) q w halt y u h = applied-or (by_verdict e n (Ok tt) q w).line u
+      stops_judged e n (Ok _) q w halt y u h = applied-or (by_verdict e n (Ok tt) q w).line u
       stops_judged e n (Err f) q w halt y u h =
           refused_as (again ∙ line_refused at moved d left (g.fuel - 1) e n f q w)
           (h ∙ ap (λ (l : Halt). stopped_at l at r.session moved) (same-halt u (by_verdict e n (Err f) q w).line))
@@ -194,11 +194,11 @@ module _ (bytes : List ℕ) (x : Rebuilt) (now : Session) (buys sells : List ℕ
           )
 
       goes_judged : (e : Event) (n : ℕ) (v : Verdict) → read_event left ≡ whole e n → (outcome d e).verdict ≡ v → Goes
-      goes_judged e n (Ok tt) q w = goes-applied e n q w
+      goes_judged e n (Ok _) q w used line = goes-applied e n q w used line
       goes_judged e n (Err f) q w used line = applied-or line (by_verdict e n (Err f) q w).line
 
       goes_by : (o : LineAnswer Event) → read_event left ≡ o → Goes
-      goes_by (whole e n) q = goes_judged e n (outcome d e).verdict q refl
+      goes_by (whole e n) q used line = goes_judged e n (outcome d e).verdict q refl used line
       goes_by unfinished q used line = applied-or line (by_read unfinished q).line
       goes_by (wrong n) q used line = applied-or line (by_read (wrong n) q).line
 

@@ -25,6 +25,7 @@ use Rattle.state_law.specs.Day.{Day}
 use Rattle.soundness_law.specs.Sound.{sound, day_in}
 use Rattle.soundness_law.proofs.Days.{SoundDay, sound-day}
 use Rattle.resume_law.specs.Answers.{Comeback, bad_at}
+use Rattle.resume_law.specs.declared.BadLine.{BadLine}
 use Rattle.resume_law.specs.declared.Replayed.{Replayed}
 use Rattle.resume_law.specs.declared.Back.{Back}
 use Rattle.resume_law.specs.declared.Passed.{Passed}
@@ -242,7 +243,9 @@ module _ (before : ℕ) (s : Session) (bytes buys sells : List ℕ) where
           ended (e ∙ ap (λ (a : Comeback). passed_end (back_to a t.session)) (same_place h k.answer)) (bad_line q n b f k.session)
         where
           same_place : {p q : Refusal} {m n : ℕ} {a : Comeback} → a ≡ bad_at p m → a ≡ bad_at q n → bad_at p (before + m) ≡ bad_at q (before + n)
-          same_place h j = cc
+          same_place {p} {q} {m} {n} h j =
+              let z : ◌≡◌ {A = BadLine} (record { refusal = p; place = m }) (record { refusal = q; place = n }) = cc in
+              ap (λ (b : BadLine). bad_at b.refusal (before + b.place)) z
 
       -- a piece that has a whole line or a bad one
       pub piece-replayed : LinesReplayed bytes 0 s buys sells buys' sells' t → StoodAs t before r → PassedAs before s bytes buys sells buys' sells' r

@@ -93,16 +93,16 @@ module _ (s : Session) (e : Event) (buys sells room buys' sells' room' : List �
       }
 
   not-unfinished : (v : Verdict) (n : ℕ) {P : Type 0} → line_by v n ≡ Err Halt.Unfinished → P
-  not-unfinished (Ok tt) n q = absurd (let z : ◌≡◌ {A = ℕ} 0 1 = cc in omega arith)
+  not-unfinished (Ok _) n q = absurd (let z : ◌≡◌ {A = ℕ} 0 1 = cc in omega arith)
   not-unfinished (Err r) n q = absurd (let z : ◌≡◌ {A = ℕ} 0 1 = cc in omega arith)
 
   -- an applied line was accepted
   applied-fine : (v : Verdict) (used : ℕ) → (used_by (line_by v used) ≡ 0 → ⊥) → v ≡ Ok tt
-  applied-fine (Ok tt) used n = refl
+  applied-fine (Ok _) used n = refl
   applied-fine (Err r) used n = absurd (n refl)
 
   line_is : (v : Verdict) (n used : ℕ) → line_for (answer_by v n) used ≡ line_by v used
-  line_is (Ok tt) n used = refl
+  line_is (Ok _) n used = refl
   line_is (Err r) n used = refl
 
   answered : p.answer ≡ answer_by o.verdict (length o.reports)
@@ -124,7 +124,7 @@ abbrev Within : List ℕ → SavedLine → Type 0
 Within bytes l = (used_by l ≤ length bytes) × (place_on l ≤ length bytes)
 
 bounds : (bytes : List ℕ) (v : Verdict) (n : ℕ) → n ≤ length bytes → Within bytes (line_by v n)
-bounds bytes (Ok tt) n h = (h, omega arith)
+bounds bytes (Ok _) n h = (h, omega arith)
 bounds bytes (Err r) n h = (omega arith, omega arith)
 
 module _ (session : Session) (bytes buys sells : List ℕ) (a : LineAnswer Event) (read : ReadAs EventLine bytes a) where

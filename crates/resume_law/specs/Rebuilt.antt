@@ -36,14 +36,14 @@ pub record Step : Type 0 where
   pub day : Day
 
 abbrev pub line_by : Verdict → ℕ → SavedLine
-line_by (Ok tt) n = Ok n
+line_by (Ok _) n = Ok n
 line_by (Err r) n = (Err Halt.Refused)
 
 -- by how it is read; a whole line is an event on the day
 abbrev pub step_of : Day → LineAnswer Event → Step
 step_of d (whole e n) = record { line = line_by (outcome d e).verdict n; day = (outcome d e).day }
 step_of d unfinished = record { line = (Err Halt.Unfinished); day = d }
-step_of d (wrong n) = record { line = Halt.Wrong n; day = d }
+step_of d (wrong n) = record { line = Err (Halt.Wrong n); day = d }
 
 -- how many bytes it takes
 abbrev pub used_by : SavedLine → ℕ
@@ -69,7 +69,7 @@ lines_from (suc n) at moved d bytes =
 -- ---- the settings: "22 where the engine refuses it, settings included"
 
 abbrev pub trading_by : Verdict → Settings → ℕ → List ℕ → Rebuilt
-trading_by (Ok tt) g n bytes = lines_from (length bytes) n false (opened g) (drop n bytes)
+trading_by (Ok _) g n bytes = lines_from (length bytes) n false (opened g) (drop n bytes)
 trading_by (Err r) g n bytes = refused LineRefused 0
 
 -- "Without a whole settings line no session comes back: 14, or 15 where the bytes begin none."

@@ -28,7 +28,7 @@ AllAccepted d (e ∷ es) = ((outcome d e).verdict ≡ Ok tt) × AllAccepted (out
 
 -- "each accepted event": those of any run that are accepted
 abbrev pub kept_by : Verdict → Event → List Event → List Event
-kept_by (Ok tt) e es = e ∷ es
+kept_by (Ok _) e es = e ∷ es
 kept_by (Err r) e es = es
 
 unfoldable pub accepted_of : Day → List Event → List Event

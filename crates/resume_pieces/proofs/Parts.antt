@@ -3,11 +3,11 @@ use Prim.Native.Nat.{ℕ, ◌+◌, ◌-◌, ◌^◌, ◌<◌}
 use native.Mathlib.Omega.{arith}
 use mathlib.Core.Path.{◌≡◌, ap, ◌∙◌}
 use mathlib.Core.Bool.{true, false}
-use Rattle.std.specs.Prelude.{Ok}
-use Rattle.terms.specs.declared.Refusal.{Refusal}
+use Rattle.std.specs.Prelude.{Ok, Err}
 use Rattle.state_law.specs.declared.Session.{Session}
 use Rattle.state_law.specs.Opening.{fixed_session}
 use Rattle.resume_law.specs.Answers.{bad_at}
+use Rattle.resume_law.specs.declared.BadLine.{BadLine}
 use Rattle.resume_law.specs.declared.Back.{Back}
 use Rattle.resume_law.specs.declared.Passed.{Passed}
 use Rattle.resume_law.specs.declared.Replayed.{Replayed}
@@ -30,9 +30,9 @@ module _ (t : Replayed) (before : ℕ) (r : Passed) where
   pub stood-over : (n : ℕ) (b : Back) → t.answer ≡ Ok n → 2 ^ 64 - 1 - before < n → b ≡ unread_back → r ≡ passed_end b → StoodAs t before r
   stood-over n b h l u e = over (rw h (omega arith)) (e ∙ ap passed_end u)
 
-  pub stood_far : (q : Refusal) (n : ℕ) (b : Back) → t.answer ≡ bad_at q n → 2 ^ 64 - 1 - before < n → b ≡ unread_back → r ≡ passed_end b → StoodAs t before r
-  stood_far q n b h l u e = over (rw h (omega arith)) (e ∙ ap passed_end u)
+  pub stood_far : (bad : BadLine) (b : Back) → t.answer ≡ Err bad → 2 ^ 64 - 1 - before < bad.place → b ≡ unread_back → r ≡ passed_end b → StoodAs t before r
+  stood_far bad b h l u e = over (rw h (omega arith)) (e ∙ ap passed_end u)
 
-  pub stood-refuses : (q : Refusal) (n : ℕ) (b : Back) → t.answer ≡ bad_at q n → b ≡ back_to (bad_at q (before + n)) t.session →
+  pub stood-refuses : (bad : BadLine) (b : Back) → t.answer ≡ Err bad → b ≡ back_to (bad_at bad.refusal (before + bad.place)) t.session →
       r ≡ passed_end b → StoodAs t before r
-  stood-refuses q n b h u e = refuses q n h (e ∙ ap passed_end u)
+  stood-refuses bad b h u e = refuses bad.refusal bad.place h (e ∙ ap passed_end u)

@@ -48,7 +48,7 @@ unfolding opening_of
 opening-verdict g = go (settings_verdict g)
   where
     go : (v : Verdict) → (opened_by g v).verdict ≡ v
-    go (Ok tt) = refl
+    go (Ok _) = refl
     go (Err r) = refl
 
 pub refused-opening : (g : Settings) (r : Refusal) → settings_verdict g ≡ Err r → (opening_of g).session ≡ fixed_session

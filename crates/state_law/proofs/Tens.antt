@@ -50,5 +50,5 @@ unfolding opening_of opened_session
 opening_ten g = go (settings_verdict g)
   where
     go : (v : Verdict) → Ten (opened_by g v).session
-    go (Ok tt) = record { prices = refl; sizes = refl }
+    go (Ok _) = record { prices = refl; sizes = refl }
     go (Err r) = fixed_ten

@@ -34,7 +34,7 @@ fixed_session =
 
 -- "a refused one returns its number and one fixed session"
 abbrev pub opened_by : Settings → Verdict → Opened
-opened_by g (Ok tt) = record { verdict = Ok tt; session = opened_session g }
+opened_by g (Ok _) = record { verdict = Ok tt; session = opened_session g }
 opened_by g (Err r) = record { verdict = Err r; session = fixed_session }
 
 unfoldable pub opening_of : Settings → Opened

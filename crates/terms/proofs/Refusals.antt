@@ -29,5 +29,5 @@ refusal-number NumberLong = (omega arith, omega arith)
 refusal-number LineRefused = (omega arith, omega arith)
 
 pub code_fine : (v : Verdict) → code_of v ≡ 0 → v ≡ Ok tt
-code_fine (Ok u) e = refl
+code_fine (Ok _) e = refl
 code_fine (Err r) e = absurd (omega (arith, (refusal-number r).0))

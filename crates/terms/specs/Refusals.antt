@@ -43,5 +43,5 @@ first_failed (r ∷ rs) = cond r.holds (first_failed rs) (Err r.refusal)
 
 -- the paper's number of a verdict; 0 where no refusal applies
 abbrev pub code_of : Verdict → ℕ
-code_of (Ok u) = 0
+code_of (Ok _) = 0
 code_of (Err r) = number_of r
