@@ -179,9 +179,9 @@ module _ (bytes : List ℕ) (x : Rebuilt) (now : Session) (buys sells : List ℕ
           let l = length-drop at bytes in
           let h = (right-at e n q).0 in
           let some : n ≡ 0 → ⊥ = sorts.some event-lines left e n (right-at e n q) in
-          rw u
-          ( omega (arith, some)
-          , record {
+          rw u (
+            omega (arith, some),
+            record {
               fuel = g.fuel - 1;
               within = omega arith;
               enough = omega (arith, g.enough, fuelled, some);
@@ -190,7 +190,7 @@ module _ (bytes : List ℕ) (x : Rebuilt) (now : Session) (buys sells : List ℕ
                   ∙ line-applied at moved d left (g.fuel - 1) e n q w
                   ∙ (λ i. lines_from (g.fuel - 1) (at + n) true (sym t.day i) (drop-drop n at bytes i));
               clean = λ m. t.clean some;
-            }
+            },
           )
 
       goes_judged : (e : Event) (n : ℕ) (v : Verdict) → read_event left ≡ whole e n → (outcome d e).verdict ≡ v → Goes

@@ -166,7 +166,16 @@ fn begin(
             )
         }
         Err(bad) => not_back(
-            live, input, given, file, to, expected, bad.refusal, bad.place, buys, sells,
+            live,
+            input,
+            given,
+            file,
+            to,
+            expected,
+            bad.refusal,
+            bad.place,
+            buys,
+            sells,
         ),
     }
 }
