@@ -51,7 +51,7 @@ module _ (a : Answer) (used : ℕ) where
   pub for_reported : (count : ℕ) → a ≡ Ok count → Ok used ≡ line_for a used
   for_reported count e = rw e refl
 
-  pub for_refused : (r : Refusal) → a ≡ Err r → (Err Halt.Refused) ≡ line_for a used
+  pub for_refused : (r : Refusal) → a ≡ Err r → Err Halt.Refused ≡ line_for a used
   for_refused r e = rw e refl
 
 -- ---- an event that a call answers

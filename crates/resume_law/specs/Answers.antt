@@ -8,6 +8,7 @@ use Rattle.resume_law.specs.declared.Halt.{Halt}
 abbrev pub Comeback : Type 0
 Comeback = Result ℕ BadLine
 
+-- a bad line is told, by its parts
 abbrev pub bad_at : Refusal → ℕ → Comeback
 bad_at refusal place = Err (record { refusal = refusal; place = place })
 

@@ -37,12 +37,12 @@ pub record Step : Type 0 where
 
 abbrev pub line_by : Verdict → ℕ → SavedLine
 line_by (Ok _) n = Ok n
-line_by (Err r) n = (Err Halt.Refused)
+line_by (Err r) n = Err Halt.Refused
 
 -- by how it is read; a whole line is an event on the day
 abbrev pub step_of : Day → LineAnswer Event → Step
 step_of d (whole e n) = record { line = line_by (outcome d e).verdict n; day = (outcome d e).day }
-step_of d unfinished = record { line = (Err Halt.Unfinished); day = d }
+step_of d unfinished = record { line = Err Halt.Unfinished; day = d }
 step_of d (wrong n) = record { line = Err (Halt.Wrong n); day = d }
 
 -- how many bytes it takes

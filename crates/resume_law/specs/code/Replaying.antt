@@ -44,7 +44,7 @@ pub record AppliedLong (s : Session) (e : Event) (buys sells room buys' sells' r
 -- what became of a line, by the engine's answer to its event
 abbrev pub line_for : Answer → ℕ → SavedLine
 line_for (Ok count) used = Ok used
-line_for (Err r) used = (Err Halt.Refused)
+line_for (Err r) used = Err Halt.Refused
 
 abbrev pub line_replayed_to : SavedLine → Session → LineReplayed
 line_replayed_to line session = record { line = line; session = session }
@@ -55,6 +55,7 @@ place_in Halt.Refused = 0
 place_in Halt.Unfinished = 0
 place_in (Halt.Wrong n) = n
 
+-- and in a line; 0 where it is applied
 abbrev pub place_on : SavedLine → ℕ
 place_on (Ok n) = 0
 place_on (Err h) = place_in h
