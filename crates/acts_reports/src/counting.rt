@@ -2,7 +2,7 @@
 ghost use Rattle.std.specs.Prelude.{◌≡◌};
 ghost use Rattle.engine_law.specs.code.Steps.{done_at};
 
-use engine_law::{Answer, Applied};
+use engine_law::Applied;
 use state_law::Session;
 use tables::lengths;
 
@@ -15,7 +15,7 @@ pub fn done(s: Session, nbuys: usize, nsells: usize, at: usize) -> Applied
     r.live.sells = nsells as u64;
     let count = (at / lengths::RECORD) as u64;
     Applied {
-        answer: Answer::Reported(count),
+        answer: Ok(count),
         session: r,
     }
 }

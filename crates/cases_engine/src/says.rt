@@ -6,18 +6,18 @@ use terms::Verdict;
 
 pub fn verdict(v: Verdict) {
     match v {
-        Verdict::Fine => print::number(0),
-        Verdict::Refused(r) => print::number(terms::numbers::of_refusal(r)),
+        Ok(()) => print::number(0),
+        Err(r) => print::number(terms::numbers::of_refusal(r)),
     }
 }
 
 pub fn answer(a: Answer) {
     match a {
-        Answer::Reported(count) => {
+        Ok(count) => {
             print::number(0);
             print::number(count);
         }
-        Answer::Refused(r) => {
+        Err(r) => {
             print::number(1);
             print::number(terms::numbers::of_refusal(r));
         }

@@ -24,8 +24,8 @@ fn first_line(saved: &[u8]) -> usize {
 // Whether an event is among the bytes that count: then, and only then, the tables are written.
 fn has_event(answer: Comeback, saved: &[u8]) -> bool {
     match answer {
-        Comeback::Counts(count) => first_line(saved) < count,
-        Comeback::Refused(refusal, place) => false,
+        Ok(count) => first_line(saved) < count,
+        Err(_) => false,
     }
 }
 

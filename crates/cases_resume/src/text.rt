@@ -14,16 +14,16 @@ pub const ROOM: usize = lengths::TABLE * 20 + 64;
 // The number of an answer's refusal, 0 for none.
 pub fn code_of(answer: Comeback) -> u64 {
     match answer {
-        Comeback::Counts(count) => 0,
-        Comeback::Refused(refusal, place) => numbers::of_refusal(refusal),
+        Ok(_) => 0,
+        Err(bad) => numbers::of_refusal(bad.refusal),
     }
 }
 
-// How many bytes count, or the refusal's place.
+// How many bytes count, or the bad line's place.
 pub fn place_of(answer: Comeback) -> u64 {
     match answer {
-        Comeback::Counts(count) => count as u64,
-        Comeback::Refused(refusal, place) => place as u64,
+        Ok(count) => count as u64,
+        Err(bad) => bad.place as u64,
     }
 }
 

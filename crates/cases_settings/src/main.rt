@@ -3,7 +3,7 @@
 
 #![tactic(auto)]
 
-use terms::{Category, Settings, Verdict};
+use terms::{Category, Settings};
 
 const FIELDS: usize = 7;
 
@@ -40,8 +40,8 @@ fn with(field: usize, v: u64) -> Settings {
 
 fn code(g: Settings) -> u64 {
     match terms::judge::check(g) {
-        Verdict::Fine => 0,
-        Verdict::Refused(r) => terms::numbers::of_refusal(r),
+        Ok(()) => 0,
+        Err(r) => terms::numbers::of_refusal(r),
     }
 }
 

@@ -7,7 +7,7 @@ ghost use Rattle.desk_law.specs.Calls.{opened_from, OpenedAs, strange_verdict, F
 
 use desk_packing::{events, runs, sessions, settings};
 use engine::{apply, looking};
-use engine_law::{Answer, Applied};
+use engine_law::Applied;
 use state::opening;
 use state_law::{Opened, Session};
 use tables::{flat, lengths};
@@ -21,7 +21,7 @@ fn opened(gs: &[u64]) -> Opened
     if !settings::is_category(gs[0]) {
         let session = sessions::fixed();
         return Opened {
-            verdict: Verdict::Refused(Refusal::SettingsRange),
+            verdict: Err(Refusal::SettingsRange),
             session: session,
         };
     }
@@ -33,8 +33,8 @@ fn answer_to(v: Verdict) -> u64
     ensures { result ≡ answer_of v 0 }
 {
     match v {
-        Verdict::Fine => desk_answers::done(0),
-        Verdict::Refused(r) => desk_answers::refused(r),
+        Ok(()) => desk_answers::done(0),
+        Err(r) => desk_answers::refused(r),
     }
 }
 
@@ -74,12 +74,12 @@ fn lay_applied(session: &mut [u64], applied: Applied) -> u64
     let answer = applied.answer;
     let after = applied.session;
     match answer {
-        Answer::Reported(count) => {
+        Ok(count) => {
             let numbers = sessions::pack(after);
             flat::lay(session, &numbers);
             desk_answers::done(count)
         }
-        Answer::Refused(r) => desk_answers::refused(r),
+        Err(r) => desk_answers::refused(r),
     }
 }
 

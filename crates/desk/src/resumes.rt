@@ -15,8 +15,8 @@ fn answer_to(answer: Comeback) -> u64
     ensures { result ≡ resume_number answer }
 {
     match answer {
-        Comeback::Counts(count) => desk_answers::done(0),
-        Comeback::Refused(r, at) => desk_answers::refused(r),
+        Ok(_) => desk_answers::done(0),
+        Err(bad) => desk_answers::refused(bad.refusal),
     }
 }
 
@@ -25,8 +25,8 @@ fn place_in(answer: Comeback) -> usize
     ensures { result ≡ place_number answer }
 {
     match answer {
-        Comeback::Counts(count) => count,
-        Comeback::Refused(r, at) => at,
+        Ok(count) => count,
+        Err(bad) => bad.place,
     }
 }
 

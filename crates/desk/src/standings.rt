@@ -8,7 +8,7 @@ use desk_packing::{runs, sessions};
 use engine::standings;
 use engine_law::{Standing, Stood};
 use tables::flat;
-use terms::{Refusal, Verdict};
+use terms::Refusal;
 
 pub const STANDING: usize = 14;
 
@@ -46,12 +46,12 @@ fn lay_stood(run: &mut [u64], stood: Stood) -> u64
     let verdict = stood.verdict;
     let st = stood.standing;
     match verdict {
-        Verdict::Fine => {
+        Ok(()) => {
             let numbers = packed(st);
             flat::lay(run, &numbers);
             desk_answers::done(0)
         }
-        Verdict::Refused(r) => desk_answers::refused(r),
+        Err(r) => desk_answers::refused(r),
     }
 }
 

@@ -3,9 +3,8 @@
 
 #![tactic(auto)]
 
-ghost use Rattle.std.specs.Prelude.{◌≡◌, ◌≤◌, ◌<◌};
+ghost use Rattle.std.specs.Prelude.{◌≡◌, ◌≤◌, ◌<◌, Ok, Err};
 ghost use Rattle.terms.specs.declared.Refusal.TheVariants.{LineWrong};
-ghost use Rattle.terms.specs.declared.Verdict.TheVariants.{Fine, Refused};
 ghost use Rattle.terms.specs.Refusals.{number_of};
 ghost use Rattle.desk_packing_law.specs.Answers.{codes, count_most, answer_number, answer_of};
 
@@ -23,14 +22,14 @@ pub fn number(code: u64, count: u64) -> u64
 // The answer of a call that did what was asked, with a count.
 pub fn done(count: u64) -> u64
     requires { count ≤ count_most }
-    ensures { result ≡ answer_of Fine count }
+    ensures { result ≡ answer_of (Ok tt) count }
 {
     number(0, count)
 }
 
 // The answer of a refused call.
 pub fn refused(r: Refusal) -> u64
-    ensures { result ≡ answer_of (Refused r) 0 }
+    ensures { result ≡ answer_of (Err r) 0 }
 {
     number(u64::from(r), 0)
 }

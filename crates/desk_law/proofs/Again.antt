@@ -5,10 +5,10 @@ use mathlib.Core.Path.{◌≡◌, refl, sym, ap, ◌∙◌}
 use mathlib.Core.List.{List}
 use borrow.Author.Tests.{le-ltb}
 use lib.ListN.{length, get_or, drop}
+use Rattle.std.specs.Prelude.{Ok, Err}
 use Rattle.terms.specs.declared.Event.{Event}
 use Rattle.terms.specs.declared.Settings.{Settings}
-use Rattle.terms.specs.declared.Verdict.{Verdict}
-use Rattle.terms.specs.declared.Verdict.TheVariants.{Fine, Refused}
+use Rattle.terms.specs.Refusals.{Verdict}
 use Rattle.terms.proofs.Logic.{by}
 use Rattle.tables.specs.Put.{put}
 use Rattle.lines_text_law.specs.Grammar.{whole}
@@ -54,8 +54,8 @@ run_again run s e buys sells room i = go (call_verdict s e buys sells room)
     go : (v : Verdict) →
         session_from (run_by (decided v (day_in s buys sells) (act (day_in s buys sells) e)).verdict (decided v (day_in s buys sells) (act (day_in s buys sells) e)).day.session run)
         ≡ (decided v (day_in s buys sells) (act (day_in s buys sells) e)).day.session
-    go Fine = laid_back run (act (day_in s buys sells) e).day.session (act_ten (day_in s buys sells) e (rw i (from_ten run)))
-    go (Refused r) = sym i
+    go (Ok _) = laid_back run (act (day_in s buys sells) e).day.session (act_ten (day_in s buys sells) e (rw i (from_ten run)))
+    go (Err r) = sym i
 
 pub applied_again : (run event buys sells room run' buys' sells' room' : List ℕ) (r : ℕ) → session_length ≤ length run → event_length ≤ length event →
     AppliedOn run event buys sells room run' buys' sells' room' r → session_from run' ≡ (called (session_from run) (event_from event) buys sells room).day.session

@@ -4,11 +4,10 @@ use borrow.Author.Tests.{le-ltb}
 use mathlib.Core.Path.{◌≡◌, refl, sym, ap, ◌∙◌}
 use mathlib.Core.List.{List}
 use lib.ListN.{length}
-use Rattle.terms.specs.declared.Verdict.{Verdict}
-use Rattle.terms.specs.declared.Verdict.TheVariants.{Fine, Refused}
-use Rattle.engine_law.specs.declared.Answer.{Answer}
+use Rattle.std.specs.Prelude.{Ok, Err}
+use Rattle.terms.specs.Refusals.{Verdict}
 use Rattle.engine_law.specs.declared.Applied.{Applied}
-use Rattle.engine_law.specs.Answers.{answer_code, answer_count}
+use Rattle.engine_law.specs.Answers.{answer_code, answer_count, Answer}
 use Rattle.engine_law.specs.Outcome.{Outcome}
 use Rattle.engine_law.specs.Calls.{called, answer_by, AppliedAs}
 use Rattle.desk_packing_law.specs.Runs.{session_length, event_length}
@@ -22,8 +21,8 @@ abbrev pub number_for : Answer → ℕ
 number_for a = answer_number (answer_code a) (answer_count a)
 
 number_by : (v : Verdict) (count : ℕ) → answer_of v count ≡ number_for (answer_by v count)
-number_by Fine count = refl
-number_by (Refused r) count = refl
+number_by (Ok _) count = refl
+number_by (Err r) count = refl
 
 module _ (run event buys sells room : List ℕ) (s : session_length ≤ length run) (e : event_length ≤ length event) where
   on-day : called_on run event buys sells room ≡ called (session_from run) (event_from event) buys sells room

@@ -6,14 +6,13 @@ use mathlib.Core.Bool.{Bool, true, false, not}
 use mathlib.Core.List.{List}
 use borrow.Author.Tests.{lt-ltb, le-ltb, not-true, not-false}
 use lib.ListN.{length}
+use Rattle.std.specs.Prelude.{Ok, Err}
 use Rattle.terms.specs.declared.Event.{Event}
 use Rattle.terms.specs.declared.Refusal.{Refusal}
 use Rattle.terms.specs.declared.Refusal.TheVariants.{SmallRoom, Unsound}
-use Rattle.terms.specs.declared.Verdict.{Verdict}
-use Rattle.terms.specs.declared.Verdict.TheVariants.{Fine, Refused}
 use Rattle.tables.specs.Lengths.{reports_most}
 use Rattle.tables.specs.Records.{records_of}
-use Rattle.terms.specs.Refusals.{first_failed}
+use Rattle.terms.specs.Refusals.{Verdict, first_failed}
 use Rattle.terms.proofs.Logic.{cases}
 use Rattle.terms.proofs.Cascade.{fine-first}
 use Rattle.tables.specs.Put.{put}
@@ -24,7 +23,7 @@ use Rattle.refusal_law.specs.Refusals.{rules, refusal_of}
 use Rattle.refusal_law.proofs.Accepted.{accepted}
 use Rattle.acts_law.specs.Acts.{act}
 use Rattle.acts_law.proofs.Few.{act-few}
-use Rattle.engine_law.specs.declared.Answer.{Answer}
+use Rattle.engine_law.specs.Answers.{Answer}
 use Rattle.engine_law.specs.declared.Applied.{Applied}
 use Rattle.engine_law.specs.Outcome.{Outcome, decided}
 use Rattle.engine_law.specs.Calls.{roomy, call_verdict, called, answer_by, AppliedAs}
@@ -37,13 +36,13 @@ use Rattle.desk_law.proofs.Turned.{no-session_unsound}
 
 -- ---- the engine's answer and the verdict
 
-answered-refused : (v : Verdict) (k : ℕ) (n : Refusal) → Answer.Refused n ≡ answer_by v k → v ≡ Refused n
-answered-refused Fine k n p = absurd (let z : ◌≡◌ {A = ℕ} 0 1 = cc in omega arith)
-answered-refused (Refused r) k n p = cc
+answered-refused : (v : Verdict) (k : ℕ) (n : Refusal) → Err n ≡ answer_by v k → v ≡ Err n
+answered-refused (Ok _) k n p = absurd (let z : ◌≡◌ {A = ℕ} 0 1 = cc in omega arith)
+answered-refused (Err r) k n p = cc
 
-answered-fine : (v : Verdict) (k count : ℕ) → Answer.Reported count ≡ answer_by v k → (v ≡ Fine) × (count ≡ k)
-answered-fine Fine k count p = (refl, cc)
-answered-fine (Refused r) k count p = absurd (let z : ◌≡◌ {A = ℕ} 0 1 = cc in omega arith)
+answered-fine : (v : Verdict) (k count : ℕ) → Ok count ≡ answer_by v k → (v ≡ Ok tt) × (count ≡ k)
+answered-fine (Ok _) k count p = (refl, cc)
+answered-fine (Err r) k count p = absurd (let z : ◌≡◌ {A = ℕ} 0 1 = cc in omega arith)
 
 -- a call's reports are no more than the room holds
 called-few : (s : Session) (e : Event) (buys sells room : List ℕ) → length (called s e buys sells room).reports ≤ reports_most
@@ -51,13 +50,13 @@ unfolding called call_verdict refusal_of
 called-few s e buys sells room = go (call_verdict s e buys sells room) refl
   where
     go : (v : Verdict) → call_verdict s e buys sells room ≡ v → length (decided v (day_in s buys sells) (act (day_in s buys sells) e)).reports ≤ reports_most
-    go Fine h =
-        let k : refusal_of (day_in s buys sells) e ≡ Fine = (fine-first SmallRoom (roomy buys sells room) (rules (day_in s buys sells) e) h).1 in
+    go (Ok _) h =
+        let k : refusal_of (day_in s buys sells) e ≡ Ok tt = (fine-first SmallRoom (roomy buys sells room) (rules (day_in s buys sells) e) h).1 in
         act-few (day_in s buys sells) e (accepted (day_in s buys sells) e k).whole
-    go (Refused r) h = omega arith
+    go (Err r) h = omega arith
 
 pub apply_few : (s : Session) (e : Event) (buys sells room buys' sells' room' : List ℕ) (a : Applied) (count : ℕ) →
-    AppliedAs s e buys sells room buys' sells' room' a → a.answer ≡ Answer.Reported count → count ≤ count_most
+    AppliedAs s e buys sells room buys' sells' room' a → a.answer ≡ Ok count → count ≤ count_most
 apply_few s e buys sells room buys' sells' room' a count h k =
     let o : Outcome = called s e buys sells room in
     let w = answered-fine o.verdict (length o.reports) count (sym k ∙ h.answer) in
@@ -73,25 +72,25 @@ unfolding session_from
 that_session ns s h e = rw h e
 
 module _ (buys sells room : List ℕ) (found : Bool) (h : found ≡ roomy buys sells room) (r : ℕ) where
-  pub strange_small : not found ≡ true → r ≡ answer_of (Refused SmallRoom) 0 → r ≡ answer_of (strange_verdict buys sells room) 0
+  pub strange_small : not found ≡ true → r ≡ answer_of (Err SmallRoom) 0 → r ≡ answer_of (strange_verdict buys sells room) 0
   unfolding strange_verdict
   strange_small t e = rw (← h, not-true found t) e
 
-  pub strange_unsound : not found ≡ false → r ≡ answer_of (Refused Unsound) 0 → r ≡ answer_of (strange_verdict buys sells room) 0
+  pub strange_unsound : not found ≡ false → r ≡ answer_of (Err Unsound) 0 → r ≡ answer_of (strange_verdict buys sells room) 0
   unfolding strange_verdict
   strange_unsound t e = rw (← h, not-false found t) e
 
 module _ (run event buys sells room : List ℕ) (r : ℕ) where
   -- ---- the session's numbers or the event's are too few
 
-  pub apply_no-session : length run < session_length → r ≡ answer_of (Refused SmallRoom) 0 → AppliedOn run event buys sells room run buys sells room r
+  pub apply_no-session : length run < session_length → r ≡ answer_of (Err SmallRoom) 0 → AppliedOn run event buys sells room run buys sells room r
   unfolding called_on records_of
   apply_no-session h e =
       let s = lt-ltb (length run) session_length h in
       record { answer = rw s e; kept = rw s; bought = rw s; sold = rw s; told = rw s (sym (put-none room 0)) }
 
   module _ (h : session_length ≤ length run) where
-    pub apply_no-event : length event < event_length → r ≡ answer_of (Refused SmallRoom) 0 → AppliedOn run event buys sells room run buys sells room r
+    pub apply_no-event : length event < event_length → r ≡ answer_of (Err SmallRoom) 0 → AppliedOn run event buys sells room run buys sells room r
     unfolding called_on records_of
     apply_no-event k e =
         let s = le-ltb (length run) session_length h in
@@ -101,7 +100,7 @@ module _ (run event buys sells room : List ℕ) (r : ℕ) where
     -- ---- they are enough, but the first are no session's
 
     module _ (k : event_length ≤ length event) where
-      turned : (n : Refusal) → call_verdict (session_from run) (event_from event) buys sells room ≡ Refused n → r ≡ answer_of (Refused n) 0 →
+      turned : (n : Refusal) → call_verdict (session_from run) (event_from event) buys sells room ≡ Err n → r ≡ answer_of (Err n) 0 →
           AppliedOn run event buys sells room run buys sells room r
       unfolding called_on called records_of
       turned n v e =
@@ -135,14 +134,14 @@ module _ (run event buys sells room : List ℕ) (r : ℕ) where
       on_call = rw (le-ltb (length run) session_length h, le-ltb (length event) event_length k, i, j)
 
       module _ (buys' sells' room' : List ℕ) (a : Applied) (p : AppliedAs s e buys sells room buys' sells' room' a) where
-        pub apply-refused : (n : Refusal) → a.answer ≡ Answer.Refused n → r ≡ answer_of (Refused n) 0 →
+        pub apply-refused : (n : Refusal) → a.answer ≡ Err n → r ≡ answer_of (Err n) 0 →
             AppliedOn run event buys sells room run buys' sells' room' r
         apply-refused n q x =
-            let v : out.verdict ≡ Refused n = answered-refused out.verdict (length out.reports) n (sym q ∙ p.answer) in
+            let v : out.verdict ≡ Err n = answered-refused out.verdict (length out.reports) n (sym q ∙ p.answer) in
             rw on_call (record { answer = rw v x; kept = rw v; bought = p.bought; sold = p.sold; told = p.told })
 
-        pub apply-done : (count : ℕ) (run' ns : List ℕ) → a.answer ≡ Answer.Reported count → ns ≡ session_numbers a.session → run' ≡ put run 0 ns →
-            r ≡ answer_of Fine count → AppliedOn run event buys sells room run' buys' sells' room' r
+        pub apply-done : (count : ℕ) (run' ns : List ℕ) → a.answer ≡ Ok count → ns ≡ session_numbers a.session → run' ≡ put run 0 ns →
+            r ≡ answer_of (Ok tt) count → AppliedOn run event buys sells room run' buys' sells' room' r
         apply-done count run' ns q f l x =
             let w = answered-fine out.verdict (length out.reports) count (sym q ∙ p.answer) in
             rw on_call
@@ -150,23 +149,23 @@ module _ (run event buys sells room : List ℕ) (r : ℕ) where
 
 -- ---- all of it
 
-few_by : (o : Answer) → ((count : ℕ) → o ≡ Answer.Reported count → count ≤ count_most) → FewReported o
-few_by (Answer.Reported count) f = f count refl
-few_by (Answer.Refused r) f = tt
+few_by : (o : Answer) → ((count : ℕ) → o ≡ Ok count → count ≤ count_most) → FewReported o
+few_by (Ok count) f = f count refl
+few_by (Err r) f = tt
 
 pub few-told : {s : Session} {e : Event} {buys sells room buys' sells' room' : List ℕ} {a : Applied} →
     AppliedAs s e buys sells room buys' sells' room' a → FewReported a.answer
 few-told {s} {e} {buys} {sells} {room} {buys'} {sells'} {room'} {a} p =
     few_by a.answer (λ count q. apply_few s e buys sells room buys' sells' room' a count p q)
 
-pub laid-refused : {a : Applied} {run : List ℕ} {r : ℕ} {n : Refusal} → a.answer ≡ Answer.Refused n → r ≡ answer_of (Refused n) 0 → LaidApplied a run run r
+pub laid-refused : {a : Applied} {run : List ℕ} {r : ℕ} {n : Refusal} → a.answer ≡ Err n → r ≡ answer_of (Err n) 0 → LaidApplied a run run r
 laid-refused e x = record { answer = rw e x; kept = rw e }
 
-pub laid_done : {a : Applied} {run run' ns : List ℕ} {r count : ℕ} → a.answer ≡ Answer.Reported count → ns ≡ session_numbers a.session → run' ≡ put run 0 ns →
-    r ≡ answer_of Fine count → LaidApplied a run run' r
+pub laid_done : {a : Applied} {run run' ns : List ℕ} {r count : ℕ} → a.answer ≡ Ok count → ns ≡ session_numbers a.session → run' ≡ put run 0 ns →
+    r ≡ answer_of (Ok tt) count → LaidApplied a run run' r
 laid_done e f l x = record { answer = rw e x; kept = rw (e, ← f) l }
 
-pub few-count : {o : Answer} {count : ℕ} → FewReported o → o ≡ Answer.Reported count → count ≤ count_most
+pub few-count : {o : Answer} {count : ℕ} → FewReported o → o ≡ Ok count → count ≤ count_most
 few-count f e = rw e at f
 
 module _ (run event buys sells room run' buys' sells' room' : List ℕ) (s : Session) (e : Event) (r : ℕ) (found : Bool) where
@@ -178,8 +177,8 @@ module _ (run event buys sells room run' buys' sells' room' : List ℕ) (s : Ses
       there = that_session run s (told-session run found f n) i
 
       go : (o : Answer) → c.applied.answer ≡ o → AppliedOn run event buys sells room run' buys' sells' room' r
-      go (Answer.Reported count) q =
+      go (Ok count) q =
           apply-done run event buys sells room r h k s e there j buys' sells' room' c.applied c.came count run' (session_numbers c.applied.session) q refl (rw q at c.laid.kept) (rw q at c.laid.answer)
-      go (Answer.Refused m) q =
+      go (Err m) q =
           subst (λ (x : List ℕ). AppliedOn run event buys sells room x buys' sells' room' r) (sym (rw q at c.laid.kept))
           (apply-refused run event buys sells room r h k s e there j buys' sells' room' c.applied c.came m q (rw q at c.laid.answer))

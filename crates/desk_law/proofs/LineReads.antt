@@ -6,8 +6,8 @@ use mathlib.Core.List.{List}
 use borrow.Author.Tests.{lt-ltb, le-ltb}
 use lib.ListN.{length, take, length-append}
 use lib.Seq.{length-take-le}
+use Rattle.std.specs.Prelude.{Ok, Err}
 use Rattle.terms.specs.declared.Refusal.TheVariants.{SmallRoom, LineUnfinished, LineWrong}
-use Rattle.terms.specs.declared.Verdict.TheVariants.{Fine, Refused}
 use Rattle.terms.specs.Sizes.{line_room}
 use Rattle.terms.specs.Refusals.{number_of}
 use Rattle.tables.specs.Put.{put}
@@ -18,7 +18,7 @@ use Rattle.desk_packing_law.specs.Answers.{count_most, answer_number, answer_of}
 use Rattle.desk_law.specs.Reads.{read_number, run_read, ReadInto}
 
 -- where the slice is too short for the numbers of a value, nothing is read
-pub read_short : {E : Type 0} (numbers : E → List ℕ) (m : ℕ) (a : LineAnswer E) (run : List ℕ) (r : ℕ) → length run < m → r ≡ answer_of (Refused SmallRoom) 0 →
+pub read_short : {E : Type 0} (numbers : E → List ℕ) (m : ℕ) (a : LineAnswer E) (run : List ℕ) (r : ℕ) → length run < m → r ≡ answer_of (Err SmallRoom) 0 →
     ReadInto numbers m a run run r
 read_short numbers m a run r h x = record { answer = rw (lt-ltb (length run) m h) x; laid = rw (lt-ltb (length run) m h) }
 
@@ -47,11 +47,11 @@ module _ {E : Type 0} {render figures : E → List ℕ} {read : List ℕ → Lin
         let k = sym (told lines line a right) ∙ q in
         record { answer = rw (le-ltb (length run) m h, k) x; laid = rw (le-ltb (length run) m h, k) l }
 
-    pub whole_into : {e : E} {n : ℕ} {run' ns : List ℕ} → a ≡ whole e n → ns ≡ numbers e → run' ≡ put run 0 ns → r ≡ answer_of Fine n →
+    pub whole_into : {e : E} {n : ℕ} {run' ns : List ℕ} → a ≡ whole e n → ns ≡ numbers e → run' ≡ put run 0 ns → r ≡ answer_of (Ok tt) n →
         ReadInto numbers m (read line) run run' r
     whole_into q f l x = into q x (l ∙ ap (put run 0) f)
 
-    pub unfinished_into : a ≡ unfinished → r ≡ answer_of (Refused LineUnfinished) 0 → ReadInto numbers m (read line) run run r
+    pub unfinished_into : a ≡ unfinished → r ≡ answer_of (Err LineUnfinished) 0 → ReadInto numbers m (read line) run run r
     unfinished_into q x = into q x refl
 
     pub wrong_into : {n : ℕ} → a ≡ wrong n → r ≡ answer_number (number_of LineWrong) n → ReadInto numbers m (read line) run run r

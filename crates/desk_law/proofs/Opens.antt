@@ -5,9 +5,9 @@ use mathlib.Core.Bool.{Bool, true, false, not}
 use mathlib.Core.List.{List}
 use borrow.Author.Tests.{lt-ltb, le-ltb, not-true, not-false}
 use lib.ListN.{length, get_or}
+use Rattle.std.specs.Prelude.{Err}
 use Rattle.terms.specs.declared.Refusal.TheVariants.{SmallRoom, SettingsRange}
 use Rattle.terms.specs.declared.Settings.{Settings}
-use Rattle.terms.specs.declared.Verdict.TheVariants.{Refused}
 use Rattle.tables.specs.Lengths.{table_length}
 use Rattle.tables.specs.Put.{put}
 use Rattle.state_law.specs.declared.Session.{Session}
@@ -22,7 +22,7 @@ use Rattle.desk_law.specs.Calls.{opened_from, OpenedAs, sound_on}
 
 -- `found` is the outcome of the code's test whether the category is one
 module _ (gs : List ℕ) (found : Bool) (h : found ≡ is_category (get_or gs 0 0)) where
-  pub opened_out : (s : Session) → not found ≡ true → s ≡ fixed_session → record { verdict = Refused SettingsRange; session = s } ≡ opened_from gs
+  pub opened_out : (s : Session) → not found ≡ true → s ≡ fixed_session → record { verdict = Err SettingsRange; session = s } ≡ opened_from gs
   unfolding opened_from
   opened_out s t e = rw (← h, not-true found t, e)
 
@@ -31,11 +31,11 @@ module _ (gs : List ℕ) (found : Bool) (h : found ≡ is_category (get_or gs 0 
   opened_in g o t e f = rw (← h, not-false found t, ← e) f
 
 module _ (gs run : List ℕ) (r : ℕ) where
-  pub open_no-settings : length gs < settings_length → r ≡ answer_of (Refused SmallRoom) 0 → OpenedAs gs run run r
+  pub open_no-settings : length gs < settings_length → r ≡ answer_of (Err SmallRoom) 0 → OpenedAs gs run run r
   open_no-settings h e = record { answer = rw (lt-ltb (length gs) settings_length h) e; laid = rw (lt-ltb (length gs) settings_length h) }
 
   module _ (h : settings_length ≤ length gs) where
-    pub open_no-session : length run < session_length → r ≡ answer_of (Refused SmallRoom) 0 → OpenedAs gs run run r
+    pub open_no-session : length run < session_length → r ≡ answer_of (Err SmallRoom) 0 → OpenedAs gs run run r
     open_no-session k e =
         record {
           answer = rw (le-ltb (length gs) settings_length h, lt-ltb (length run) session_length k) e;

@@ -5,12 +5,12 @@ use mathlib.Core.Path.{◌≡◌, refl, ap, ◌∙◌}
 use mathlib.Core.List.{List, [], ◌∷◌}
 use borrow.Author.Tests.{lt-ltb, le-ltb}
 use lib.ListN.{length, set}
-use Rattle.terms.specs.declared.Refusal.{Refusal}
+use Rattle.std.specs.Prelude.{Ok, Err}
 use Rattle.terms.specs.declared.Refusal.TheVariants.{SmallRoom}
-use Rattle.terms.specs.declared.Verdict.TheVariants.{Fine, Refused}
 use Rattle.tables.specs.Put.{put}
 use Rattle.state_law.specs.declared.Session.{Session}
-use Rattle.resume_law.specs.declared.Comeback.{Comeback}
+use Rattle.resume_law.specs.declared.BadLine.{BadLine}
+use Rattle.resume_law.specs.Answers.{Comeback}
 use Rattle.resume_law.specs.declared.Resumed.{Resumed}
 use Rattle.resume_law.specs.Rebuilt.{Rebuilt}
 use Rattle.resume_law.specs.Calls.{ResumedBy, ResumedAs, ResumedLent}
@@ -22,16 +22,16 @@ use Rattle.desk_law.specs.Resuming.{resume_number, place_length, place_number, L
 -- ---- the answer and the place, by what saved bytes are answered
 
 module _ {a : Comeback} {r : ℕ} where
-  pub code_counts : {n : ℕ} → a ≡ Comeback.Counts n → r ≡ answer_of Fine 0 → r ≡ resume_number a
+  pub code_counts : {n : ℕ} → a ≡ Ok n → r ≡ answer_of (Ok tt) 0 → r ≡ resume_number a
   code_counts e x = rw e x
 
-  pub code_refused : {q : Refusal} {n : ℕ} → a ≡ Comeback.Refused q n → r ≡ answer_of (Refused q) 0 → r ≡ resume_number a
+  pub code_refused : {b : BadLine} → a ≡ Err b → r ≡ answer_of (Err b.refusal) 0 → r ≡ resume_number a
   code_refused e x = rw e x
 
-  pub place-counts : {n : ℕ} → a ≡ Comeback.Counts n → r ≡ n → r ≡ place_number a
+  pub place-counts : {n : ℕ} → a ≡ Ok n → r ≡ n → r ≡ place_number a
   place-counts e x = rw e x
 
-  pub place-refused : {q : Refusal} {n : ℕ} → a ≡ Comeback.Refused q n → r ≡ n → r ≡ place_number a
+  pub place-refused : {b : BadLine} → a ≡ Err b → r ≡ b.place → r ≡ place_number a
   place-refused e x = rw e x
 
 -- ---- the session and the place are written
@@ -54,13 +54,13 @@ resumed-laid {y} {run} {place} {run'} {ns} {r} {n} a s f l h p x =
 -- ---- two slices that may be too short, and then what the bytes come to
 
 module _ {x : Rebuilt} {run buys sells place : List ℕ} {r : ℕ} where
-  short-session : length run < session_length → r ≡ answer_of (Refused SmallRoom) 0 → ResumedLeft x run buys sells place run buys sells place r
+  short-session : length run < session_length → r ≡ answer_of (Err SmallRoom) 0 → ResumedLeft x run buys sells place run buys sells place r
   short-session h e =
       let s = lt-ltb (length run) session_length h in
       record { answer = rw s e; kept = rw s; bought = rw s; sold = rw s; placed = rw s }
 
   module _ (h : session_length ≤ length run) where
-    short-place : length place < place_length → r ≡ answer_of (Refused SmallRoom) 0 → ResumedLeft x run buys sells place run buys sells place r
+    short-place : length place < place_length → r ≡ answer_of (Err SmallRoom) 0 → ResumedLeft x run buys sells place run buys sells place r
     short-place k e =
         let s = le-ltb (length run) session_length h in
         let t = lt-ltb (length place) place_length k in
@@ -82,11 +82,11 @@ module _ {x : Rebuilt} {run buys sells place : List ℕ} {r : ℕ} where
 -- ---- resume
 
 module _ {bytes run buys sells place : List ℕ} {r : ℕ} where
-  pub resume_no-session : length run < session_length → r ≡ answer_of (Refused SmallRoom) 0 → ResumedInto bytes run buys sells place run buys sells place r
+  pub resume_no-session : length run < session_length → r ≡ answer_of (Err SmallRoom) 0 → ResumedInto bytes run buys sells place run buys sells place r
   resume_no-session h e = record { left = short-session h e }
 
   module _ (h : session_length ≤ length run) where
-    pub resume_no-place : length place < place_length → r ≡ answer_of (Refused SmallRoom) 0 → ResumedInto bytes run buys sells place run buys sells place r
+    pub resume_no-place : length place < place_length → r ≡ answer_of (Err SmallRoom) 0 → ResumedInto bytes run buys sells place run buys sells place r
     resume_no-place k e = record { left = short-place h k e }
 
     pub resume_done : {y : Resumed} {run' buys' sells' place' : List ℕ} → place_length ≤ length place → ResumedAs bytes buys sells buys' sells' y →
@@ -96,14 +96,14 @@ module _ {bytes run buys sells place : List ℕ} {r : ℕ} where
 -- ---- resume with lent scratch
 
 module _ {bytes run buys sells place bought sold room : List ℕ} {r : ℕ} where
-  pub lent_no-session : length run < session_length → r ≡ answer_of (Refused SmallRoom) 0 →
+  pub lent_no-session : length run < session_length → r ≡ answer_of (Err SmallRoom) 0 →
       ResumedLentInto bytes run buys sells place bought sold room run buys sells place bought sold room r
   lent_no-session h e =
       let s = lt-ltb (length run) session_length h in
       record { left = short-session h e; scratch = record { first = rw s; second = rw s; third = rw s } }
 
   module _ (h : session_length ≤ length run) where
-    pub lent_no-place : length place < place_length → r ≡ answer_of (Refused SmallRoom) 0 →
+    pub lent_no-place : length place < place_length → r ≡ answer_of (Err SmallRoom) 0 →
         ResumedLentInto bytes run buys sells place bought sold room run buys sells place bought sold room r
     lent_no-place k e =
         let s = le-ltb (length run) session_length h in

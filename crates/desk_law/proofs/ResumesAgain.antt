@@ -6,12 +6,12 @@ use mathlib.Core.Path.{◌≡◌, refl, sym, ap, ◌∙◌}
 use mathlib.Core.Bool.{Bool, true, false}
 use mathlib.Core.List.{List, [], ◌∷◌}
 use lib.ListN.{length, get_or}
+use Rattle.std.specs.Prelude.{Ok}
 use Rattle.terms.specs.declared.Event.{Event}
 use Rattle.terms.specs.declared.Order.{Order}
 use Rattle.terms.specs.declared.Refusal.{Refusal}
 use Rattle.terms.specs.declared.Refusal.TheVariants.{SmallRoom}
 use Rattle.terms.specs.declared.Settings.{Settings}
-use Rattle.terms.specs.declared.Verdict.TheVariants.{Fine}
 use Rattle.terms.specs.Settings.{settings_verdict}
 use Rattle.terms.proofs.Logic.{both}
 use Rattle.tables.specs.Tables.{decode, table_of}
@@ -25,7 +25,6 @@ use Rattle.soundness_law.specs.Sound.{sound, day_in}
 use Rattle.soundness_law.proofs.Days.{SoundDay, sound-day, opened-sound}
 use Rattle.engine_law.specs.Outcome.{outcome, after}
 use Rattle.engine_law.proofs.Kept.{outcome-sound, outcome_ten}
-use Rattle.resume_law.specs.declared.Comeback.{Comeback}
 use Rattle.resume_law.specs.Saved.{saved, any_event}
 use Rattle.resume_law.specs.Rebuilt.{Rebuilt, rebuilt, refused, resumed}
 use Rattle.resume_law.specs.Comes.{FoundAs}
@@ -67,7 +66,7 @@ unfolding after
 opened_empty g [] e = refl
 opened_empty g (x ∷ es) e = absurd (let z : ◌≡◌ {A = ℕ} 0 1 = cc in omega arith)
 
-readable_day : (n : ℕ) (g : Settings) (es : List Event) → settings_verdict g ≡ Fine → Readable (rebuilt n (any_event es) (after (opened g) es))
+readable_day : (n : ℕ) (g : Settings) (es : List Event) → settings_verdict g ≡ Ok tt → Readable (rebuilt n (any_event es) (after (opened g) es))
 readable_day n g es v =
     let w : SoundDay (after (opened g) es) = sound-day (after (opened g) es) (after-sound (opened g) es (opened-sound g v)) in
     record {
@@ -131,7 +130,7 @@ module _ (long : Bool) (bytes : List ℕ) {run buys sells place run' buys' sells
         λ i. record { session = s i; buys = bs i; sells = ss i }
 
   -- answered 0, it leaves what `resume::resume` leaves, with the count that stands in the place and the session that the numbers hold
-  left-resumed : r ≡ 0 → ResumedBy x buys sells buys' sells' (resumed_to (Comeback.Counts (get_or place' 0 0)) (session_from run'))
+  left-resumed : r ≡ 0 → ResumedBy x buys sells buys' sells' (resumed_to (Ok (get_or place' 0 0)) (session_from run'))
   left-resumed z =
       let w = zero-long p z in
       let l = left-tables p w in
@@ -141,7 +140,7 @@ module _ (long : Bool) (bytes : List ℕ) {run buys sells place run' buys' sells
 
 abbrev pub ResumedApp : List ℕ → List ℕ → List ℕ → List ℕ → List ℕ → List ℕ → List ℕ → Type 0
 ResumedApp bytes buys sells run' buys' sells' place' =
-    ResumedAs bytes buys sells buys' sells' (resumed_to (Comeback.Counts (get_or place' 0 0)) (session_from run'))
+    ResumedAs bytes buys sells buys' sells' (resumed_to (Ok (get_or place' 0 0)) (session_from run'))
 
 module _ {bytes run buys sells place run' buys' sells' place' : List ℕ} where
   pub resume_as : ResumedInto bytes run buys sells place run' buys' sells' place' 0 → ResumedApp bytes buys sells run' buys' sells' place'

@@ -7,6 +7,7 @@ use mathlib.Core.List.{List, [], ◌∷◌}
 use borrow.Author.Tests.{le-ltb}
 use lib.Dec.{ltb}
 use lib.ListN.{length, get_or}
+use Rattle.std.specs.Prelude.{Ok, Err}
 use Rattle.terms.specs.declared.Refusal.{Refusal}
 use Rattle.terms.specs.Refusals.{number_of}
 use Rattle.terms.specs.Truth.{◌⊓◌}
@@ -15,7 +16,7 @@ use Rattle.terms.proofs.Refusals.{refusal-number}
 use Rattle.tables.specs.Put.{put}
 use Rattle.state_law.specs.Opening.{fixed_session}
 use Rattle.engine_law.specs.Calls.{roomy}
-use Rattle.resume_law.specs.declared.Comeback.{Comeback}
+use Rattle.resume_law.specs.Answers.{Comeback, bad_at}
 use Rattle.resume_law.specs.Rebuilt.{Rebuilt}
 use Rattle.resume_law.specs.Calls.{ResumedBy, resumed_to, tables_long, resumed_if, resumed_on, all_long}
 use Rattle.resume_law.proofs.Finds.{refusal-keeps}
@@ -80,30 +81,30 @@ module _ {x : Rebuilt} {run buys sells place run' buys' sells' place' : List ℕ
     place_is = ap (λ (l : List ℕ). get_or l 0 0) left_laid.placed ∙ first-put place (place_number x.answer)
 
     -- BYTES COUNT: the code is 0, and the place is their count
-    pub counts_read : (n : ℕ) → x.answer ≡ Comeback.Counts n → (r ≡ 0) × (get_or place' 0 0 ≡ n)
+    pub counts_read : (n : ℕ) → x.answer ≡ Ok n → (r ≡ 0) × (get_or place' 0 0 ≡ n)
     counts_read n e = (left_laid.answer ∙ ap resume_number e, place_is ∙ ap place_number e)
 
     -- A REFUSAL: the code is its number, and the place is its place
-    pub refusal_read : (q : Refusal) (n : ℕ) → x.answer ≡ Comeback.Refused q n → (r ≡ number_of q) × (get_or place' 0 0 ≡ n)
-    refusal_read q n e = (let z : r ≡ resume_number (Comeback.Refused q n) = left_laid.answer ∙ ap resume_number e in omega arith, place_is ∙ ap place_number e)
+    pub refusal_read : (q : Refusal) (n : ℕ) → x.answer ≡ bad_at q n → (r ≡ number_of q) × (get_or place' 0 0 ≡ n)
+    refusal_read q n e = (let z : r ≡ resume_number (bad_at q n) = left_laid.answer ∙ ap resume_number e in omega arith, place_is ∙ ap place_number e)
 
   -- THE CODE IS 0 only where bytes count, and then both slices were long enough
   pub zero-long : r ≡ 0 → kept run place ≡ true
   zero-long z = cases (kept run place) (λ w. w) (λ s. absurd (let one = (short_writes_nothing s).0 in omega arith))
 
-  pub zero_read : r ≡ 0 → x.answer ≡ Comeback.Counts (get_or place' 0 0)
+  pub zero_read : r ≡ 0 → x.answer ≡ Ok (get_or place' 0 0)
   zero_read z = go x.answer (sym z ∙ (left_laid (zero-long z)).answer) (place_is (zero-long z))
     where
-      go : (a : Comeback) → 0 ≡ resume_number a → get_or place' 0 0 ≡ place_number a → a ≡ Comeback.Counts (get_or place' 0 0)
-      go (Comeback.Counts n) e l = ap Comeback.Counts (sym l)
-      go (Comeback.Refused q n) e l = absurd (omega (arith, (refusal-number q).0))
+      go : (a : Comeback) → 0 ≡ resume_number a → get_or place' 0 0 ≡ place_number a → a ≡ Ok (get_or place' 0 0)
+      go (Ok n) e l = ap Ok (sym l)
+      go (Err b) e l = absurd (omega (arith, (refusal-number b.refusal).0))
 
-  refused_else : kept run place ≡ true → (r ≡ 0 → ⊥) → (q : Refusal) × (n : ℕ) × (x.answer ≡ Comeback.Refused q n)
+  refused_else : kept run place ≡ true → (r ≡ 0 → ⊥) → (q : Refusal) × (n : ℕ) × (x.answer ≡ bad_at q n)
   refused_else w z = go x.answer refl
     where
-      go : (a : Comeback) → x.answer ≡ a → (q : Refusal) × (n : ℕ) × (x.answer ≡ Comeback.Refused q n)
-      go (Comeback.Counts n) e = absurd (z (counts_read w n e).0)
-      go (Comeback.Refused q n) e = (q, n, e)
+      go : (a : Comeback) → x.answer ≡ a → (q : Refusal) × (n : ℕ) × (x.answer ≡ bad_at q n)
+      go (Ok n) e = absurd (z (counts_read w n e).0)
+      go (Err b) e = (b.refusal, b.place, e)
 
 -- ---- both calls are of this form
 
@@ -117,7 +118,7 @@ module _ (long : Bool) (bytes : List ℕ) {run buys sells place run' buys' sells
   abbrev x : Rebuilt
   x = resumed_if long bytes
 
-  still : (b : Bool) (q : Refusal) (n : ℕ) → (resumed_if b bytes).answer ≡ Comeback.Refused q n →
+  still : (b : Bool) (q : Refusal) (n : ℕ) → (resumed_if b bytes).answer ≡ bad_at q n →
       ((resumed_if b bytes).moved ≡ false) × ((resumed_if b bytes).day.session ≡ fixed_session)
   still true q n e = refusal-keeps bytes q n e
   still false q n e = (refl, refl)
@@ -137,7 +138,7 @@ module _ (long : Bool) (bytes : List ℕ) {run buys sells place run' buys' sells
   pub zero-resumed : r ≡ 0 → long ≡ true
   zero-resumed z = go long (zero_read p z)
     where
-      go : (b : Bool) {n : ℕ} → (resumed_if b bytes).answer ≡ Comeback.Counts n → b ≡ true
+      go : (b : Bool) {n : ℕ} → (resumed_if b bytes).answer ≡ Ok n → b ≡ true
       go true e = refl
       go false e = absurd (let z : ◌≡◌ {A = ℕ} 0 1 = cc in omega arith)
 

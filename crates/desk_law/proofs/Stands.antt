@@ -4,9 +4,9 @@ use mathlib.Core.Path.{◌≡◌}
 use mathlib.Core.List.{List, [], ◌∷◌}
 use borrow.Author.Tests.{lt-ltb, le-ltb}
 use lib.ListN.{length}
+use Rattle.std.specs.Prelude.{Ok, Err}
 use Rattle.terms.specs.declared.Refusal.{Refusal}
 use Rattle.terms.specs.declared.Refusal.TheVariants.{SmallRoom}
-use Rattle.terms.specs.declared.Verdict.TheVariants.{Fine, Refused}
 use Rattle.tables.specs.Put.{put}
 use Rattle.state_law.specs.declared.Session.{Session}
 use Rattle.engine_law.specs.declared.Standing.{Standing}
@@ -27,22 +27,22 @@ standing_packed st n e = rw e
 
 -- ---- by the verdict
 
-pub stood-not : {a : Stood} {standing : List ℕ} {r : ℕ} {v : Refusal} → a.verdict ≡ Refused v → r ≡ answer_of (Refused v) 0 → LaidStood a standing standing r
+pub stood-not : {a : Stood} {standing : List ℕ} {r : ℕ} {v : Refusal} → a.verdict ≡ Err v → r ≡ answer_of (Err v) 0 → LaidStood a standing standing r
 stood-not e k = record { answer = rw e k; laid = rw e }
 
-pub stood-laid : {a : Stood} {standing standing' ns : List ℕ} {r : ℕ} → a.verdict ≡ Fine → ns ≡ standing_numbers a.standing →
-    standing' ≡ put standing 0 ns → r ≡ answer_of Fine 0 → LaidStood a standing standing' r
+pub stood-laid : {a : Stood} {standing standing' ns : List ℕ} {r : ℕ} → a.verdict ≡ Ok tt → ns ≡ standing_numbers a.standing →
+    standing' ≡ put standing 0 ns → r ≡ answer_of (Ok tt) 0 → LaidStood a standing standing' r
 stood-laid e n l k = record { answer = rw e k; laid = rw (e, ← n) l }
 
 -- ---- two slices that may be too short, and then the engine's call
 
 module _ {run buys sells standing : List ℕ} {r : ℕ} where
-  pub stand_no-session : length run < session_length → r ≡ answer_of (Refused SmallRoom) 0 → StandingOn run buys sells standing standing r
+  pub stand_no-session : length run < session_length → r ≡ answer_of (Err SmallRoom) 0 → StandingOn run buys sells standing standing r
   unfolding stood_on
   stand_no-session h e = let s = lt-ltb (length run) session_length h in record { stood = record { answer = rw s e; laid = rw s } }
 
   module _ (h : session_length ≤ length run) where
-    pub stand_no-standing : length standing < standing_length → r ≡ answer_of (Refused SmallRoom) 0 → StandingOn run buys sells standing standing r
+    pub stand_no-standing : length standing < standing_length → r ≡ answer_of (Err SmallRoom) 0 → StandingOn run buys sells standing standing r
     unfolding stood_on
     stand_no-standing k e =
         let s = le-ltb (length run) session_length h in

@@ -6,13 +6,13 @@ use mathlib.Core.Bool.{Bool, true, false, ◌&&◌, cond}
 use mathlib.Core.List.{List}
 use lib.Dec.{leb, eqb, ltb}
 use lib.ListN.{length, get_or}
+use Rattle.std.specs.Prelude.{Ok, Err}
 use Rattle.terms.specs.declared.Side.{Side}
 use Rattle.terms.specs.declared.Life.{Life}
 use Rattle.terms.specs.declared.Kind.TheVariants.{Limit}
 use Rattle.terms.specs.declared.Act.TheVariants.{Enter}
 use Rattle.terms.specs.declared.Refusal.TheVariants.{SmallRoom}
-use Rattle.terms.specs.declared.Verdict.{Verdict}
-use Rattle.terms.specs.declared.Verdict.TheVariants.{Fine, Refused}
+use Rattle.terms.specs.Refusals.{Verdict}
 use Rattle.terms.specs.Truth.{between}
 use Rattle.terms.proofs.Refusals.{refusal-number}
 use Rattle.tables.specs.Put.{put}
@@ -30,15 +30,15 @@ use Rattle.desk_packing_law.specs.Answers.{answer_of}
 use Rattle.desk_law.specs.Standings.{standing_length, standing_numbers, stood_on, standing_by, StandingOn}
 
 -- only a verdict without a refusal is answered 0
-done_fine : (v : Verdict) → 0 ≡ answer_of v 0 → v ≡ Fine
-done_fine Fine e = refl
-done_fine (Refused r) e = absurd (omega (arith, (refusal-number r).0))
+done_fine : (v : Verdict) → 0 ≡ answer_of v 0 → v ≡ Ok tt
+done_fine (Ok _) e = refl
+done_fine (Err r) e = absurd (omega (arith, (refusal-number r).0))
 
 -- so both slices were long enough
-long-stood : (short : Stood) (a b : Bool) (st : Stood) → short.verdict ≡ Refused SmallRoom → (cond a short (cond b short st)).verdict ≡ Fine →
+long-stood : (short : Stood) (a b : Bool) (st : Stood) → short.verdict ≡ Err SmallRoom → (cond a short (cond b short st)).verdict ≡ Ok tt →
     cond a short (cond b short st) ≡ st
-long-stood short true b st e f = let no : Refused SmallRoom ≡ Fine = sym e ∙ f in cc
-long-stood short false true st e f = let no : Refused SmallRoom ≡ Fine = sym e ∙ f in cc
+long-stood short true b st e f = let no : ◌≡◌ {A = Verdict} (Err SmallRoom) (Ok tt) = sym e ∙ f in cc
+long-stood short false true st e f = let no : ◌≡◌ {A = Verdict} (Err SmallRoom) (Ok tt) = sym e ∙ f in cc
 long-stood short false false st e f = refl
 
 flagged : (b : Bool) → eqb (flag b) 1 ≡ b
@@ -49,13 +49,13 @@ module _ (run buys sells standing ns : List ℕ) (a : StandingOn run buys sells 
   abbrev st : Standing
   st = (stood_on run buys sells standing).standing
 
-  fine : (stood_on run buys sells standing).verdict ≡ Fine
+  fine : (stood_on run buys sells standing).verdict ≡ Ok tt
   fine = done_fine (stood_on run buys sells standing).verdict a.stood.answer
 
-  shown : standing_call (session_from run) buys sells ≡ record { verdict = Fine; standing = st }
+  shown : standing_call (session_from run) buys sells ≡ record { verdict = Ok tt; standing = st }
   unfolding stood_on
   shown =
-      let long = long-stood (record { verdict = Refused SmallRoom; standing = no_standing }) (ltb (length run) session_length) (ltb (length standing) standing_length) (standing_call (session_from run) buys sells) refl fine in
+      let long = long-stood (record { verdict = Err SmallRoom; standing = no_standing }) (ltb (length run) session_length) (ltb (length standing) standing_length) (standing_call (session_from run) buys sells) refl fine in
       sym long ∙ (λ i. record { verdict = fine i; standing = st })
 
   laid : ns ≡ put standing 0 (standing_numbers st)

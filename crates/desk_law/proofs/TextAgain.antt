@@ -7,10 +7,10 @@ use mathlib.Core.List.{List, [], ◌++◌}
 use borrow.Author.Tests.{le-ltb}
 use lib.Dec.{ltb}
 use lib.ListN.{length, drop}
+use Rattle.std.specs.Prelude.{Ok, Err}
 use Rattle.terms.specs.declared.Event.{Event}
 use Rattle.terms.specs.declared.Settings.{Settings}
-use Rattle.terms.specs.declared.Verdict.{Verdict}
-use Rattle.terms.specs.declared.Verdict.TheVariants.{Fine, Refused}
+use Rattle.terms.specs.Refusals.{Verdict}
 use Rattle.terms.specs.declared.Refusal.TheVariants.{SmallRoom}
 use Rattle.terms.specs.Sizes.{line_room}
 use Rattle.terms.proofs.Logic.{by}
@@ -50,8 +50,8 @@ unfolding called
 called_ten s e buys sells room t = go (call_verdict s e buys sells room)
   where
     go : (v : Verdict) → Ten (decided v (day_in s buys sells) (act (day_in s buys sells) e)).day.session
-    go Fine = act_ten (day_in s buys sells) e t
-    go (Refused r) = t
+    go (Ok _) = act_ten (day_in s buys sells) e t
+    go (Err r) = t
 
 settings_ten : (l : Lent) (a : LineAnswer Settings) → Ten l.session → Ten (settings_turn calls l a).world.session
 unfolding calls
@@ -116,14 +116,14 @@ feed_calls =
     }
   where
     ten : (run : Run) (buys sells room bytes out : List ℕ) (v : Verdict) → Ten run.session → Ten (fed_by v run buys sells room bytes out).world.session
-    ten run buys sells room bytes out Fine t = fed_ten (length out) run.stage (lent_of run.session buys sells room) bytes t
-    ten run buys sells room bytes out (Refused r) t = t
+    ten run buys sells room bytes out (Ok _) t = fed_ten (length out) run.stage (lent_of run.session buys sells room) bytes t
+    ten run buys sells room bytes out (Err r) t = t
 
     idle : (run : Run) (buys sells room bytes out : List ℕ) (v : Verdict) → is_refusal (fed_by v run buys sells room bytes out).stop ≡ true →
         Idle buys sells room (fed_by v run buys sells room bytes out)
-    idle run buys sells room bytes out Fine e =
+    idle run buys sells room bytes out (Ok _) e =
         absurd (true≢false (sym e ∙ fed_fine (length out) run.stage (lent_of run.session buys sells room) bytes))
-    idle run buys sells room bytes out (Refused r) e = record { bought = refl; sold = refl; told = refl; silent = refl }
+    idle run buys sells room bytes out (Err r) e = record { bought = refl; sold = refl; told = refl; silent = refl }
 
 pub end-calls : Calls ended_of
 unfolding ended_of end_behind
@@ -204,8 +204,8 @@ unfolding fed_of
 of_lines run buys sells room bytes out = go (feed_verdict buys sells room)
   where
     go : (v : Verdict) → is_refusal (fed_by v run buys sells room bytes out).stop ≡ false → fed_by v run buys sells room bytes out ≡ lines_of run buys sells room bytes out
-    go Fine e = refl
-    go (Refused r) e = absurd (true≢false e)
+    go (Ok _) e = refl
+    go (Err r) e = absurd (true≢false e)
 
 module _ (run bytes buys sells room out counts run' buys' sells' room' out' counts' : List ℕ) (r : ℕ) (h : run_length ≤ length run)
     (k : counts_length ≤ length counts) where

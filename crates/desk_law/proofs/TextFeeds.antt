@@ -6,8 +6,8 @@ use mathlib.Core.Bool.{Bool, true, false}
 use mathlib.Core.List.{List, [], ◌∷◌}
 use borrow.Author.Tests.{lt-ltb, le-ltb}
 use lib.ListN.{length, set}
+use Rattle.std.specs.Prelude.{Ok, Err}
 use Rattle.terms.specs.declared.Refusal.TheVariants.{SmallRoom}
-use Rattle.terms.specs.declared.Verdict.TheVariants.{Fine, Refused}
 use Rattle.tables.specs.Put.{put}
 use Rattle.feed_law.specs.declared.Run.{Run}
 use Rattle.feed_law.specs.declared.Taken.{Taken}
@@ -21,11 +21,11 @@ use Rattle.desk_law.specs.Feeding.{start_verdict, StartedAs, counts_length, stop
 -- ---- start
 
 module _ (run : List ℕ) (r : ℕ) where
-  pub start-no-run : length run < run_length → r ≡ answer_of (Refused SmallRoom) 0 → StartedAs run run r
+  pub start-no-run : length run < run_length → r ≡ answer_of (Err SmallRoom) 0 → StartedAs run run r
   unfolding start_verdict
   start-no-run h e = let s = lt-ltb (length run) run_length h in record { answer = rw s e; laid = rw s }
 
-  pub start_done : (b : Run) (run' : List ℕ) → run_length ≤ length run → b ≡ fresh_run → run' ≡ put run 0 (run_numbers b) → r ≡ answer_of Fine 0 →
+  pub start_done : (b : Run) (run' : List ℕ) → run_length ≤ length run → b ≡ fresh_run → run' ≡ put run 0 (run_numbers b) → r ≡ answer_of (Ok tt) 0 →
       StartedAs run run' r
   unfolding start_verdict
   start_done b run' h e l a = let s = le-ltb (length run) run_length h in record { answer = rw s a; laid = rw (s, ← e) l }
@@ -56,7 +56,7 @@ module _ {run counts : List ℕ} {t : Taken} {r : ℕ} {refused : Bool} (q : ref
 
 module _ {of : Feed} {run bytes buys sells room out counts : List ℕ} {r : ℕ} where
   -- the run's numbers or the counts are too few
-  pub feed_no-run : length run < run_length → r ≡ answer_of (Refused SmallRoom) 0 →
+  pub feed_no-run : length run < run_length → r ≡ answer_of (Err SmallRoom) 0 →
       FedAs of run bytes buys sells room out counts run buys sells room out counts r
   unfolding fed_on
   feed_no-run h e =
@@ -64,7 +64,7 @@ module _ {of : Feed} {run bytes buys sells room out counts : List ℕ} {r : ℕ}
       record { left = record { answer = rw s e; kept = rw s; bought = rw s; sold = rw s; told = rw s; printed = rw s; counted = rw s } }
 
   module _ (h : run_length ≤ length run) where
-    pub feed_no-counts : length counts < counts_length → r ≡ answer_of (Refused SmallRoom) 0 →
+    pub feed_no-counts : length counts < counts_length → r ≡ answer_of (Err SmallRoom) 0 →
         FedAs of run bytes buys sells room out counts run buys sells room out counts r
     unfolding fed_on
     feed_no-counts k e =

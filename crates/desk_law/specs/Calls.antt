@@ -1,10 +1,9 @@
 -- THE CALLS ON A SESSION, on numbers that an app keeps: what each call answers, and what it leaves in every lent slice.
-use Rattle.std.specs.Prelude.{ℕ, ◌≤◌, ◌≡◌, cond, List, [], ltb, eqb, length, get_or}
+use Rattle.std.specs.Prelude.{ℕ, ◌≤◌, ◌≡◌, cond, List, [], ltb, eqb, length, get_or, Ok, Err}
 use Rattle.terms.specs.declared.Event.{Event}
 use Rattle.terms.specs.declared.Refusal.TheVariants.{SmallRoom, Unsound, SettingsRange}
 use Rattle.terms.specs.declared.Side.TheVariants.{Buy, Sell}
-use Rattle.terms.specs.declared.Verdict.{Verdict}
-use Rattle.terms.specs.declared.Verdict.TheVariants.{Fine, Refused}
+use Rattle.terms.specs.Refusals.{Verdict}
 use Rattle.tables.specs.Lengths.{table_length}
 use Rattle.tables.specs.Records.{records_of}
 use Rattle.tables.specs.Put.{put}
@@ -12,7 +11,7 @@ use Rattle.state_law.specs.declared.Session.{Session}
 use Rattle.state_law.specs.declared.Opened.{Opened}
 use Rattle.state_law.specs.Opening.{opening_of, fixed_session}
 use Rattle.soundness_law.specs.Sound.{sound, day_in}
-use Rattle.engine_law.specs.declared.Answer.{Answer}
+use Rattle.engine_law.specs.Answers.{Answer}
 use Rattle.engine_law.specs.declared.Applied.{Applied}
 use Rattle.engine_law.specs.Outcome.{Outcome}
 use Rattle.engine_law.specs.Calls.{roomy, called, table_by, AppliedAs, view_call}
@@ -30,11 +29,11 @@ where_long xs n ys m long short = cond (ltb (length xs) n) short (cond (ltb (len
 
 -- settings whose category is above 7 are out of range; others are opened: "a refused one returns its number and one fixed session"
 unfoldable pub opened_from : List ℕ → Opened
-opened_from gs = cond (is_category (get_or gs 0 0)) (opening_of (settings_from gs)) (record { verdict = Refused SettingsRange; session = fixed_session })
+opened_from gs = cond (is_category (get_or gs 0 0)) (opening_of (settings_from gs)) (record { verdict = Err SettingsRange; session = fixed_session })
 
 -- a slice that is too short is answered 1, as a short table, and nothing is written
 pub record OpenedAs (gs run run' : List ℕ) (r : ℕ) : Type 0 where
-  pub answer : r ≡ answer_of (where_long gs settings_length run session_length (opened_from gs).verdict (Refused SmallRoom)) 0
+  pub answer : r ≡ answer_of (where_long gs settings_length run session_length (opened_from gs).verdict (Err SmallRoom)) 0
   pub laid : run' ≡ where_long gs settings_length run session_length (put run 0 (session_numbers (opened_from gs).session)) run
 
 -- ---- apply
@@ -44,16 +43,16 @@ unfoldable pub called_on : List ℕ → List ℕ → List ℕ → List ℕ → L
 called_on run event buys sells room =
     where_long run session_length event event_length
     (called (session_from run) (event_from event) buys sells room)
-    (record { verdict = Refused SmallRoom; day = day_in (session_from run) buys sells; reports = [] })
+    (record { verdict = Err SmallRoom; day = day_in (session_from run) buys sells; reports = [] })
 
 -- the verdict on numbers that are no session's: 1, "a table under .. numbers", or 2, "session not sound"
 unfoldable pub strange_verdict : List ℕ → List ℕ → List ℕ → Verdict
-strange_verdict buys sells room = cond (roomy buys sells room) (Refused Unsound) (Refused SmallRoom)
+strange_verdict buys sells room = cond (roomy buys sells room) (Err Unsound) (Err SmallRoom)
 
 -- the session's numbers afterwards: an accepted event writes them anew; "All refusals return the number and the session given, and write nothing."
 abbrev pub run_by : Verdict → Session → List ℕ → List ℕ
-run_by Fine s run = put run 0 (session_numbers s)
-run_by (Refused r) s run = run
+run_by (Ok _) s run = put run 0 (session_numbers s)
+run_by (Err r) s run = run
 
 -- the answer, and the session's numbers, both tables and the room afterwards, given what the event comes to
 pub record LeftBy (o : Outcome) (run buys sells room run' buys' sells' room' : List ℕ) (r : ℕ) : Type 0 where
@@ -68,18 +67,18 @@ AppliedOn run event buys sells room run' buys' sells' room' r = LeftBy (called_o
 
 -- the engine's answer as a number
 abbrev pub applied_number : Answer → ℕ
-applied_number (Answer.Reported count) = answer_of Fine count
-applied_number (Answer.Refused r) = answer_of (Refused r) 0
+applied_number (Ok count) = answer_of (Ok tt) count
+applied_number (Err r) = answer_of (Err r) 0
 
 -- it counts few reports
 abbrev pub FewReported : Answer → Type 0
-FewReported (Answer.Reported count) = count ≤ count_most
-FewReported (Answer.Refused r) = Unit
+FewReported (Ok count) = count ≤ count_most
+FewReported (Err r) = Unit
 
 -- the session's run by the engine's answer
 abbrev pub run_for : Answer → Session → List ℕ → List ℕ
-run_for (Answer.Reported count) s run = put run 0 (session_numbers s)
-run_for (Answer.Refused r) s run = run
+run_for (Ok count) s run = put run 0 (session_numbers s)
+run_for (Err r) s run = run
 
 pub record LaidApplied (a : Applied) (run run' : List ℕ) (r : ℕ) : Type 0 where
   pub answer : r ≡ applied_number a.answer

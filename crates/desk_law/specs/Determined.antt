@@ -1,6 +1,6 @@
 -- DETERMINACY AT THE BOUNDARY: a contract allows one result for one input. Two results of a call coincide, with every lent number.
 use Rattle.std.specs.Prelude.{ℕ, ◌≡◌, List}
-use Rattle.terms.specs.declared.Verdict.{Verdict}
+use Rattle.terms.specs.Refusals.{Verdict}
 use Rattle.lines_text_law.specs.Grammar.{LineAnswer}
 use Rattle.feed_law.specs.Feeds.{Feed}
 use Rattle.desk_law.specs.Calls.{OpenedAs, AppliedOn, sound_on, view_on}

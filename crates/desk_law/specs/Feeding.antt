@@ -1,8 +1,7 @@
 -- TEXT IN AND TEXT OUT, with a run of the program that an app keeps as numbers: what each call answers and leaves in every lent slice.
-use Rattle.std.specs.Prelude.{ℕ, ◌≡◌, Bool, true, false, cond, List, [], ◌∷◌, ltb, length}
+use Rattle.std.specs.Prelude.{ℕ, ◌≡◌, Bool, true, false, cond, List, [], ◌∷◌, ltb, length, Ok, Err}
 use Rattle.terms.specs.declared.Refusal.TheVariants.{SmallRoom}
-use Rattle.terms.specs.declared.Verdict.{Verdict}
-use Rattle.terms.specs.declared.Verdict.TheVariants.{Fine, Refused}
+use Rattle.terms.specs.Refusals.{Verdict}
 use Rattle.tables.specs.Put.{put}
 use Rattle.feed_law.specs.declared.Run.{Run}
 use Rattle.feed_law.specs.declared.Stop.{Stop}
@@ -18,11 +17,11 @@ use Rattle.desk_packing_law.specs.Stages.{run_length, run_numbers, run_from}
 
 -- 1 if the slice for the run is too short
 unfoldable pub start_verdict : List ℕ → Verdict
-start_verdict run = cond (ltb (length run) run_length) (Refused SmallRoom) Fine
+start_verdict run = cond (ltb (length run) run_length) (Err SmallRoom) (Ok tt)
 
 abbrev pub started_by : Verdict → List ℕ → List ℕ
-started_by Fine run = put run 0 (run_numbers fresh_run)
-started_by (Refused r) run = run
+started_by (Ok _) run = put run 0 (run_numbers fresh_run)
+started_by (Err r) run = run
 
 pub record StartedAs (run run' : List ℕ) (r : ℕ) : Type 0 where
   pub answer : r ≡ answer_of (start_verdict run) 0
@@ -39,7 +38,7 @@ abbrev pub stop_number : Stop → ℕ
 stop_number Stop.Waits = answer_number 0 0
 stop_number Stop.Full = answer_number 0 1
 stop_number Stop.Over = answer_number 0 2
-stop_number (Stop.Refused r) = answer_of (Refused r) 0
+stop_number (Stop.Refused r) = answer_of (Err r) 0
 
 abbrev pub is_refusal : Stop → Bool
 is_refusal Stop.Waits = false

@@ -1,7 +1,6 @@
 -- THE CALLS THAT READ A LINE into numbers: what each call answers, and what it leaves in the lent slice.
-use Rattle.std.specs.Prelude.{ℕ, ◌≡◌, cond, List, ltb, length}
+use Rattle.std.specs.Prelude.{ℕ, ◌≡◌, cond, List, ltb, length, Err}
 use Rattle.terms.specs.declared.Refusal.TheVariants.{SmallRoom}
-use Rattle.terms.specs.declared.Verdict.TheVariants.{Refused}
 use Rattle.tables.specs.Put.{put}
 use Rattle.lines_text_law.specs.Grammar.{LineAnswer, whole, unfinished, wrong}
 use Rattle.lines_reading_law.specs.Answers.{read_code, count_of, read_event, read_settings}
@@ -22,7 +21,7 @@ run_read numbers (wrong n) run = run
 
 -- the contract of a reading call, for values of n numbers, given the reader's answer a; a slice that is too short is answered as a short table
 pub record ReadInto {E : Type 0} (numbers : E → List ℕ) (n : ℕ) (a : LineAnswer E) (run run' : List ℕ) (r : ℕ) : Type 0 where
-  pub answer : r ≡ cond (ltb (length run) n) (answer_of (Refused SmallRoom) 0) (read_number a)
+  pub answer : r ≡ cond (ltb (length run) n) (answer_of (Err SmallRoom) 0) (read_number a)
   pub laid : run' ≡ cond (ltb (length run) n) run (run_read numbers a run)
 
 abbrev pub EventReadInto : List ℕ → List ℕ → List ℕ → ℕ → Type 0

@@ -1,10 +1,9 @@
 -- COMING BACK AFTER THE SYSTEM KILLS US (document 02, item 4), with numbers that an app keeps: what each call that resumes answers, and what it
 -- leaves in every lent slice.
-use Rattle.std.specs.Prelude.{ℕ, ◌≡◌, false, List, [], ◌∷◌}
+use Rattle.std.specs.Prelude.{ℕ, ◌≡◌, false, List, [], ◌∷◌, Ok, Err}
 use Rattle.terms.specs.declared.Refusal.TheVariants.{SmallRoom}
-use Rattle.terms.specs.declared.Verdict.TheVariants.{Refused}
 use Rattle.tables.specs.Put.{put}
-use Rattle.resume_law.specs.declared.Comeback.{Comeback}
+use Rattle.resume_law.specs.Answers.{Comeback}
 use Rattle.resume_law.specs.declared.Resumed.{Resumed}
 use Rattle.resume_law.specs.Rebuilt.{Rebuilt}
 use Rattle.resume_law.specs.Calls.{table_after, resumed_if, resumed_on, all_long, Scrubbed}
@@ -17,8 +16,8 @@ use Rattle.desk_law.specs.Calls.{where_long}
 
 -- 0 where a session comes back, else the refusal. It is the code alone: saved bytes may be more than an answer can count
 abbrev pub resume_number : Comeback → ℕ
-resume_number (Comeback.Counts n) = answer_number 0 0
-resume_number (Comeback.Refused r n) = answer_of (Refused r) 0
+resume_number (Ok n) = answer_number 0 0
+resume_number (Err b) = answer_of (Err b.refusal) 0
 
 -- how many numbers are lent for the place
 abbrev pub place_length : ℕ
@@ -26,8 +25,8 @@ place_length = 1
 
 -- what is written there: it "says how many bytes count", or the place of the refusal; "places count from the first saved byte"
 abbrev pub place_number : Comeback → ℕ
-place_number (Comeback.Counts n) = n
-place_number (Comeback.Refused r n) = n
+place_number (Ok n) = n
+place_number (Err b) = b.place
 
 -- ---- what is written
 
@@ -45,7 +44,7 @@ where_kept run place long short = where_long run session_length place place_leng
 -- settings and all whole events"; "any refusal leaves the tables as lent". Where the slice for the session or for the place is too short, the
 -- answer is 1, as for a short table, and nothing at all is written
 pub record ResumedLeft (x : Rebuilt) (run buys sells place run' buys' sells' place' : List ℕ) (r : ℕ) : Type 0 where
-  pub answer : r ≡ where_kept run place (resume_number x.answer) (answer_of (Refused SmallRoom) 0)
+  pub answer : r ≡ where_kept run place (resume_number x.answer) (answer_of (Err SmallRoom) 0)
   pub kept : run' ≡ where_kept run place (put run 0 (session_numbers x.day.session)) run
   pub bought : buys' ≡ where_kept run place (table_after x.moved x.day.buys buys) buys
   pub sold : sells' ≡ where_kept run place (table_after x.moved x.day.sells sells) sells

@@ -1,8 +1,7 @@
 -- WHERE A SESSION STANDS, for an app that keeps it as numbers: what the call answers, and what it leaves in the slice for the standing.
-use Rattle.std.specs.Prelude.{ℕ, ◌≡◌, List, [], ◌∷◌}
+use Rattle.std.specs.Prelude.{ℕ, ◌≡◌, List, [], ◌∷◌, Ok, Err}
 use Rattle.terms.specs.declared.Refusal.TheVariants.{SmallRoom}
-use Rattle.terms.specs.declared.Verdict.{Verdict}
-use Rattle.terms.specs.declared.Verdict.TheVariants.{Fine, Refused}
+use Rattle.terms.specs.Refusals.{Verdict}
 use Rattle.tables.specs.Put.{put}
 use Rattle.engine_law.specs.declared.Standing.{Standing}
 use Rattle.engine_law.specs.declared.Stood.{Stood}
@@ -40,12 +39,12 @@ unfoldable pub stood_on : List ℕ → List ℕ → List ℕ → List ℕ → St
 stood_on run buys sells standing =
     where_long run session_length standing standing_length
     (standing_call (session_from run) buys sells)
-    (record { verdict = Refused SmallRoom; standing = no_standing })
+    (record { verdict = Err SmallRoom; standing = no_standing })
 
 -- the slice for the standing afterwards: its numbers are written to the front; a refusal writes nothing
 abbrev pub standing_by : Verdict → Standing → List ℕ → List ℕ
-standing_by Fine st run = put run 0 (standing_numbers st)
-standing_by (Refused r) st run = run
+standing_by (Ok _) st run = put run 0 (standing_numbers st)
+standing_by (Err r) st run = run
 
 -- the answer, and that slice afterwards, given what the call comes to
 pub record LaidStood (a : Stood) (standing standing' : List ℕ) (r : ℕ) : Type 0 where

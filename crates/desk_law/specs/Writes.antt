@@ -1,10 +1,9 @@
 -- THE CALLS THAT WRITE A LINE from numbers: what each call answers, and what it leaves in the line room.
-use Rattle.std.specs.Prelude.{ℕ, ◌≤◌, ◌≡◌, cond, List, [], ltb, length, get_or, Option, Some, None}
+use Rattle.std.specs.Prelude.{ℕ, ◌≤◌, ◌≡◌, cond, List, [], ltb, length, get_or, Option, Some, None, Ok, Err}
 use Rattle.terms.specs.declared.Event.{Event}
 use Rattle.terms.specs.declared.Refusal.TheVariants.{SmallRoom, NumberRange, SettingsRange}
 use Rattle.terms.specs.declared.Report.{Report}
-use Rattle.terms.specs.declared.Verdict.{Verdict}
-use Rattle.terms.specs.declared.Verdict.TheVariants.{Fine, Refused}
+use Rattle.terms.specs.Refusals.{Verdict}
 use Rattle.tables.specs.Lengths.{record_length}
 use Rattle.lines_reading_law.specs.Lines.{render_event, render_settings, event_figures, settings_figures}
 use Rattle.lines_writing_law.specs.declared.Wrote.{Wrote}
@@ -19,8 +18,8 @@ use Rattle.desk_packing_law.specs.Answers.{count_most, answer_of}
 -- ---- a writer's answer as a number
 
 abbrev pub wrote_number : Wrote → ℕ
-wrote_number (Wrote.Written n) = answer_of Fine n
-wrote_number (Wrote.Refused r) = answer_of (Refused r) 0
+wrote_number (Wrote.Written n) = answer_of (Ok tt) n
+wrote_number (Wrote.Refused r) = answer_of (Err r) 0
 
 -- a line that was written has no more bytes than an answer can count
 abbrev pub Few : Wrote → Type 0
@@ -36,8 +35,8 @@ pub record WrittenOn (v : Verdict) (line room room' : List ℕ) (r : ℕ) : Type
 
 unfoldable pub settings_verdict_on : List ℕ → List ℕ → Verdict
 settings_verdict_on run room =
-    cond (ltb (length run) settings_length) (Refused SmallRoom)
-    (cond (is_category (get_or run 0 0)) (line_verdict room (settings_figures (settings_from run))) (Refused SettingsRange))
+    cond (ltb (length run) settings_length) (Err SmallRoom)
+    (cond (is_category (get_or run 0 0)) (line_verdict room (settings_figures (settings_from run))) (Err SettingsRange))
 
 abbrev pub SettingsWrittenOn : List ℕ → List ℕ → List ℕ → ℕ → Type 0
 SettingsWrittenOn run room room' r = WrittenOn (settings_verdict_on run room) (render_settings (settings_from run)) room room' r
@@ -46,10 +45,10 @@ SettingsWrittenOn run room room' r = WrittenOn (settings_verdict_on run room) (r
 
 abbrev pub found_verdict : Option Event → List ℕ → Verdict
 found_verdict (Some e) room = line_verdict room (event_figures e)
-found_verdict None room = Refused NumberRange
+found_verdict None room = Err NumberRange
 
 unfoldable pub event_verdict_on : List ℕ → List ℕ → Verdict
-event_verdict_on run room = cond (ltb (length run) event_length) (Refused SmallRoom) (found_verdict (found_in run) room)
+event_verdict_on run room = cond (ltb (length run) event_length) (Err SmallRoom) (found_verdict (found_in run) room)
 
 abbrev pub EventWrittenOn : List ℕ → List ℕ → List ℕ → ℕ → Type 0
 EventWrittenOn run room room' r = WrittenOn (event_verdict_on run room) (render_event (event_from run)) room room' r
@@ -65,7 +64,7 @@ told_line (Some p) = render_report p
 told_line None = []
 
 unfoldable pub report_verdict_on : List ℕ → List ℕ → Verdict
-report_verdict_on run room = cond (ltb (length run) record_length) (Refused SmallRoom) (told_verdict (report_in run) room)
+report_verdict_on run room = cond (ltb (length run) record_length) (Err SmallRoom) (told_verdict (report_in run) room)
 
 abbrev pub ReportWrittenOn : List ℕ → List ℕ → List ℕ → ℕ → Type 0
 ReportWrittenOn run room room' r = WrittenOn (report_verdict_on run room) (told_line (report_in run)) room room' r

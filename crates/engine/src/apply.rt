@@ -1,12 +1,12 @@
 // An event is applied to a session and lent numbers.
-ghost use Rattle.std.specs.Prelude.{◌≡◌};
+ghost use Rattle.std.specs.Prelude.{◌≡◌, Err};
 ghost use Rattle.engine_law.specs.Calls.{AppliedAs, roomy, LongEnough};
 
 use acts::accepted;
-use engine_law::{Answer, Applied};
+use engine_law::Applied;
 use state_law::Session;
 use tables::lengths;
-use terms::{Event, Refusal, Verdict};
+use terms::{Event, Refusal};
 
 // Whether both tables and the room are long enough.
 pub fn is_roomy(buys: &[u64], sells: &[u64], room: &[u64]) -> bool
@@ -20,10 +20,10 @@ pub fn is_roomy(buys: &[u64], sells: &[u64], room: &[u64]) -> bool
 
 // The answer of a refusal: the session that was given, with nothing written.
 fn refused(r: Refusal, s: Session) -> Applied
-    ensures { result ≡ record { answer = Answer.Refused r; session = s } }
+    ensures { result ≡ record { answer = Err r; session = s } }
 {
     Applied {
-        answer: Answer::Refused(r),
+        answer: Err(r),
         session: s,
     }
 }
@@ -34,8 +34,8 @@ fn judged(s: Session, e: Event, buys: &mut [u64], sells: &mut [u64], room: &mut 
     ensures { AppliedAs s e buys.old sells.old room.old buys.new sells.new room.new result }
 {
     match refusal::rows::verdict(s, e, buys, sells) {
-        Verdict::Refused(r) => refused(r, s),
-        Verdict::Fine => accepted::carry_out(s, e, buys, sells, room),
+        Ok(()) => accepted::carry_out(s, e, buys, sells, room),
+        Err(r) => refused(r, s),
     }
 }
 

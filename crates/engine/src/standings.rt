@@ -1,6 +1,5 @@
 // Where a session stands: what an app shows beside the view.
-ghost use Rattle.std.specs.Prelude.{◌≡◌};
-ghost use Rattle.terms.specs.declared.Verdict.TheVariants.{Refused};
+ghost use Rattle.std.specs.Prelude.{◌≡◌, Err};
 ghost use Rattle.state_law.specs.Now.{Clocked};
 ghost use Rattle.engine_law.specs.Standings.{standing_now, no_standing, standing_call};
 
@@ -9,7 +8,7 @@ use rules::close;
 use state::force;
 use state_law::Session;
 use tables::lengths;
-use terms::{Band, Refusal, Verdict};
+use terms::{Band, Refusal};
 
 // The percent, the band and the range in force, the cooling-off, the last trade and the counts.
 fn standing_now(s: Session) -> Standing
@@ -62,11 +61,11 @@ fn none() -> Standing
 
 // The answer of a refusal, with every number of the standing zero.
 fn refused(r: Refusal) -> Stood
-    ensures { result ≡ record { verdict = Refused r; standing = no_standing } }
+    ensures { result ≡ record { verdict = Err r; standing = no_standing } }
 {
     let standing = none();
     Stood {
-        verdict: Verdict::Refused(r),
+        verdict: Err(r),
         standing: standing,
     }
 }
@@ -86,7 +85,7 @@ pub fn standing(s: Session, buys: &[u64], sells: &[u64]) -> Stood
     }
     let standing = standing_now(s);
     Stood {
-        verdict: Verdict::Fine,
+        verdict: Ok(()),
         standing: standing,
     }
 }

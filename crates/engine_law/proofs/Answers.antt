@@ -4,10 +4,9 @@ use Prim.Native.Nat.{ℕ}
 use mathlib.Core.Path.{◌≡◌, refl, ap, ◌∙◌}
 use mathlib.Core.List.{List}
 use lib.ListN.{length}
+use Rattle.std.specs.Prelude.{Ok, Err}
 use Rattle.terms.specs.declared.Event.{Event}
-use Rattle.terms.specs.declared.Verdict.{Verdict}
-use Rattle.terms.specs.declared.Verdict.TheVariants.{Fine, Refused}
-use Rattle.terms.specs.Refusals.{code_of}
+use Rattle.terms.specs.Refusals.{Verdict, code_of}
 use Rattle.state_law.specs.declared.Session.{Session}
 use Rattle.state_law.specs.Day.{Day}
 use Rattle.soundness_law.specs.Sound.{day_in}
@@ -19,18 +18,18 @@ use Rattle.engine_law.specs.Calls.{call_verdict, called, answer_by, AppliedAs}
 
 -- an answer has the number of its verdict, whatever was counted
 pub code_by : (v : Verdict) (count : ℕ) → answer_code (answer_by v count) ≡ code_of v
-code_by Fine count = refl
-code_by (Refused r) count = refl
+code_by (Ok _) count = refl
+code_by (Err r) count = refl
 
 -- an answer counts the reports of its verdict: a refusal has none
 count_by : (v : Verdict) (d : Day) (a : Acted) →
     answer_count (answer_by (decided v d a).verdict (length (decided v d a).reports)) ≡ length (decided v d a).reports
-count_by Fine d a = refl
-count_by (Refused r) d a = refl
+count_by (Ok _) d a = refl
+count_by (Err r) d a = refl
 
 decided_by : (v : Verdict) (d : Day) (a : Acted) → (decided v d a).verdict ≡ v
-decided_by Fine d a = refl
-decided_by (Refused r) d a = refl
+decided_by (Ok _) d a = refl
+decided_by (Err r) d a = refl
 
 module _ (s : Session) (e : Event) (buys sells room : List ℕ) where
   pub called-verdict : (called s e buys sells room).verdict ≡ call_verdict s e buys sells room

@@ -6,14 +6,13 @@ use mathlib.Core.Bool.{Bool, true, false, not}
 use mathlib.Core.List.{List}
 use borrow.Author.Tests.{leb-true, le-leb, not-true, not-false}
 use lib.ListN.{length}
+use Rattle.std.specs.Prelude.{Ok, Err}
 use Rattle.terms.specs.declared.Act.{Act}
 use Rattle.terms.specs.declared.Event.{Event}
 use Rattle.terms.specs.declared.Refusal.{Refusal}
 use Rattle.terms.specs.declared.Refusal.TheVariants.{SmallRoom}
-use Rattle.terms.specs.declared.Verdict.{Verdict}
-use Rattle.terms.specs.declared.Verdict.TheVariants.{Fine, Refused}
 use Rattle.tables.specs.Records.{records_of}
-use Rattle.terms.specs.Refusals.{first_failed}
+use Rattle.terms.specs.Refusals.{Verdict, first_failed}
 use Rattle.terms.proofs.Logic.{both, make, cases}
 use Rattle.tables.proofs.Puts.{put-none}
 use Rattle.state_law.specs.declared.Session.{Session}
@@ -22,7 +21,6 @@ use Rattle.refusal_law.specs.Refusals.{refusal_of}
 use Rattle.acts_law.specs.Acts.{act}
 use Rattle.acts_law.specs.Small.{SmallReports}
 use Rattle.engine_law.specs.Outcome.{decided, outcome}
-use Rattle.engine_law.specs.declared.Answer.{Answer}
 use Rattle.engine_law.specs.declared.Applied.{Applied}
 use Rattle.engine_law.specs.Calls.{roomy, LongEnough, call_verdict, called, AppliedAs, event_at, ActedAs, Ready}
 use Rattle.engine_law.proofs.Kept.{outcome-small}
@@ -37,7 +35,7 @@ called-outcome s e buys sells room h = rw h
 
 -- and without, it changes and reports nothing
 pub called-short : (s : Session) (e : Event) (buys sells room : List ℕ) → roomy buys sells room ≡ false →
-    called s e buys sells room ≡ decided (Refused SmallRoom) (day_in s buys sells) (act (day_in s buys sells) e)
+    called s e buys sells room ≡ decided (Err SmallRoom) (day_in s buys sells) (act (day_in s buys sells) e)
 unfolding called call_verdict first_failed
 called-short s e buys sells room h = rw h
 
@@ -66,7 +64,7 @@ long-roomy g = make (make (le-leb _ _ g.buys_long) (le-leb _ _ g.sells_long)) (l
 
 module _ (s : Session) (e : Event) (buys sells room : List ℕ) where
   -- row 1 refuses a call where it applies; where it does not, the other rows decide
-  pub small-verdict : roomy buys sells room ≡ false → call_verdict s e buys sells room ≡ Refused SmallRoom
+  pub small-verdict : roomy buys sells room ≡ false → call_verdict s e buys sells room ≡ Err SmallRoom
   unfolding call_verdict first_failed
   small-verdict h = rw h
 
@@ -75,7 +73,7 @@ module _ (s : Session) (e : Event) (buys sells room : List ℕ) where
   roomy-verdict h = rw h
 
   -- "All refusals return the number and the session given, and write nothing."
-  by_refusal : (r : Refusal) (a : Applied) → call_verdict s e buys sells room ≡ Refused r → a ≡ record { answer = Answer.Refused r; session = s } →
+  by_refusal : (r : Refusal) (a : Applied) → call_verdict s e buys sells room ≡ Err r → a ≡ record { answer = Err r; session = s } →
       AppliedAs s e buys sells room buys sells room a
   unfolding called records_of
   by_refusal r a v h =
@@ -90,20 +88,20 @@ module _ (s : Session) (e : Event) (buys sells room : List ℕ) where
   -- code tests `found`, which says whether tables and room are long enough, and then has the verdict `v` of the other rows
 
   pub too_small : (found : Bool) (a : Applied) → found ≡ roomy buys sells room → not found ≡ true →
-      a ≡ record { answer = Answer.Refused SmallRoom; session = s } → AppliedAs s e buys sells room buys sells room a
+      a ≡ record { answer = Err SmallRoom; session = s } → AppliedAs s e buys sells room buys sells room a
   too_small found a h t k = by_refusal SmallRoom a (small-verdict (sym h ∙ not-true found t)) k
 
   pub refused_as : (v : Verdict) (r : Refusal) (a : Applied) → LongEnough buys sells room →
-      v ≡ refusal_of (day_in s buys sells) e → v ≡ Refused r → a ≡ record { answer = Answer.Refused r; session = s } →
+      v ≡ refusal_of (day_in s buys sells) e → v ≡ Err r → a ≡ record { answer = Err r; session = s } →
       AppliedAs s e buys sells room buys sells room a
   refused_as v r a g k w q = by_refusal r a (roomy-verdict (long-roomy g) ∙ sym k ∙ w) q
 
   pub accepted_as : (buys' sells' room' : List ℕ) (v : Verdict) (a : Applied) → LongEnough buys sells room →
-      v ≡ refusal_of (day_in s buys sells) e → v ≡ Fine → ActedAs (act (day_in s buys sells) e) buys sells room buys' sells' room' a →
+      v ≡ refusal_of (day_in s buys sells) e → v ≡ Ok tt → ActedAs (act (day_in s buys sells) e) buys sells room buys' sells' room' a →
       AppliedAs s e buys sells room buys' sells' room' a
   unfolding called
   accepted_as buys' sells' room' v a g k w q =
-      let fine : call_verdict s e buys sells room ≡ Fine = roomy-verdict (long-roomy g) ∙ sym k ∙ w in
+      let fine : call_verdict s e buys sells room ≡ Ok tt = roomy-verdict (long-roomy g) ∙ sym k ∙ w in
       record {
         answer = rw fine q.answer;
         session = rw fine q.session;
@@ -113,5 +111,5 @@ module _ (s : Session) (e : Event) (buys sells room : List ℕ) where
       }
 
 pub ready : (s : Session) (t : ℕ) (a : Act) (buys sells room : List ℕ) (v : Verdict) → LongEnough buys sells room →
-    v ≡ refusal_of (day_in s buys sells) (event_at t a) → v ≡ Fine → Ready s t a buys sells room
+    v ≡ refusal_of (day_in s buys sells) (event_at t a) → v ≡ Ok tt → Ready s t a buys sells room
 ready s t a buys sells room v g k w = record { fine = sym k ∙ w; buys_long = g.buys_long; sells_long = g.sells_long; room_long = g.room_long }

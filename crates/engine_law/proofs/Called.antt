@@ -5,9 +5,8 @@ use mathlib.Core.Path.{◌≡◌}
 use mathlib.Core.Bool.{true}
 use mathlib.Core.List.{List}
 use lib.ListN.{length}
+use Rattle.std.specs.Prelude.{Ok}
 use Rattle.terms.specs.declared.Event.{Event}
-use Rattle.terms.specs.declared.Refusal.TheVariants.{SmallRoom}
-use Rattle.terms.specs.declared.Verdict.TheVariants.{Fine, Refused}
 use Rattle.tables.specs.Lengths.{reports_most}
 use Rattle.terms.proofs.Logic.{cases}
 use Rattle.state_law.specs.declared.Session.{Session}
@@ -25,8 +24,8 @@ module _ (s : Session) (e : Event) (buys sells room : List ℕ) where
       (λ h. rw (called-short s e buys sells room h) (omega arith))
 
   -- a call that is not refused has tables and room that are long enough
-  pub fine-roomy : (called s e buys sells room).verdict ≡ Fine → roomy buys sells room ≡ true
-  fine-roomy v = cases (roomy buys sells room) (λ h. h) (λ h. absurd (refused (rw (called-short s e buys sells room h) at v)))
-    where
-      refused : Refused SmallRoom ≡ Fine → ⊥
-      refused p = let z : ◌≡◌ {A = ℕ} 0 1 = cc in omega arith
+  pub fine-roomy : (called s e buys sells room).verdict ≡ Ok tt → roomy buys sells room ≡ true
+  fine-roomy v =
+      cases (roomy buys sells room)
+      (λ h. h)
+      (λ h. let k = rw (called-short s e buys sells room h) at v in absurd (let z : ◌≡◌ {A = ℕ} 0 1 = cc in omega arith))

@@ -5,6 +5,7 @@ use mathlib.Core.Path.{◌≡◌, refl, sym, ap, ◌∙◌}
 use mathlib.Core.Bool.{true}
 use mathlib.Core.List.{List, [], append-nil}
 use lib.ListN.{length}
+use Rattle.std.specs.Prelude.{Ok}
 use Rattle.terms.specs.declared.Act.{Act}
 use Rattle.terms.specs.declared.Act.TheVariants.{Withdraw, Under, Clock, Finish}
 use Rattle.terms.specs.declared.Event.{Event}
@@ -27,7 +28,6 @@ use Rattle.acts_law.specs.Acts.{Acted, clock_reports, act, dropped, finished}
 use Rattle.acts_law.specs.code.Written.{Written, Finishing, ClosedAs}
 use Rattle.acts_law.specs.declared.Withdrawn.{Withdrawn}
 use Rattle.acts_law.proofs.Reports.{written_then}
-use Rattle.engine_law.specs.declared.Answer.{Answer}
 use Rattle.engine_law.specs.declared.Applied.{Applied}
 use Rattle.engine_law.specs.declared.Begun.{Begun}
 use Rattle.engine_law.specs.Calls.{event_at, Ready, ActedAs}
@@ -42,7 +42,7 @@ pub done_as : (a : Acted) (s : Session) (bs ss : List Order) (nbuys nsells at : 
 done_as a s bs ss nbuys nsells at buys sells room buys' sells' room' d b c t u w =
     let k : at / record_length ≡ length a.reports = omega (arith, w.behind) in
     record {
-      answer = ap Answer.Reported k;
+      answer = ap Ok k;
       session = rw (d, b, c);
       bought = rw d t;
       sold = rw d u;

@@ -10,15 +10,14 @@ use mathlib.Core.Path.{◌≡◌, refl, ap, ◌∙◌}
 use mathlib.Core.Bool.{true, false}
 use mathlib.Core.List.{[], ◌∷◌, ◌++◌, append-nil, append_cancel_left}
 use lib.ListN.{length}
-use Rattle.std.specs.Prelude.{Option, Some, None}
+use Rattle.std.specs.Prelude.{Option, Some, None, Ok, Err}
 use Rattle.std.specs.Option.{option_map_or}
 use Rattle.terms.specs.declared.Entry.{Entry}
 use Rattle.terms.specs.declared.Event.{Event}
 use Rattle.terms.specs.declared.Act.TheVariants.{Enter}
 use Rattle.terms.specs.declared.Refusal.{Refusal}
 use Rattle.terms.specs.declared.Refusal.TheVariants.{Unsound}
-use Rattle.terms.specs.declared.Verdict.{Verdict}
-use Rattle.terms.specs.declared.Verdict.TheVariants.{Fine, Refused}
+use Rattle.terms.specs.Refusals.{Verdict}
 use Rattle.tables.specs.Lengths.{reports_most}
 use Rattle.book_law.specs.Over.{mine}
 use Rattle.book_law.proofs.Over.{mine-zero, mine-own, mine-other}
@@ -48,19 +47,19 @@ use Rattle.engine_law.specs.Outcome.{Outcome, decided, outcome}
 -- ---- the two cases of an event
 
 -- a law of outcomes is proved for an accepted event, from what it passed, and for a refused one, which leaves the day as it is
-by_verdict : (P : Outcome → Type 0) (d : Day) (e : Event) → (Accepted d e → P (decided Fine d (act d e))) →
-    ((r : Refusal) → P (decided (Refused r) d (act d e))) → P (outcome d e)
+by_verdict : (P : Outcome → Type 0) (d : Day) (e : Event) → (Accepted d e → P (decided (Ok tt) d (act d e))) →
+    ((r : Refusal) → P (decided (Err r) d (act d e))) → P (outcome d e)
 unfolding outcome
 by_verdict P d e f g = go (refusal_of d e) (λ h. accepted d e h)
   where
-    go : (v : Verdict) → (v ≡ Fine → Accepted d e) → P (decided v d (act d e))
-    go Fine h = f (h refl)
-    go (Refused r) h = g r
+    go : (v : Verdict) → (v ≡ Ok tt → Accepted d e) → P (decided v d (act d e))
+    go (Ok _) h = f (h refl)
+    go (Err r) h = g r
 
 -- "All refusals return the number and the session given, and write nothing."
-pub refused-nothing : (d : Day) (e : Event) (r : Refusal) → (outcome d e).verdict ≡ Refused r → ((outcome d e).day ≡ d) × ((outcome d e).reports ≡ [])
+pub refused-nothing : (d : Day) (e : Event) (r : Refusal) → (outcome d e).verdict ≡ Err r → ((outcome d e).day ≡ d) × ((outcome d e).reports ≡ [])
 refused-nothing d e r =
-    by_verdict (λ (o : Outcome). o.verdict ≡ Refused r → (o.day ≡ d) × (o.reports ≡ [])) d e
+    by_verdict (λ (o : Outcome). o.verdict ≡ Err r → (o.day ≡ d) × (o.reports ≡ [])) d e
     (λ k h. absurd (let z : ◌≡◌ {A = ℕ} 0 1 = cc in omega arith))
     (λ q h. (refl, refl))
 
@@ -70,8 +69,8 @@ unfolding outcome
 outcome-verdict d e = go (refusal_of d e)
   where
     go : (v : Verdict) → (decided v d (act d e)).verdict ≡ v
-    go Fine = refl
-    go (Refused r) = refl
+    go (Ok _) = refl
+    go (Err r) = refl
 
 -- so every event leaves an unsound day as it is, since 2 refuses it
 pub unsound_nothing : (d : Day) (e : Event) → sound d ≡ false → ((outcome d e).day ≡ d) × ((outcome d e).reports ≡ [])
@@ -80,9 +79,9 @@ unsound_nothing d e h = refused-nothing d e Unsound (outcome-verdict d e ∙ uns
 -- ---- soundness
 
 -- AN ACCEPTED EVENT LEAVES A SOUND DAY, whatever the day was
-pub accepted-sound : (d : Day) (e : Event) → (outcome d e).verdict ≡ Fine → sound (outcome d e).day ≡ true
+pub accepted-sound : (d : Day) (e : Event) → (outcome d e).verdict ≡ Ok tt → sound (outcome d e).day ≡ true
 accepted-sound d e =
-    by_verdict (λ (o : Outcome). o.verdict ≡ Fine → sound o.day ≡ true) d e
+    by_verdict (λ (o : Outcome). o.verdict ≡ Ok tt → sound o.day ≡ true) d e
     (λ k h. act_stays d e k)
     (λ r h. absurd (let z : ◌≡◌ {A = ℕ} 0 1 = cc in omega arith))
 
@@ -153,18 +152,18 @@ outcome_ten d e t = by_verdict (λ (o : Outcome). Ten o.day.session) d e (λ k. 
 -- ---- the number of an order
 
 -- an accepted order has the next number, and asks for its lots under it
-pub accepted-asks : (d : Day) (t : ℕ) (n : Entry) → (outcome d (record { time = t; act = Enter n })).verdict ≡ Fine →
+pub accepted-asks : (d : Day) (t : ℕ) (n : Entry) → (outcome d (record { time = t; act = Enter n })).verdict ≡ Ok tt →
     (asked_by (d.session.live.given + 1) (Enter n) (outcome d (record { time = t; act = Enter n })).reports ≡ n.lots)
     × ((outcome d (record { time = t; act = Enter n })).day.session.live.given ≡ d.session.live.given + 1)
 accepted-asks d t n =
     let e : Event = record { time = t; act = Enter n } in
     let id : ℕ = d.session.live.given + 1 in
-    by_verdict (λ (o : Outcome). o.verdict ≡ Fine → (asked_by id (Enter n) o.reports ≡ n.lots) × (o.day.session.live.given ≡ id)) d e
+    by_verdict (λ (o : Outcome). o.verdict ≡ Ok tt → (asked_by id (Enter n) o.reports ≡ n.lots) × (o.day.session.live.given ≡ id)) d e
     (λ k h. (act-asks id d e ∙ mine-own id n.lots, act-given d e))
     (λ r h. absurd (let z : ◌≡◌ {A = ℕ} 0 1 = cc in omega arith))
 
 -- and its one report of acceptance tells that number
-pub accepted-number : (d : Day) (t : ℕ) (n : Entry) → (outcome d (record { time = t; act = Enter n })).verdict ≡ Fine →
+pub accepted-number : (d : Day) (t : ℕ) (n : Entry) → (outcome d (record { time = t; act = Enter n })).verdict ≡ Ok tt →
     accepts (outcome d (record { time = t; act = Enter n })).reports ≡ (d.session.live.given + 1) ∷ []
 unfolding numbers_to
 accepted-number d t n h =

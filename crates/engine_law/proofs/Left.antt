@@ -3,10 +3,10 @@ use Prim.Native.Nat.{ℕ, ◌≤◌}
 use mathlib.Core.Path.{◌≡◌, refl, sym, ap, ◌∙◌}
 use mathlib.Core.List.{List}
 use lib.ListN.{length}
+use Rattle.std.specs.Prelude.{Ok, Err}
 use Rattle.terms.specs.declared.Event.{Event}
 use Rattle.terms.specs.declared.Order.{Order}
-use Rattle.terms.specs.declared.Verdict.{Verdict}
-use Rattle.terms.specs.declared.Verdict.TheVariants.{Fine, Refused}
+use Rattle.terms.specs.Refusals.{Verdict}
 use Rattle.terms.specs.Sizes.{slots}
 use Rattle.terms.proofs.Logic.{both}
 use Rattle.tables.specs.Tables.{decode, table_of}
@@ -29,7 +29,7 @@ reads_back n os t e = rw e (decode-encode os _)
 few : (side : List Order) (n : ℕ) → n ≡ length side → n ≤ slots → length side ≤ slots
 few side n q h = rw q at h
 
-pub sides_few : (d : Day) (e : Event) → (outcome d e).verdict ≡ Fine →
+pub sides_few : (d : Day) (e : Event) → (outcome d e).verdict ≡ Ok tt →
     (length (outcome d e).day.buys ≤ slots) × (length (outcome d e).day.sells ≤ slots)
 unfolding sound_by
 sides_few d e v =
@@ -47,7 +47,7 @@ module _ (s s' : Session) (buys sells buys' sells' : List ℕ) (e : Event) (sess
   abbrev o : Outcome
   o = outcome (day_in s buys sells) e
 
-  accepted-day : o.verdict ≡ Fine → day_in s' buys' sells' ≡ o.day
+  accepted-day : o.verdict ≡ Ok tt → day_in s' buys' sells' ≡ o.day
   accepted-day v =
       let w : SoundDay o.day = sound-day o.day (accepted-sound (day_in s buys sells) e v) in
       let b : buys' ≡ table_of o.day.buys buys = bought ∙ ap (λ (x : Verdict). table_by x o.day.buys buys) v in
@@ -63,8 +63,8 @@ module _ (s s' : Session) (buys sells buys' sells' : List ℕ) (e : Event) (sess
   refused-day same q b t = (λ i. day_in (q i) (b i) (t i)) ∙ sym same
 
   by_verdict : (v : Verdict) → o.verdict ≡ v → day_in s' buys' sells' ≡ o.day
-  by_verdict Fine v = accepted-day v
-  by_verdict (Refused r) v =
+  by_verdict (Ok _) v = accepted-day v
+  by_verdict (Err r) v =
       let same : o.day ≡ day_in s buys sells = (refused-nothing (day_in s buys sells) e r v).0 in
       refused-day same
       (session ∙ ap (λ (d : Day). d.session) same)

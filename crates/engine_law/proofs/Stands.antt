@@ -6,6 +6,7 @@ use mathlib.Core.List.{List}
 use borrow.Author.Tests.{le-leb, lt-leb, not-true, not-false}
 use lib.Dec.{leb, eqb}
 use lib.ListN.{length}
+use Rattle.std.specs.Prelude.{Ok, Err}
 use Rattle.terms.specs.declared.Band.{Band}
 use Rattle.terms.specs.declared.Settings.{Settings}
 use Rattle.terms.specs.declared.Side.{Side}
@@ -13,11 +14,9 @@ use Rattle.terms.specs.declared.Life.{Life}
 use Rattle.terms.specs.declared.Kind.TheVariants.{Limit}
 use Rattle.terms.specs.declared.Act.TheVariants.{Enter}
 use Rattle.terms.specs.declared.Refusal.TheVariants.{SmallRoom, Unsound}
-use Rattle.terms.specs.declared.Verdict.{Verdict}
-use Rattle.terms.specs.declared.Verdict.TheVariants.{Fine, Refused}
 use Rattle.terms.specs.Truth.{◌⊓◌}
 use Rattle.tables.specs.Lengths.{table_length}
-use Rattle.terms.specs.Refusals.{first_failed}
+use Rattle.terms.specs.Refusals.{Verdict, first_failed}
 use Rattle.rules_law.specs.Slabs.{slab_of, percent_of, in_band, over_by}
 use Rattle.rules_law.specs.Reference.{opening_reference, range_of, in_range, range_ends}
 use Rattle.rules_law.specs.Close.{last_or, last_lots}
@@ -43,58 +42,58 @@ use Rattle.engine_law.specs.Standings.{standing_now, no_standing, standing_verdi
 module _ (s : Session) (buys sells : List ℕ) where
   -- a sound session with tables that are long enough is not refused,
   pub stands-fine : table_length ≤ length buys → table_length ≤ length sells → sound (day_in s buys sells) ≡ true →
-      standing_call s buys sells ≡ record { verdict = Fine; standing = standing_now s }
+      standing_call s buys sells ≡ record { verdict = Ok tt; standing = standing_now s }
   unfolding standing_call standing_verdict first_failed ◌⊓◌
   stands-fine b t e = rw (le-leb table_length (length buys) b, le-leb table_length (length sells) t, e)
 
   -- a short table is,
-  pub short-buys : length buys < table_length → standing_call s buys sells ≡ record { verdict = Refused SmallRoom; standing = no_standing }
+  pub short-buys : length buys < table_length → standing_call s buys sells ≡ record { verdict = Err SmallRoom; standing = no_standing }
   unfolding standing_call standing_verdict first_failed ◌⊓◌
   short-buys b = rw (lt-leb table_length (length buys) b)
 
   pub short-sells : table_length ≤ length buys → length sells < table_length →
-      standing_call s buys sells ≡ record { verdict = Refused SmallRoom; standing = no_standing }
+      standing_call s buys sells ≡ record { verdict = Err SmallRoom; standing = no_standing }
   unfolding standing_call standing_verdict first_failed ◌⊓◌
   short-sells b t = rw (le-leb table_length (length buys) b, lt-leb table_length (length sells) t)
 
   -- and so is a session that is not sound
   pub stands_unsound : table_length ≤ length buys → table_length ≤ length sells → sound (day_in s buys sells) ≡ false →
-      standing_call s buys sells ≡ record { verdict = Refused Unsound; standing = no_standing }
+      standing_call s buys sells ≡ record { verdict = Err Unsound; standing = no_standing }
   unfolding standing_call standing_verdict first_failed ◌⊓◌
   stands_unsound b t e = rw (le-leb table_length (length buys) b, le-leb table_length (length sells) t, e)
 
   -- code tests the lengths, then `found`, which says whether the session is sound; `a` or `st` is what the call then answers
 
-  pub short-bought : (a : Stood) → length buys < table_length → a ≡ record { verdict = Refused SmallRoom; standing = no_standing } → a ≡ standing_call s buys sells
+  pub short-bought : (a : Stood) → length buys < table_length → a ≡ record { verdict = Err SmallRoom; standing = no_standing } → a ≡ standing_call s buys sells
   short-bought a b e = e ∙ sym (short-buys b)
 
-  pub short-sold : (a : Stood) → table_length ≤ length buys → length sells < table_length → a ≡ record { verdict = Refused SmallRoom; standing = no_standing } →
+  pub short-sold : (a : Stood) → table_length ≤ length buys → length sells < table_length → a ≡ record { verdict = Err SmallRoom; standing = no_standing } →
       a ≡ standing_call s buys sells
   short-sold a b t e = e ∙ sym (short-sells b t)
 
   pub found_unsound : (found : Bool) (a : Stood) → table_length ≤ length buys → table_length ≤ length sells → found ≡ sound (day_in s buys sells) →
-      not found ≡ true → a ≡ record { verdict = Refused Unsound; standing = no_standing } → a ≡ standing_call s buys sells
+      not found ≡ true → a ≡ record { verdict = Err Unsound; standing = no_standing } → a ≡ standing_call s buys sells
   found_unsound found a b t k n e = e ∙ sym (stands_unsound b t (sym k ∙ not-true found n))
 
   pub found_clocked : (found : Bool) → found ≡ sound (day_in s buys sells) → not found ≡ false → Clocked s
   found_clocked found k n = session-clocked s (sound-session (day_in s buys sells) (sym k ∙ not-false found n))
 
   pub found_sound : (found : Bool) (st : Standing) → table_length ≤ length buys → table_length ≤ length sells → found ≡ sound (day_in s buys sells) →
-      not found ≡ false → st ≡ standing_now s → record { verdict = Fine; standing = st } ≡ standing_call s buys sells
+      not found ≡ false → st ≡ standing_now s → record { verdict = Ok tt; standing = st } ≡ standing_call s buys sells
   found_sound found st b t k n e = rw e (sym (stands-fine b t (sym k ∙ not-false found n)))
 
   -- what is shown of a session that is not refused is what is in force in it
-  by_verdict : (v : Verdict) (st : Standing) → stood_by v s ≡ record { verdict = Fine; standing = st } → st ≡ standing_now s
-  by_verdict Fine st e = ap (λ (x : Stood). x.standing) (sym e)
-  by_verdict (Refused r) st e = let no : Refused r ≡ Fine = ap (λ (x : Stood). x.verdict) e in cc
+  by_verdict : (v : Verdict) (st : Standing) → stood_by v s ≡ record { verdict = Ok tt; standing = st } → st ≡ standing_now s
+  by_verdict (Ok _) st e = ap (λ (x : Stood). x.standing) (sym e)
+  by_verdict (Err r) st e = let no : ◌≡◌ {A = Verdict} (Err r) (Ok tt) = ap (λ (x : Stood). x.verdict) e in cc
 
-  pub fine-shows : (st : Standing) → standing_call s buys sells ≡ record { verdict = Fine; standing = st } → st ≡ standing_now s
+  pub fine-shows : (st : Standing) → standing_call s buys sells ≡ record { verdict = Ok tt; standing = st } → st ≡ standing_now s
   unfolding standing_call
   fine-shows st e = by_verdict (standing_verdict s buys sells) st e
 
   -- ROW 8 passes a limit just where it lies between the ends of the band that is shown, if no cooling-off that is shown has ended by then
   pub limit_shown : (st : Standing) (side : Side) (x : ℕ) (life : Life) (lots t : ℕ) →
-      standing_call s buys sells ≡ record { verdict = Fine; standing = st } → (st.cooling && leb st.ends t) ≡ false →
+      standing_call s buys sells ≡ record { verdict = Ok tt; standing = st } → (st.cooling && leb st.ends t) ≡ false →
       band_right (band_now (clock_step s t)) (Enter (record { side = side; kind = Limit x; life = life; lots = lots })) ≡ in_band st.band x
   unfolding standing_now band_right clock_step widened_by
   limit_shown st side x life lots t e over =
@@ -103,7 +102,7 @@ module _ (s : Session) (buys sells : List ℕ) where
       rw (shows, waits)
 
   -- a price of the other side is IN RANGE just where it lies between the ends of the range that is shown
-  pub counter_shown : (st : Standing) (x : ℕ) → standing_call s buys sells ≡ record { verdict = Fine; standing = st } →
+  pub counter_shown : (st : Standing) (x : ℕ) → standing_call s buys sells ≡ record { verdict = Ok tt; standing = st } →
       in_range (range_now s) x ≡ in_band st.range x
   unfolding standing_now
   counter_shown st x e = rw (fine-shows st e) (range-between (range_now s) x)

@@ -1,16 +1,14 @@
 -- The calls on a session and lent numbers: what each answers, and what it leaves.
-use Rattle.std.specs.Prelude.{ℕ, ◌≤◌, ◌≡◌, Bool, cond, List, [], ◌∷◌, leb, ltb, length}
+use Rattle.std.specs.Prelude.{ℕ, ◌≤◌, ◌≡◌, Bool, cond, List, [], ◌∷◌, leb, ltb, length, Ok, Err}
 use Rattle.terms.specs.declared.Act.{Act}
 use Rattle.terms.specs.declared.Event.{Event}
 use Rattle.terms.specs.declared.Order.{Order}
 use Rattle.terms.specs.declared.Refusal.TheVariants.{SmallRoom}
 use Rattle.terms.specs.declared.Side.{Side}
-use Rattle.terms.specs.declared.Verdict.{Verdict}
-use Rattle.terms.specs.declared.Verdict.TheVariants.{Fine, Refused}
 use Rattle.terms.specs.Truth.{◌⊓◌}
 use Rattle.tables.specs.Lengths.{table_length, room_length}
 use Rattle.tables.specs.Records.{records_of}
-use Rattle.terms.specs.Refusals.{unless, first_failed}
+use Rattle.terms.specs.Refusals.{Verdict, unless, first_failed}
 use Rattle.tables.specs.Put.{put}
 use Rattle.tables.specs.Tables.{table_of}
 use Rattle.book_law.specs.View.{view_of}
@@ -18,7 +16,7 @@ use Rattle.state_law.specs.declared.Session.{Session}
 use Rattle.soundness_law.specs.Sound.{sound, day_in}
 use Rattle.refusal_law.specs.Refusals.{rules, refusal_of}
 use Rattle.acts_law.specs.Acts.{Acted, act}
-use Rattle.engine_law.specs.declared.Answer.{Answer}
+use Rattle.engine_law.specs.Answers.{Answer}
 use Rattle.engine_law.specs.declared.Applied.{Applied}
 use Rattle.engine_law.specs.Outcome.{Outcome, decided}
 
@@ -47,13 +45,13 @@ called s e buys sells room = decided (call_verdict s e buys sells room) (day_in 
 
 -- "The count of reports is returned"; "All refusals return the number and the session given"
 abbrev pub answer_by : Verdict → ℕ → Answer
-answer_by Fine count = Answer.Reported count
-answer_by (Refused r) count = Answer.Refused r
+answer_by (Ok _) count = Ok count
+answer_by (Err r) count = Err r
 
 -- "After acceptance the rest .. is zero and everything past it is untouched"; a refusal writes nothing
 abbrev pub table_by : Verdict → List Order → List ℕ → List ℕ
-table_by Fine os t = table_of os t
-table_by (Refused r) os t = t
+table_by (Ok _) os t = table_of os t
+table_by (Err r) os t = t
 
 -- THE CONTRACT of `apply`: answer, session, both tables and the room, each by an equation. "Numbers past the last report are untouched."
 pub record AppliedAs (s : Session) (e : Event) (buys sells room buys' sells' room' : List ℕ) (r : Applied) : Type 0 where
@@ -69,14 +67,14 @@ abbrev pub event_at : ℕ → Act → Event
 event_at time act = record { time = time; act = act }
 
 pub record Ready (s : Session) (time : ℕ) (a : Act) (buys sells room : List ℕ) : Type 0 where
-  pub fine : refusal_of (day_in s buys sells) (event_at time a) ≡ Fine
+  pub fine : refusal_of (day_in s buys sells) (event_at time a) ≡ Ok tt
   pub buys_long : table_length ≤ length buys
   pub sells_long : table_length ≤ length sells
   pub room_long : room_length ≤ length room
 
 -- what an accepted event leaves: answer, session, both tables and the room, each by an equation
 pub record ActedAs (a : Acted) (buys sells room buys' sells' room' : List ℕ) (r : Applied) : Type 0 where
-  pub answer : r.answer ≡ Answer.Reported (length a.reports)
+  pub answer : r.answer ≡ Ok (length a.reports)
   pub session : r.session ≡ a.day.session
   pub bought : buys' ≡ table_of a.day.buys buys
   pub sold : sells' ≡ table_of a.day.sells sells

@@ -1,9 +1,8 @@
 -- The outcome of an event: refused by the first row that applies with nothing changed, or accepted with the day after it and its reports.
-use Rattle.std.specs.Prelude.{List, [], ◌∷◌, ◌++◌}
+use Rattle.std.specs.Prelude.{List, [], ◌∷◌, ◌++◌, Ok, Err}
 use Rattle.terms.specs.declared.Event.{Event}
 use Rattle.terms.specs.declared.Report.{Report}
-use Rattle.terms.specs.declared.Verdict.{Verdict}
-use Rattle.terms.specs.declared.Verdict.TheVariants.{Fine, Refused}
+use Rattle.terms.specs.Refusals.{Verdict}
 use Rattle.state_law.specs.Day.{Day}
 use Rattle.refusal_law.specs.Refusals.{refusal_of}
 use Rattle.acts_law.specs.Acts.{Acted, act}
@@ -15,8 +14,8 @@ pub record Outcome : Type 0 where
 
 -- "All refusals return the number and the session given, and write nothing."
 abbrev pub decided : Verdict → Day → Acted → Outcome
-decided Fine d a = record { verdict = Fine; day = a.day; reports = a.reports }
-decided (Refused r) d a = record { verdict = Refused r; day = d; reports = [] }
+decided (Ok _) d a = record { verdict = Ok tt; day = a.day; reports = a.reports }
+decided (Err r) d a = record { verdict = Err r; day = d; reports = [] }
 
 unfoldable pub outcome : Day → Event → Outcome
 outcome d e = decided (refusal_of d e) d (act d e)

@@ -1,12 +1,10 @@
 -- WHERE A SESSION STANDS: what an app shows of it, by the definitions that judge orders.
-use Rattle.std.specs.Prelude.{ℕ, Bool, false, not, List, [], ◌∷◌, leb, eqb, length}
+use Rattle.std.specs.Prelude.{ℕ, Bool, false, not, List, [], ◌∷◌, leb, eqb, length, Ok, Err}
 use Rattle.terms.specs.declared.Band.{Band}
 use Rattle.terms.specs.declared.Refusal.TheVariants.{SmallRoom, Unsound}
-use Rattle.terms.specs.declared.Verdict.{Verdict}
-use Rattle.terms.specs.declared.Verdict.TheVariants.{Fine, Refused}
 use Rattle.terms.specs.Truth.{◌⊓◌}
 use Rattle.tables.specs.Lengths.{table_length}
-use Rattle.terms.specs.Refusals.{unless, first_failed}
+use Rattle.terms.specs.Refusals.{Verdict, unless, first_failed}
 use Rattle.rules_law.specs.Reference.{range_ends}
 use Rattle.rules_law.specs.Close.{last_or, last_lots}
 use Rattle.state_law.specs.declared.Session.{Session}
@@ -63,8 +61,8 @@ unfoldable pub standing_verdict : Session → List ℕ → List ℕ → Verdict
 standing_verdict s buys sells = first_failed (unless SmallRoom (long_tables buys sells) ∷ unless Unsound (sound (day_in s buys sells)) ∷ [])
 
 abbrev pub stood_by : Verdict → Session → Stood
-stood_by Fine s = record { verdict = Fine; standing = standing_now s }
-stood_by (Refused r) s = record { verdict = Refused r; standing = no_standing }
+stood_by (Ok _) s = record { verdict = Ok tt; standing = standing_now s }
+stood_by (Err r) s = record { verdict = Err r; standing = no_standing }
 
 -- THE CONTRACT of `standing`: its answer
 unfoldable pub standing_call : Session → List ℕ → List ℕ → Stood

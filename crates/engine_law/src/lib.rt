@@ -8,13 +8,9 @@ use state_law::Session;
 use terms::{Band, Refusal, Verdict};
 
 // The answer to an event: the count of its reports, or the refusal.
-#[derive(Clone, Copy)]
-pub enum Answer {
-    Reported(u64),
-    Refused(Refusal),
-}
+pub type Answer = Result<u64, Refusal>;
 
-// The answer to an event, and the session after it.
+// The answer to an event, and the session after it: by a refusal too, the one that was given.
 #[derive(Clone, Copy)]
 pub struct Applied {
     pub answer: Answer,
@@ -48,6 +44,7 @@ pub struct Standing {
 }
 
 // The answer to the question where a session stands: a refusal or none, and the standing.
+// Not a Result of the standing: `standing_call` and docs/PROMISES.md promise a standing of zeros by a refusal.
 #[derive(Clone, Copy)]
 pub struct Stood {
     pub verdict: Verdict,

@@ -5,9 +5,9 @@ use mathlib.Core.Path.{◌≡◌, refl, sym, ap, ◌∙◌, subst}
 use mathlib.Core.Bool.{Bool, true, false, not}
 use mathlib.Core.List.{List, []}
 use lib.ListN.{length}
+use Rattle.std.specs.Prelude.{Ok, Err}
 use Rattle.terms.specs.declared.Refusal.TheVariants.{SmallRoom}
-use Rattle.terms.specs.declared.Verdict.{Verdict}
-use Rattle.terms.specs.declared.Verdict.TheVariants.{Fine, Refused}
+use Rattle.terms.specs.Refusals.{Verdict}
 use Rattle.terms.proofs.Cascade.{stops_here, goes_on, none_applies}
 use Rattle.engine_law.specs.Calls.{roomy}
 use Rattle.feed_law.specs.declared.Run.{Run}
@@ -23,8 +23,8 @@ use Rattle.feed_law.proofs.Starts.{taken-there, end-used}
 module _ (run : Run) (buys sells room bytes out : List ℕ) where
   -- no more bytes are taken than are there
   lines-there : (v : Verdict) → (fed_by v run buys sells room bytes out).used ≤ length bytes
-  lines-there Fine = taken-there calls (length out) run.stage (lent_of run.session buys sells room) bytes
-  lines-there (Refused n) = omega arith
+  lines-there (Ok _) = taken-there calls (length out) run.stage (lent_of run.session buys sells room) bytes
+  lines-there (Err n) = omega arith
 
   judged : (v : Verdict) → feed_verdict buys sells room ≡ v → fed_of run buys sells room bytes out ≡ fed_by v run buys sells room bytes out
   unfolding fed_of
@@ -41,18 +41,18 @@ module _ {run : Run} {buys sells room bytes out : List ℕ} {r : Taken} {found :
   pub took_none : not found ≡ true → r ≡ taken_to run 0 0 (Stop.Refused SmallRoom) → TakenBy fed_of run buys sells room bytes out buys sells room out r
   unfolding feed_verdict
   took_none n e =
-      let v : feed_verdict buys sells room ≡ Refused SmallRoom = sym (stops_here SmallRoom found (roomy buys sells room) [] f n) in
+      let v : feed_verdict buys sells room ≡ Err SmallRoom = sym (stops_here SmallRoom found (roomy buys sells room) [] f n) in
       taken-lines run buys sells room bytes out
-      (taken_as (judged run buys sells room bytes out (Refused SmallRoom) v) e refl refl refl (record { count = refl; laid = refl }) refl) refl
+      (taken_as (judged run buys sells room bytes out (Err SmallRoom) v) e refl refl refl (record { count = refl; laid = refl }) refl) refl
 
   -- they are long enough: the lines are taken
   pub took_lines : {buys' sells' room' out' : List ℕ} → not found ≡ false → TakenAs (lines_of run buys sells room bytes out) out buys' sells' room' out' r → length out' ≡ length out →
       TakenBy fed_of run buys sells room bytes out buys' sells' room' out' r
   unfolding feed_verdict
   took_lines {buys'} {sells'} {room'} {out'} n k kept =
-      let v : feed_verdict buys sells room ≡ Fine = sym (goes_on Fine SmallRoom found (roomy buys sells room) [] f n none_applies) in
+      let v : feed_verdict buys sells room ≡ Ok tt = sym (goes_on (Ok tt) SmallRoom found (roomy buys sells room) [] f n none_applies) in
       taken-lines run buys sells room bytes out
-      (subst (λ (x : Fed Lent). TakenAs x out buys' sells' room' out' r) (sym (judged run buys sells room bytes out Fine v)) k) kept
+      (subst (λ (x : Fed Lent). TakenAs x out buys' sells' room' out' r) (sym (judged run buys sells room bytes out (Ok tt) v)) k) kept
 
 -- and then the end of the input is told
 pub took_end : {run : Run} {buys sells room bytes out buys' sells' room' out₁ out' : List ℕ} {t r : Taken} →

@@ -4,11 +4,11 @@ use native.Mathlib.Omega.{arith}
 use mathlib.Core.Path.{◌≡◌, refl, sym, ap, ◌∙◌}
 use mathlib.Core.List.{List, [], ◌++◌}
 use lib.ListN.{length, length-append}
+use Rattle.std.specs.Prelude.{Ok, Err}
 use Rattle.terms.specs.declared.Event.{Event}
 use Rattle.terms.specs.declared.Settings.{Settings}
 use Rattle.terms.specs.declared.Refusal.{Refusal}
-use Rattle.terms.specs.declared.Verdict.{Verdict}
-use Rattle.terms.specs.declared.Verdict.TheVariants.{Fine, Refused}
+use Rattle.terms.specs.Refusals.{Verdict}
 use Rattle.terms.specs.Sizes.{line_room}
 use Rattle.lines_text_law.specs.Grammar.{LineAnswer, whole, unfinished, wrong}
 use Rattle.lines_text_law.specs.Reading.{LineOf, Begins, Right}
@@ -71,11 +71,11 @@ module _ {W : Type 0} (on : World W) where
     saves_by_lem : (v : Verdict) → on.verdict w e ≡ v → (turn_of on Stage.Trading w bytes).saves ≡ saves_by v n
     saves_by_lem v h = ap (λ (o : LineAnswer Event). (event_turn on w o).saves) q ∙ ap (λ (x : Verdict). saves_by x n) h
 
-    pub accepted-saved : on.verdict w e ≡ Fine → (turn_of on Stage.Trading w bytes).saves ≡ n
-    accepted-saved h = saves_by_lem Fine h
+    pub accepted-saved : on.verdict w e ≡ Ok tt → (turn_of on Stage.Trading w bytes).saves ≡ n
+    accepted-saved h = saves_by_lem (Ok tt) h
 
-    pub refused_unsaved : (r : Refusal) → on.verdict w e ≡ Refused r → (turn_of on Stage.Trading w bytes).saves ≡ 0
-    refused_unsaved r h = saves_by_lem (Refused r) h
+    pub refused_unsaved : (r : Refusal) → on.verdict w e ≡ Err r → (turn_of on Stage.Trading w bytes).saves ≡ 0
+    refused_unsaved r h = saves_by_lem (Err r) h
 
   -- where there are no bytes, no line is taken
   pub turn_none : (stage : Stage) (w : W) → turn_of on stage w [] ≡ waits on stage w
@@ -92,8 +92,8 @@ module _ {W : Type 0} (on : World W) where
     turn_saves = by-stage stage
       where
         by_verdict : (v : Verdict) (n : ℕ) → saves_by v n ≤ n
-        by_verdict Fine n = omega arith
-        by_verdict (Refused r) n = omega arith
+        by_verdict (Ok _) n = omega arith
+        by_verdict (Err r) n = omega arith
 
         by_settings : (o : LineAnswer Settings) → (settings_turn on w o).saves ≤ (settings_turn on w o).used
         by_settings (whole g n) = by_verdict (opening_of g).verdict n

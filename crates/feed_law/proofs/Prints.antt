@@ -10,15 +10,13 @@ use mathlib.Core.List.{List, [], ◌∷◌, ◌++◌, append_assoc, append-nil}
 use lib.ListN.{length, take, drop, length-append, length-drop, drop_of_length-le}
 use lib.Seq.{drop-drop, drop_at, length-take-le, take_all, take-append_seam, drop-append_seam}
 use borrow.Author.Tests.{le-leb}
-use Rattle.std.specs.Prelude.{Option, Some, None}
+use Rattle.std.specs.Prelude.{Option, Some, None, Ok, Err}
 use Rattle.terms.specs.declared.Report.{Report}
-use Rattle.terms.specs.declared.Verdict.{Verdict}
-use Rattle.terms.specs.declared.Verdict.TheVariants.{Fine, Refused}
 use Rattle.terms.specs.declared.Refusal.TheVariants.{NumberLong}
 use Rattle.terms.specs.Sizes.{line_room}
 use Rattle.tables.specs.Lengths.{record_length}
 use Rattle.tables.specs.Records.{record_of, records_of}
-use Rattle.terms.specs.Refusals.{first_failed}
+use Rattle.terms.specs.Refusals.{Verdict, first_failed}
 use Rattle.terms.proofs.Logic.{by}
 use Rattle.tables.specs.Put.{put}
 use Rattle.lines_text_law.specs.Numerals.{all_writable}
@@ -35,7 +33,7 @@ use Rattle.feed_law.specs.Feeds.{laid, wrote_length, Prints, PrintsFrom, RecordT
 -- ---- a writer's line
 
 module _ {out line ns out' : List ℕ} {w : Wrote} (long : line_room ≤ length out) (k : Writes out line ns w out') where
-  verdict_is : (b : Bool) → all_writable ns ≡ b → line_verdict out ns ≡ cond b Fine (Refused NumberLong)
+  verdict_is : (b : Bool) → all_writable ns ≡ b → line_verdict out ns ≡ cond b (Ok tt) (Err NumberLong)
   unfolding line_verdict first_failed
   verdict_is true e = rw (le-leb line_room (length out) long, e)
   verdict_is false e = rw (le-leb line_room (length out) long, e)

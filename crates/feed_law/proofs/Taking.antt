@@ -6,13 +6,13 @@ use mathlib.Core.Path.{◌≡◌, refl, sym, ap, ◌∙◌, subst}
 use mathlib.Core.List.{List, []}
 use lib.ListN.{length}
 use borrow.Author.Tests.{leb-true}
+use Rattle.std.specs.Prelude.{Ok, Err}
 use Rattle.terms.specs.declared.Event.{Event}
 use Rattle.terms.specs.declared.Settings.{Settings}
 use Rattle.terms.specs.declared.Report.{Report}
 use Rattle.terms.specs.declared.Refusal.{Refusal}
 use Rattle.terms.specs.declared.Refusal.TheVariants.{LineWrong}
-use Rattle.terms.specs.declared.Verdict.{Verdict}
-use Rattle.terms.specs.declared.Verdict.TheVariants.{Fine, Refused}
+use Rattle.terms.specs.Refusals.{Verdict}
 use Rattle.terms.specs.Sizes.{line_room}
 use Rattle.tables.specs.Lengths.{record_length, room_length}
 use Rattle.terms.proofs.Logic.{both}
@@ -25,7 +25,6 @@ use Rattle.lines_reading_law.proofs.SettingsLines.{settings-lines}
 use Rattle.state_law.specs.declared.Session.{Session}
 use Rattle.state_law.specs.declared.Opened.{Opened}
 use Rattle.state_law.specs.Opening.{opening_of}
-use Rattle.engine_law.specs.declared.Answer.{Answer}
 use Rattle.engine_law.specs.declared.Applied.{Applied}
 use Rattle.engine_law.specs.Calls.{roomy, called, answer_by, AppliedAs}
 use Rattle.engine_law.proofs.Called.{called-few, fine-roomy}
@@ -76,12 +75,12 @@ module _ (g : Settings) (o : Opened) (used : ℕ) (opened : o ≡ opening_of g) 
   kept : (buys sells room : List ℕ) → lent_of o.session buys sells room ≡ lent_of (opening_of g).session buys sells room
   kept buys sells room = ap (λ (x : Opened). lent_of x.session buys sells room) opened
 
-  pub opens-fine : {out : List ℕ} {r : Turned} → o.verdict ≡ Fine → r ≡ turned_to Stage.Trading o.session used used 0 → OpenTurned g used out out r
+  pub opens-fine : {out : List ℕ} {r : Turned} → o.verdict ≡ Ok tt → r ≡ turned_to Stage.Trading o.session used used 0 → OpenTurned g used out out r
   unfolding calls
   opens-fine {out} v e =
       record { turned = λ buys sells room. turned_as e (sym (ap stage_by (judged v))) (kept buys sells room) refl (saved_as v) (rw (judged v) (nothing out)) }
 
-  pub opens-refused : {out out' : List ℕ} {r : Turned} {wrote : ℕ} {q : Refusal} → o.verdict ≡ Refused q → Prints out (bad_text q 0) wrote out' →
+  pub opens-refused : {out out' : List ℕ} {r : Turned} {wrote : ℕ} {q : Refusal} → o.verdict ≡ Err q → Prints out (bad_text q 0) wrote out' →
       r ≡ turned_to Stage.Over o.session used 0 wrote → OpenTurned g used out out' r
   unfolding calls
   opens-refused v p e =
@@ -147,19 +146,19 @@ module _ {s : Session} {e : Event} {buys sells room buys' sells' room' : List �
   verdict = (called s e buys sells room).verdict
 
   -- where a count is answered, the event was not refused, and the count is that of its reports
-  counted : (v : Verdict) (n count : ℕ) → answer_by v n ≡ Answer.Reported count → (v ≡ Fine) × (count ≡ n)
-  counted Fine n count q = (refl, (cc))
-  counted (Refused r) n count q = absurd (let z : ◌≡◌ {A = ℕ} 0 1 = cc in omega arith)
+  counted : (v : Verdict) (n count : ℕ) → answer_by v n ≡ Ok count → (v ≡ Ok tt) × (count ≡ n)
+  counted (Ok _) n count q = (refl, (cc))
+  counted (Err r) n count q = absurd (let z : ◌≡◌ {A = ℕ} 0 1 = cc in omega arith)
 
-  refused : (v : Verdict) (n : ℕ) (r : Refusal) → answer_by v n ≡ Answer.Refused r → v ≡ Refused r
-  refused Fine n r q = absurd (let z : ◌≡◌ {A = ℕ} 0 1 = cc in omega arith)
-  refused (Refused r') n r q = cc
+  refused : (v : Verdict) (n : ℕ) (r : Refusal) → answer_by v n ≡ Err r → v ≡ Err r
+  refused (Ok _) n r q = absurd (let z : ◌≡◌ {A = ℕ} 0 1 = cc in omega arith)
+  refused (Err r') n r q = cc
 
-  by_count : {count : ℕ} → p.answer ≡ Answer.Reported count → (verdict ≡ Fine) × (count ≡ length reports)
+  by_count : {count : ℕ} → p.answer ≡ Ok count → (verdict ≡ Ok tt) × (count ≡ length reports)
   by_count q = counted verdict (length reports) _ (sym k.answer ∙ q)
 
   -- the report room holds all records that are counted, and the output room can hold their lines
-  pub reports-held : {count : ℕ} → p.answer ≡ Answer.Reported count → length room' ≡ length room → record_length * count ≤ length room'
+  pub reports-held : {count : ℕ} → p.answer ≡ Ok count → length room' ≡ length room → record_length * count ≤ length room'
   unfolding roomy
   reports-held q h =
       let c = by_count q in
@@ -167,7 +166,7 @@ module _ {s : Session} {e : Event} {buys sells room buys' sells' room' : List �
       let long : room_length ≤ length room = leb-true room_length (length room) (both (fine-roomy s e buys sells room c.0)).1 in
       omega (arith, c.1)
 
-  pub lines-held : {count : ℕ} (out : List ℕ) → p.answer ≡ Answer.Reported count → text_most ≤ length out → line_room * count ≤ length out
+  pub lines-held : {count : ℕ} (out : List ℕ) → p.answer ≡ Ok count → text_most ≤ length out → line_room * count ≤ length out
   lines-held out q h =
       let c = by_count q in
       let few = called-few s e buys sells room in
@@ -179,7 +178,7 @@ module _ {s : Session} {e : Event} {buys sells room buys' sells' room' : List �
 
   module _ {used wrote : ℕ} {out out' : List ℕ} {r : Turned} where
     -- the reports of an accepted event are printed,
-    pub goes-told : {count : ℕ} → r ≡ turned_to Stage.Trading p.session used used wrote → p.answer ≡ Answer.Reported count → Prints out (records_text count room') wrote out' →
+    pub goes-told : {count : ℕ} → r ≡ turned_to Stage.Trading p.session used used wrote → p.answer ≡ Ok count → Prints out (records_text count room') wrote out' →
         WholeTurned s e used buys sells room out buys' sells' room' out' r
     unfolding calls
     goes-told {count} h q t =
@@ -189,11 +188,11 @@ module _ {s : Session} {e : Event} {buys sells room buys' sells' room' : List �
         record { turned = turned_as h refl left refl (sym (ap (λ (v : Verdict). saves_by v used) c.0)) (subst (λ (x : List ℕ). Prints out x wrote out') text t) }
 
     -- or its refusal is
-    pub goes-refused : {n : Refusal} → r ≡ turned_to Stage.Trading p.session used 0 wrote → p.answer ≡ Answer.Refused n → Prints out (refused_text e.time n) wrote out' →
+    pub goes-refused : {n : Refusal} → r ≡ turned_to Stage.Trading p.session used 0 wrote → p.answer ≡ Err n → Prints out (refused_text e.time n) wrote out' →
         WholeTurned s e used buys sells room out buys' sells' room' out' r
     unfolding calls
     goes-refused {n} h q t =
-        let v : verdict ≡ Refused n = refused verdict (length reports) n (sym k.answer ∙ q) in
+        let v : verdict ≡ Err n = refused verdict (length reports) n (sym k.answer ∙ q) in
         let text : refused_text e.time n ≡ event_text e verdict reports = ap (λ (x : Verdict). event_text e x reports) (sym v) in
         record { turned = turned_as h refl left refl (sym (ap (λ (x : Verdict). saves_by x used) v)) (subst (λ (x : List ℕ). Prints out x wrote out') text t) }
 

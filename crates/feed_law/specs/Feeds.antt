@@ -1,12 +1,10 @@
 -- The calls of feed, feed_turns and feed_prints on lent numbers: what each answers, and what it leaves.
-use Rattle.std.specs.Prelude.{ℕ, ◌+◌, ◌≤◌, ◌≡◌, List, [], ◌∷◌, ◌++◌, length, take, drop}
+use Rattle.std.specs.Prelude.{ℕ, ◌+◌, ◌≤◌, ◌≡◌, List, [], ◌∷◌, ◌++◌, length, take, drop, Ok, Err}
 use Rattle.terms.specs.declared.Refusal.TheVariants.{SmallRoom}
 use Rattle.terms.specs.declared.Event.{Event}
 use Rattle.terms.specs.declared.Settings.{Settings}
-use Rattle.terms.specs.declared.Verdict.{Verdict}
-use Rattle.terms.specs.declared.Verdict.TheVariants.{Fine, Refused}
 use Rattle.terms.specs.Sizes.{line_room}
-use Rattle.terms.specs.Refusals.{unless, first_failed}
+use Rattle.terms.specs.Refusals.{Verdict, unless, first_failed}
 use Rattle.state_law.specs.declared.Session.{Session}
 use Rattle.state_law.specs.Opening.{opening_of, fixed_session}
 use Rattle.engine_law.specs.Calls.{roomy}
@@ -120,8 +118,8 @@ abbrev pub lines_of : Feed
 lines_of run buys sells room bytes out = fed_in calls (length bytes) (length out) run.stage (lent_of run.session buys sells room) bytes
 
 abbrev pub fed_by : Verdict → Run → List ℕ → List ℕ → List ℕ → List ℕ → List ℕ → Fed Lent
-fed_by Fine run buys sells room bytes out = lines_of run buys sells room bytes out
-fed_by (Refused r) run buys sells room bytes out = halted calls (Stop.Refused r) run.stage (lent_of run.session buys sells room)
+fed_by (Ok _) run buys sells room bytes out = lines_of run buys sells room bytes out
+fed_by (Err r) run buys sells room bytes out = halted calls (Stop.Refused r) run.stage (lent_of run.session buys sells room)
 
 unfoldable pub fed_of : Feed
 fed_of run buys sells room bytes out = fed_by (feed_verdict buys sells room) run buys sells room bytes out

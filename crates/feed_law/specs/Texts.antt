@@ -1,11 +1,10 @@
 -- Document 01, "Session lines": what the program prints.
-use Rattle.std.specs.Prelude.{ℕ, zero, suc, ◌*◌, cond, List, [], ◌∷◌, ◌++◌, drop, eqb, Option, Some, None}
+use Rattle.std.specs.Prelude.{ℕ, zero, suc, ◌*◌, cond, List, [], ◌∷◌, ◌++◌, drop, eqb, Option, Some, None, Ok, Err}
 use Rattle.terms.specs.declared.Event.{Event}
 use Rattle.terms.specs.declared.Report.{Report}
 use Rattle.terms.specs.declared.Refusal.{Refusal}
 use Rattle.terms.specs.declared.Refusal.TheVariants.{LineUnfinished}
-use Rattle.terms.specs.declared.Verdict.{Verdict}
-use Rattle.terms.specs.declared.Verdict.TheVariants.{Fine, Refused}
+use Rattle.terms.specs.Refusals.{Verdict}
 use Rattle.terms.specs.Sizes.{line_room}
 use Rattle.tables.specs.Lengths.{reports_most, record_length}
 use Rattle.lines_text_law.specs.Numerals.{all_writable}
@@ -51,13 +50,13 @@ bad_text r place = written (bad_figures r place) (render_bad r place)
 
 -- an event prints its reports, or its refusal
 abbrev pub event_text : Event → Verdict → List Report → List ℕ
-event_text e Fine rs = reports_text rs
-event_text e (Refused r) rs = refused_text e.time r
+event_text e (Ok _) rs = reports_text rs
+event_text e (Err r) rs = refused_text e.time r
 
 -- settings print nothing; "refused settings print 12 or 13 with at=0"
 abbrev pub settings_text : Verdict → List ℕ
-settings_text Fine = []
-settings_text (Refused r) = bad_text r 0
+settings_text (Ok _) = []
+settings_text (Err r) = bad_text r 0
 
 -- What the end of the input prints, where n bytes stand behind the last line: "Bytes after the last newline that begin a line print code=14
 -- with their count; so does input with no settings line. Input that ends after a whole line prints nothing more."

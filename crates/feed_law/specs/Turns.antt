@@ -1,10 +1,9 @@
 -- Document 01, "Session lines": a run of the program, a line at a time. "After each line the rest of the bytes is handed on from there".
-use Rattle.std.specs.Prelude.{ℕ, zero, suc, ◌+◌, ◌-◌, cond, List, [], ◌++◌, length, take, drop, ltb, eqb}
+use Rattle.std.specs.Prelude.{ℕ, zero, suc, ◌+◌, ◌-◌, cond, List, [], ◌++◌, length, take, drop, ltb, eqb, Ok, Err}
 use Rattle.terms.specs.declared.Event.{Event}
 use Rattle.terms.specs.declared.Settings.{Settings}
 use Rattle.terms.specs.declared.Refusal.TheVariants.{LineWrong}
-use Rattle.terms.specs.declared.Verdict.{Verdict}
-use Rattle.terms.specs.declared.Verdict.TheVariants.{Fine, Refused}
+use Rattle.terms.specs.Refusals.{Verdict}
 use Rattle.terms.specs.Sizes.{line_room}
 use Rattle.lines_text_law.specs.Grammar.{LineAnswer, whole, unfinished, wrong}
 use Rattle.lines_reading_law.specs.Answers.{read_event, read_settings}
@@ -34,13 +33,13 @@ pub record Fed (W : Type 0) : Type 0 where
 
 -- "a bad line and refused settings end the run, a refused event doesn't"
 abbrev pub stage_by : Verdict → Stage
-stage_by Fine = Stage.Trading
-stage_by (Refused r) = Stage.Over
+stage_by (Ok _) = Stage.Trading
+stage_by (Err r) = Stage.Over
 
 -- document 02, item 4: "The app saves each accepted event as its line, after the settings line"; all of a line, or nothing
 abbrev pub saves_by : Verdict → ℕ → ℕ
-saves_by Fine n = n
-saves_by (Refused r) n = 0
+saves_by (Ok _) n = n
+saves_by (Err r) n = 0
 
 abbrev pub stop_at : Stage → Stop
 stop_at Stage.Awaiting = Stop.Waits

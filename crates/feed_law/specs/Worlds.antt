@@ -2,7 +2,7 @@
 use Rattle.std.specs.Prelude.{ℕ, List, []}
 use Rattle.terms.specs.declared.Event.{Event}
 use Rattle.terms.specs.declared.Report.{Report}
-use Rattle.terms.specs.declared.Verdict.{Verdict}
+use Rattle.terms.specs.Refusals.{Verdict}
 use Rattle.tables.specs.Records.{records_of}
 use Rattle.tables.specs.Put.{put}
 use Rattle.state_law.specs.declared.Session.{Session}

@@ -23,7 +23,7 @@ pub struct Run {
 }
 
 // Why no further line was taken: the bytes hold no whole one; the output room must be emptied first; the run is over; something that was
-// lent is too short.
+// lent is too short. Not a Result, which would be no plainer: three of its four kinds are no failure.
 #[derive(Clone, Copy)]
 pub enum Stop {
     Waits,

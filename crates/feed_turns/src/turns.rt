@@ -5,13 +5,12 @@ ghost use Rattle.feed_law.specs.Texts.{text_most, most_at};
 ghost use Rattle.feed_law.specs.Feeds.{turned_to, BadTurned, OpenTurned, WholeTurned, SettingsTurned, EventTurned, TurnTaken};
 
 use engine::apply;
-use engine_law::Answer;
 use feed_law::{Run, Stage, Turned};
 use feed_prints::printing;
 use lines_reading_law::{ReadEvent, ReadSettings};
 use state::opening;
 use state_law::Session;
-use terms::{Event, Refusal, Settings, Verdict};
+use terms::{Event, Refusal, Settings};
 
 // The answer about a line: where the run stands after it, how many bytes were taken, how many of them are to be saved, and how many printed.
 fn turned(stage: Stage, session: Session, used: usize, saves: usize, wrote: usize) -> Turned
@@ -46,8 +45,8 @@ fn opens(settings: Settings, used: usize, out: &mut [u8]) -> Turned
     let verdict = o.verdict;
     let opened = o.session;
     match verdict {
-        Verdict::Fine => turned(Stage::Trading, opened, used, used, 0),
-        Verdict::Refused(refusal) => {
+        Ok(()) => turned(Stage::Trading, opened, used, used, 0),
+        Err(refusal) => {
             let wrote = printing::tell_bad(refusal, 0, out);
             turned(Stage::Over, opened, used, 0, wrote)
         }
@@ -84,7 +83,7 @@ fn goes(
     let answer = a.answer;
     let after = a.session;
     match answer {
-        Answer::Reported(count) => {
+        Ok(count) => {
             let wrote = printing::tell_records(room, count, out);
             Turned {
                 run: Run {
@@ -96,7 +95,7 @@ fn goes(
                 wrote: wrote,
             }
         }
-        Answer::Refused(refusal) => {
+        Err(refusal) => {
             let wrote = printing::tell_refused(time, refusal, out);
             Turned {
                 run: Run {

@@ -5,13 +5,12 @@ use mathlib.Core.Path.{◌≡◌, refl, sym, ap, ◌∙◌}
 use mathlib.Core.List.{List, [], ◌++◌}
 use lib.ListN.{length, drop, length-append, length-drop}
 use lib.Dec.{leb}
+use Rattle.std.specs.Prelude.{Ok, Err}
 use Rattle.terms.specs.declared.Event.{Event}
 use Rattle.terms.specs.declared.Settings.{Settings}
 use Rattle.terms.specs.declared.Refusal.{Refusal}
-use Rattle.terms.specs.declared.Verdict.{Verdict}
-use Rattle.terms.specs.declared.Verdict.TheVariants.{Fine, Refused}
 use Rattle.terms.specs.Sizes.{line_room}
-use Rattle.terms.specs.Refusals.{code_of}
+use Rattle.terms.specs.Refusals.{Verdict, code_of}
 use Rattle.terms.proofs.Cascade.{fine-first}
 use Rattle.lines_text_law.specs.Numerals.{all_writable}
 use Rattle.terms.specs.Numbers.{Writable}
@@ -31,13 +30,13 @@ writes_one a b = (a.answer ∙ sym b.answer, a.laid ∙ sym b.laid)
 
 -- the number of an answer is that of the first row that applies
 code_by : (v : Verdict) (n : ℕ) → wrote_code (wrote_of v n) ≡ code_of v
-code_by Fine n = refl
-code_by (Refused r) n = refl
+code_by (Ok _) n = refl
+code_by (Err r) n = refl
 
 pub written_code : {d line ns d' : List ℕ} {r : Wrote} → Writes d line ns r d' → wrote_code r ≡ code_of (line_verdict d ns)
 written_code {d} {line} {ns} a = ap wrote_code a.answer ∙ code_by (line_verdict d ns) (length line)
 
-fine-writable : (d ns : List ℕ) → line_verdict d ns ≡ Fine → Writable ns
+fine-writable : (d ns : List ℕ) → line_verdict d ns ≡ Ok tt → Writable ns
 unfolding line_verdict
 fine-writable d ns e = tested_writable ns (fine-first _ (all_writable ns) [] (fine-first _ (leb line_room (length d)) _ e).1).0
 
@@ -50,8 +49,8 @@ written-line {d} {line} {ns} {d'} {n} w = go (line_verdict d ns) refl w.answer w
   where
     go : (v : Verdict) → line_verdict d ns ≡ v → Wrote.Written n ≡ wrote_of v (length line) → d' ≡ room_of v line d
         → (n ≡ length line) × (d' ≡ line ++ drop (length line) d) × Writable ns
-    go Fine e p q = ((cc), q, fine-writable d ns e)
-    go (Refused r) e p q = absurd (never n r p)
+    go (Ok _) e p q = ((cc), q, fine-writable d ns e)
+    go (Err r) e p q = absurd (never n r p)
 
 -- the length that is answered is within the room
 pub written-within : {d line ns d' : List ℕ} {n : ℕ} → Writes d line ns (Wrote.Written n) d' → length d' ≡ length d → n ≤ length d

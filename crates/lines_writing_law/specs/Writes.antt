@@ -1,10 +1,8 @@
 -- What writing a line into a lent room does, whatever the line is.
-use Rattle.std.specs.Prelude.{ℕ, ◌+◌, ◌≤◌, ◌≡◌, List, [], ◌∷◌, ◌++◌, length, drop, leb}
+use Rattle.std.specs.Prelude.{ℕ, ◌+◌, ◌≤◌, ◌≡◌, List, [], ◌∷◌, ◌++◌, length, drop, leb, Ok, Err}
 use Rattle.terms.specs.declared.Refusal.TheVariants.{SmallLineRoom, NumberLong}
-use Rattle.terms.specs.declared.Verdict.{Verdict}
-use Rattle.terms.specs.declared.Verdict.TheVariants.{Fine, Refused}
 use Rattle.terms.specs.Sizes.{line_room}
-use Rattle.terms.specs.Refusals.{number_of, unless, first_failed}
+use Rattle.terms.specs.Refusals.{Verdict, number_of, unless, first_failed}
 use Rattle.lines_text_law.specs.Numerals.{all_writable}
 use Rattle.lines_text_law.specs.Forms.{fill, holes, longest}
 use Rattle.lines_writing_law.specs.declared.Wrote.{Wrote}
@@ -15,8 +13,8 @@ line_verdict room numbers = first_failed (unless SmallLineRoom (leb line_room (l
 
 -- the answer: the line's length, or the refusal
 abbrev pub wrote_of : Verdict → ℕ → Wrote
-wrote_of Fine n = Wrote.Written n
-wrote_of (Refused r) n = Wrote.Refused r
+wrote_of (Ok _) n = Wrote.Written n
+wrote_of (Err r) n = Wrote.Refused r
 
 -- the paper's number of an answer: that of the refusal, or 0 for a line
 abbrev pub wrote_code : Wrote → ℕ
@@ -25,8 +23,8 @@ wrote_code (Wrote.Refused r) = number_of r
 
 -- the room afterwards: the line at its start, "Line room past the newline is untouched"; refusals "write nothing"
 abbrev pub room_of : Verdict → List ℕ → List ℕ → List ℕ
-room_of Fine line room = line ++ drop (length line) room
-room_of (Refused r) line room = room
+room_of (Ok _) line room = line ++ drop (length line) room
+room_of (Err r) line room = room
 
 -- the line, with these numbers in it, was written into room, which is room' afterwards, and r was answered
 pub record Writes (room line numbers : List ℕ) (r : Wrote) (room' : List ℕ) : Type 0 where

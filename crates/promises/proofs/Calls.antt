@@ -6,9 +6,9 @@ use mathlib.Core.Path.{◌≡◌, sym, ap, ◌∙◌, subst}
 use mathlib.Core.Bool.{true}
 use mathlib.Core.List.{List, ◌∷◌, ◌++◌}
 use lib.ListN.{length}
+use Rattle.std.specs.Prelude.{Ok}
 use Rattle.terms.specs.declared.Event.{Event}
 use Rattle.terms.specs.declared.Act.TheVariants.{Enter}
-use Rattle.terms.specs.declared.Verdict.TheVariants.{Fine}
 use Rattle.terms.specs.Sizes.{line_room}
 use Rattle.terms.specs.Refusals.{first_failed, code_of}
 use Rattle.terms.proofs.Logic.{cases}
@@ -86,7 +86,7 @@ calls_never_two g es rs h r z c rs' h' k e =
 pub calls_stand : CallsStand
 calls_stand g es rs h r z a b t e =
     let o = opened-fine g (sym (number-opened r) ∙ z) in
-    let fine : a ≡ record { verdict = Fine; standing = standing_now h.session } =
+    let fine : a ≡ record { verdict = Ok tt; standing = standing_now h.session } =
     e ∙ stands-fine h.session h.buys h.sells b t (calls_stay_sound g es rs h r z) in
     let day : day_held h ≡ after (opened g) es = (run_from_lem g es rs h r).day ∙ ap (λ (d : Day). after d es) o.1 in
     let said : AsSaid g rs (standing_now h.session) =

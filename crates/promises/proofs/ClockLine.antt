@@ -7,6 +7,7 @@ use mathlib.Core.Path.{◌≡◌, refl, sym, ap, ◌∙◌}
 use mathlib.Core.Bool.{true, not}
 use mathlib.Core.List.{List, [], ◌∷◌, ◌++◌, append_assoc}
 use lib.ListN.{length}
+use Rattle.std.specs.Prelude.{Ok, Err}
 use Rattle.terms.specs.declared.Band.{Band}
 use Rattle.terms.specs.declared.Order.{Order}
 use Rattle.terms.specs.declared.Event.{Event}
@@ -14,11 +15,9 @@ use Rattle.terms.specs.declared.Act.{Act}
 use Rattle.terms.specs.declared.Report.{Report}
 use Rattle.terms.specs.declared.Said.TheVariants.{Slab}
 use Rattle.terms.specs.declared.Refusal.TheVariants.{Unsound, Closed, NumberRange, TimeBack, OutOfHours, OffTick, OutsideBand, NotResting, SideFull, DayFull}
-use Rattle.terms.specs.declared.Verdict.{Verdict}
-use Rattle.terms.specs.declared.Verdict.TheVariants.{Fine, Refused}
 use Rattle.terms.specs.Truth.{◌⊓◌}
 use Rattle.terms.specs.Numbers.{is_time}
-use Rattle.terms.specs.Refusals.{unless, first_failed}
+use Rattle.terms.specs.Refusals.{Verdict, unless, first_failed}
 use Rattle.terms.proofs.Logic.{cases}
 use Rattle.terms.specs.Sizes.{sizes}
 use Rattle.state_law.specs.declared.Session.{Session}
@@ -53,10 +52,10 @@ counted_same : (d : Day) (t a b : ℕ) → d.session.live.buys ≡ a → d.sessi
 unfolding clock_step
 counted_same d t a b e f = λ i. set_sells (set_buys (clock_step d.session t) (sym e i)) (sym f i)
 
-decided-fine : (v : Verdict) (d : Day) (a : Acted) → v ≡ Fine → decided v d a ≡ decided Fine d a
+decided-fine : (v : Verdict) (d : Day) (a : Acted) → v ≡ Ok tt → decided v d a ≡ decided (Ok tt) d a
 decided-fine v d a e = rw e
 
-clock_day : (d : Day) (t : ℕ) → refusal_of d (clock_at t) ≡ Fine → (outcome d (clock_at t)).day ≡ ticked d t
+clock_day : (d : Day) (t : ℕ) → refusal_of d (clock_at t) ≡ Ok tt → (outcome d (clock_at t)).day ≡ ticked d t
 unfolding outcome act
 clock_day d t h =
     let w : SoundDay d = sound-day d (accepted d (clock_at t) h).whole in
@@ -104,7 +103,7 @@ record Ticks (d : Day) (t : ℕ) : Type 0 where
   then_whole : sound (ticked d t) ≡ true
   forward : d.session.clock.time ≤ t
 
-ticks : (d : Day) (t : ℕ) → refusal_of d (clock_at t) ≡ Fine → Ticks d t
+ticks : (d : Day) (t : ℕ) → refusal_of d (clock_at t) ≡ Ok tt → Ticks d t
 ticks d t h =
     let a : Accepted d (clock_at t) = accepted d (clock_at t) h in
     record {
@@ -153,8 +152,8 @@ act-plain d t e k h =
 
 decided-plain : (v : Verdict) (d d' : Day) (a a' : Acted) → plain a.reports ≡ plain a'.reports →
     plain (decided v d a).reports ≡ plain (decided v d' a').reports
-decided-plain Fine d d' a a' e = e
-decided-plain (Refused r) d d' a a' e = refl
+decided-plain (Ok _) d d' a a' e = e
+decided-plain (Err r) d d' a a' e = refl
 
 outcome-plain : (d : Day) (t : ℕ) (e : Event) → Ticks d t → t ≤ e.time → plain (outcome (ticked d t) e).reports ≡ plain (outcome d e).reports
 unfolding outcome
@@ -170,7 +169,7 @@ unfolding replies outcome
 closed_replies d d' [] h h' c c' = refl
 closed_replies d d' (e ∷ es) h h' c c' =
     rw (closed_refused d e h c, closed_refused d' e h' c')
-    (ap (λ (l : List Reply). record { verdict = Refused Closed; reports = plain [] } ∷ l) (closed_replies d d' es h h' c c'))
+    (ap (λ (l : List Reply). record { verdict = Err Closed; reports = plain [] } ∷ l) (closed_replies d d' es h h' c c'))
 
 close_closed : (d : Day) (e : Event) → (carries e.act).closes ≡ true → (act d e).day.session.clock.closed ≡ true
 unfolding finished
@@ -185,10 +184,10 @@ act-replies d t e es k h x y =
     (λ c. rw (act-goes (ticked d t) e c, act-goes d e c)
     (ap (λ (z : Day). replies (does z e.act).day es) (ticked_twice d t e.time k.forward h)))
 
-decided-replies : (v : Verdict) (d d' : Day) (a a' : Acted) (es : List Event) → (v ≡ Fine → replies a.day es ≡ replies a'.day es) →
+decided-replies : (v : Verdict) (d d' : Day) (a a' : Acted) (es : List Event) → (v ≡ Ok tt → replies a.day es ≡ replies a'.day es) →
     replies d es ≡ replies d' es → replies (decided v d a).day es ≡ replies (decided v d' a').day es
-decided-replies Fine d d' a a' es f e = f refl
-decided-replies (Refused r) d d' a a' es f e = e
+decided-replies (Ok _) d d' a a' es f e = f refl
+decided-replies (Err r) d d' a a' es f e = e
 
 rest-replies : (d : Day) (t : ℕ) (e : Event) (es : List Event) → Ticks d t → t ≤ e.time → replies (ticked d t) es ≡ replies d es →
     replies (outcome (ticked d t) e).day es ≡ replies (outcome d e).day es
@@ -212,10 +211,10 @@ run-replies d t (e ∷ es) k f =
     λ i. record { verdict = verdict i; reports = said i } ∷ next i
 
 -- the replies agree, from any day on which the clock event is accepted
-pub clock_changes_nothing : (d : Day) (t : ℕ) (es : List Event) → (outcome d (clock_at t)).verdict ≡ Fine → From t es →
+pub clock_changes_nothing : (d : Day) (t : ℕ) (es : List Event) → (outcome d (clock_at t)).verdict ≡ Ok tt → From t es →
     replies (outcome d (clock_at t)).day es ≡ replies d es
 clock_changes_nothing d t es h f =
-    let z : refusal_of d (clock_at t) ≡ Fine = sym (outcome-verdict d (clock_at t)) ∙ h in
+    let z : refusal_of d (clock_at t) ≡ Ok tt = sym (outcome-verdict d (clock_at t)) ∙ h in
     ap (λ (x : Day). replies x es) (clock_day d t z) ∙ run-replies d t es (ticks d t z) f
 
 pub clock_line : ClockLine
@@ -236,14 +235,14 @@ told-plain d (e ∷ es) =
     ∙ ap (λ (l : List Report). plain (outcome d e).reports ++ l) (told-plain (outcome d e).day es)
 
 -- an accepted clock event reports slab and ref at most
-clock_says : (d : Day) (t : ℕ) → (outcome d (clock_at t)).verdict ≡ Fine → plain (outcome d (clock_at t)).reports ≡ []
+clock_says : (d : Day) (t : ℕ) → (outcome d (clock_at t)).verdict ≡ Ok tt → plain (outcome d (clock_at t)).reports ≡ []
 unfolding outcome act plain
 clock_says d t h =
-    let z : refusal_of d (clock_at t) ≡ Fine = sym (outcome-verdict d (clock_at t)) ∙ h in
+    let z : refusal_of d (clock_at t) ≡ Ok tt = sym (outcome-verdict d (clock_at t)) ∙ h in
     ap (λ (o : Outcome). plain o.reports) (decided-fine (refusal_of d (clock_at t)) d (act d (clock_at t)) z)
     ∙ after-plain d t (silent (clock_step d.session t) d)
 
-pub clock_unheard : (d : Day) (before later : List Event) (t : ℕ) → (outcome (after d before) (clock_at t)).verdict ≡ Fine → From t later →
+pub clock_unheard : (d : Day) (before later : List Event) (t : ℕ) → (outcome (after d before) (clock_at t)).verdict ≡ Ok tt → From t later →
     plain (told d (before ++ (clock_at t ∷ later))) ≡ plain (told d (before ++ later))
 unfolding told
 clock_unheard d before later t h f =

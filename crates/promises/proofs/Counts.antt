@@ -5,14 +5,14 @@ use mathlib.Core.Path.{◌≡◌, refl, sym, ap, ◌∙◌}
 use mathlib.Core.List.{List}
 use lib.ListN.{length, take}
 use lib.Seq.{take_at}
+use Rattle.std.specs.Prelude.{Ok}
 use Rattle.terms.specs.declared.Event.{Event}
 use Rattle.terms.specs.declared.Settings.{Settings}
 use Rattle.terms.specs.declared.Refusal.{Refusal}
-use Rattle.terms.specs.declared.Verdict.TheVariants.{Fine}
 use Rattle.terms.specs.Settings.{settings_verdict}
 use Rattle.state_law.specs.Day.{opened}
 use Rattle.engine_law.specs.Outcome.{after}
-use Rattle.resume_law.specs.declared.Comeback.{Comeback}
+use Rattle.resume_law.specs.Answers.{Comeback, bad_at}
 use Rattle.resume_law.specs.Saved.{saved, any_event, AllAccepted}
 use Rattle.resume_law.specs.Rebuilt.{Rebuilt, rebuilt, resumed}
 use Rattle.resume_law.specs.Comes.{FoundAs}
@@ -22,16 +22,16 @@ use Rattle.resume_law.proofs.Finds.{any_bytes_found}
 pub record Counted (bytes : List ℕ) (n : ℕ) : Type 0 where
   pub g : Settings
   pub es : List Event
-  pub settings : settings_verdict g ≡ Fine
+  pub settings : settings_verdict g ≡ Ok tt
   pub accepted : AllAccepted (opened g) es
   pub lines : take n bytes ≡ saved g es
   pub comes : resumed bytes ≡ rebuilt (length (saved g es)) (any_event es) (after (opened g) es)
 
-module _ (bytes : List ℕ) (n : ℕ) (answer : (resumed bytes).answer ≡ Comeback.Counts n) where
-  counts_are : {m : ℕ} → Comeback.Counts m ≡ Comeback.Counts n → n ≡ m
+module _ (bytes : List ℕ) (n : ℕ) (answer : (resumed bytes).answer ≡ Ok n) where
+  counts_are : {m : ℕ} → ◌≡◌ {A = Comeback} (Ok m) (Ok n) → n ≡ m
   counts_are q = cc
 
-  refusing : {r : Refusal} {m : ℕ} → Comeback.Refused r m ≡ Comeback.Counts n → ⊥
+  refusing : {r : Refusal} {m : ℕ} → bad_at r m ≡ Ok n → ⊥
   refusing p = let z : ◌≡◌ {A = ℕ} 0 1 = cc in omega arith
 
   by : (y : Rebuilt) → FoundAs bytes y → resumed bytes ≡ y → Counted bytes n

@@ -5,10 +5,10 @@ use mathlib.Core.Path.{◌≡◌, refl, sym, ap, ◌∙◌, subst}
 use mathlib.Core.List.{List, [], ◌∷◌, ◌++◌, append-nil, append_assoc}
 use lib.ListN.{length, take, drop}
 use borrow.Author.Tests.{ne_eqb}
+use Rattle.std.specs.Prelude.{Ok, Err}
 use Rattle.terms.specs.declared.Event.{Event}
 use Rattle.terms.specs.declared.Settings.{Settings}
-use Rattle.terms.specs.declared.Verdict.{Verdict}
-use Rattle.terms.specs.declared.Verdict.TheVariants.{Fine, Refused}
+use Rattle.terms.specs.Refusals.{Verdict}
 use Rattle.terms.specs.Settings.{settings_verdict}
 use Rattle.lines_text_law.specs.Grammar.{LineAnswer, whole, unfinished, wrong}
 use Rattle.lines_text_law.proofs.Sorts as sorts
@@ -26,7 +26,6 @@ use Rattle.feed_law.specs.Worlds.{days}
 use Rattle.feed_law.specs.Turns.{Turn, turn_of, event_turn, settings_turn, stage_by, saves_by, said_in}
 use Rattle.feed_law.specs.Saving.{saved_in, state_in}
 use Rattle.resume_law.specs.Saved.{event_lines, saved, any_event, AllAccepted}
-use Rattle.resume_law.specs.declared.Comeback.{Comeback}
 use Rattle.resume_law.specs.Rebuilt.{Rebuilt, rebuilt, resumed}
 use Rattle.resume_law.specs.Comes.FoundAs.{comes_back}
 use Rattle.resume_law.proofs.Ones.{one_coming}
@@ -109,18 +108,18 @@ module _ (n : ℕ) (d : Day) (bytes : List ℕ) (e : Event) (m : ℕ) (q : read_
 
   trades_by : (v : Verdict) → (outcome d e).verdict ≡ v → Next → Trades (suc n) d bytes
   unfolding event_lines after
-  trades_by Fine v k =
+  trades_by (Ok _) v k =
       record {
         events = e ∷ k.events;
-        lines = saves-on Fine v ∙ (λ i. event-lines.spelled bytes e m q i ++ k.lines i);
+        lines = saves-on (Ok tt) v ∙ (λ i. event-lines.spelled bytes e m q i ++ k.lines i);
         accepted = (v, k.accepted);
         day = moves_on ∙ k.day;
       }
-  trades_by (Refused r) v k =
+  trades_by (Err r) v k =
       let same : (outcome d e).day ≡ d = (refused-nothing d e r v).0 in
       record {
         events = k.events;
-        lines = saves-on (Refused r) v ∙ k.lines;
+        lines = saves-on (Err r) v ∙ k.lines;
         accepted = subst (λ (x : Day). AllAccepted x k.events) same k.accepted;
         day = moves_on ∙ k.day ∙ ap (λ (x : Day). after x k.events) same;
       }
@@ -149,7 +148,7 @@ none = record { session = fixed_session; buys = []; sells = [] }
 -- what at most n lines of the input come to
 data Begins (n : ℕ) (input : List ℕ) : Type 0 where
   unbegun : saved_in days n Stage.Awaiting none input ≡ [] → Begins n input
-  begun : (g : Settings) (es : List Event) → saved_in days n Stage.Awaiting none input ≡ saved g es → settings_verdict g ≡ Fine →
+  begun : (g : Settings) (es : List Event) → saved_in days n Stage.Awaiting none input ≡ saved g es → settings_verdict g ≡ Ok tt →
       AllAccepted (opened g) es → state_in days n Stage.Awaiting none input ≡ after (opened g) es → Begins n input
 
 module _ (n : ℕ) (input : List ℕ) (g : Settings) (m : ℕ) (q : read_settings input ≡ whole g m) where
@@ -165,8 +164,8 @@ module _ (n : ℕ) (input : List ℕ) (g : Settings) (m : ℕ) (q : read_setting
 
   begins_by : (v : Verdict) → settings_verdict g ≡ v → Begins (suc n) input
   unfolding days
-  begins_by Fine v =
-      let o = opens Fine v in
+  begins_by (Ok _) v =
+      let o = opens (Ok tt) v in
       let k : Trades n (opened g) (drop m input) = trades n (opened g) (drop m input) in
       begun g k.events
       (saved-on n Stage.Awaiting none input _ turns taken
@@ -177,8 +176,8 @@ module _ (n : ℕ) (input : List ℕ) (g : Settings) (m : ℕ) (q : read_setting
       (moved_on n Stage.Awaiting none input _ turns taken
       ∙ (λ i. state_in days n (stage_by (o i).verdict) (record { session = (o i).session; buys = []; sells = [] }) (drop m input))
       ∙ k.day)
-  begins_by (Refused r) v =
-      let o = opens (Refused r) v in
+  begins_by (Err r) v =
+      let o = opens (Err r) v in
       unbegun
       (saved-on n Stage.Awaiting none input _ turns taken
       ∙ (λ i. take (saves_by (o i).verdict m) input
@@ -230,6 +229,6 @@ program_goes-on file input n answer =
     after-append (opened k.g) k.es t.events ∙ ap (λ (x : Day). after x t.events) day_is ∙ sym t.day in
     let comes : resumed (take n file ++ saved_on d input) ≡ rebuilt (length (saved k.g all)) (any_event all) (after (opened k.g) all) =
     sym (one_coming _ _ (comes_back k.g all [] (bytes ∙ sym (append-nil (saved k.g all))) k.settings accepted event-lines.none)) in (
-      ap (λ (x : Rebuilt). x.answer) comes ∙ ap (λ (x : List ℕ). Comeback.Counts (length x)) (sym bytes),
+      ap (λ (x : Rebuilt). x.answer) comes ∙ ap (λ (x : List ℕ). Ok (length x)) (sym bytes),
       ap (λ (x : Rebuilt). x.day) comes ∙ day,
     )

@@ -5,14 +5,13 @@ use native.Mathlib.Omega.{arith}
 use mathlib.Core.Path.{◌≡◌, refl, sym, ap, ◌∙◌, subst}
 use mathlib.Core.Bool.{false, cond}
 use mathlib.Core.List.{List, [], ◌∷◌, ◌++◌}
+use Rattle.std.specs.Prelude.{Ok, Err}
 use Rattle.terms.specs.declared.Settings.{Settings}
 use Rattle.terms.specs.declared.Event.{Event}
 use Rattle.terms.specs.declared.Report.{Report}
 use Rattle.terms.specs.declared.Refusal.{Refusal}
 use Rattle.terms.specs.declared.Refusal.TheVariants.{SmallRoom, Unsound}
-use Rattle.terms.specs.declared.Verdict.{Verdict}
-use Rattle.terms.specs.declared.Verdict.TheVariants.{Fine, Refused}
-use Rattle.terms.specs.Refusals.{code_of}
+use Rattle.terms.specs.Refusals.{Verdict, code_of}
 use Rattle.terms.specs.Settings.{settings_verdict}
 use Rattle.terms.proofs.Logic.{cases}
 use Rattle.terms.proofs.Refusals.{refusal-number}
@@ -34,14 +33,14 @@ use Rattle.promises.proofs.Tables.{verdict_on, short-verdict, judged_verdict, re
 
 -- ---- the two cases of an opening
 
-by_opening : (P : Opened → Type 0) (g : Settings) → (settings_verdict g ≡ Fine → P (opened_by g Fine)) →
-    ((r : Refusal) → settings_verdict g ≡ Refused r → P (opened_by g (Refused r))) → P (opening_of g)
+by_opening : (P : Opened → Type 0) (g : Settings) → (settings_verdict g ≡ Ok tt → P (opened_by g (Ok tt))) →
+    ((r : Refusal) → settings_verdict g ≡ Err r → P (opened_by g (Err r))) → P (opening_of g)
 unfolding opening_of
 by_opening P g f h = go (settings_verdict g) refl
   where
     go : (v : Verdict) → settings_verdict g ≡ v → P (opened_by g v)
-    go Fine e = f e
-    go (Refused r) e = h r e
+    go (Ok _) e = f e
+    go (Err r) e = h r e
 
 -- no order is live after an opening, whatever lies in the tables
 pub opening-held : (g : Settings) (buys sells : List ℕ) → day_held (opened_on (opening_of g) buys sells) ≡ first_day g
@@ -58,9 +57,9 @@ unfolding fixed_session
 none-given g = by_opening (λ (o : Opened). o.session.live.given ≡ 0) g (λ e. (opened-begun g).none-given) (λ r e. refl)
 
 -- an opening that answers 0 begins the day of its settings, which no refusal applies to
-pub opened-fine : (g : Settings) → code_of (opening_of g).verdict ≡ 0 → (settings_verdict g ≡ Fine) × (first_day g ≡ opened g)
+pub opened-fine : (g : Settings) → code_of (opening_of g).verdict ≡ 0 → (settings_verdict g ≡ Ok tt) × (first_day g ≡ opened g)
 opened-fine g =
-    by_opening (λ (o : Opened). code_of o.verdict ≡ 0 → (settings_verdict g ≡ Fine) × (empty_day o.session ≡ opened g)) g
+    by_opening (λ (o : Opened). code_of o.verdict ≡ 0 → (settings_verdict g ≡ Ok tt) × (empty_day o.session ≡ opened g)) g
     (λ e z. (e, refl))
     (λ r e z. absurd (omega (arith, (refusal-number r).0)))
 
@@ -111,7 +110,7 @@ run-told g es rs h r =
 -- ---- where every call is refused, nothing is reported and nothing changes
 
 abbrev Stuck : Held → Type 0
-Stuck h = (c : Call) → (r : Refusal) × (verdict_on h c ≡ Refused r)
+Stuck h = (c : Call) → (r : Refusal) × (verdict_on h c ≡ Err r)
 
 stuck_run : (h : Held) (es : List Event) (rs : List Report) (h' : Held) → Stuck h → Calling h es rs h' → (rs ≡ []) × (h' ≡ h)
 stuck_run h es rs h' s (ends h₀) = (refl, refl)
@@ -123,7 +122,7 @@ stuck_run h es rs h' s (calls h₀ h₁ h₂ c es₀ rs₀ rs₁ k run) =
 
 module _ (h : Held) (u : sound (day_held h) ≡ false) where
   -- a call is refused with 1 where something lent is short, else with 2
-  unsound_verdict : (c : Call) → verdict_on h c ≡ cond (has_room h c) (Refused Unsound) (Refused SmallRoom)
+  unsound_verdict : (c : Call) → verdict_on h c ≡ cond (has_room h c) (Err Unsound) (Err SmallRoom)
   unsound_verdict c =
       cases (has_room h c) (λ b. judged_verdict h c b ∙ unsound_refused (day_held h) c.event u ∙ rw b refl) (λ b. short-verdict h c b ∙ rw b refl)
 

@@ -8,12 +8,12 @@ use lib.ListN.{length, take, drop}
 use lib.Dec.{eqb}
 use lib.Seq.{take-append_seam}
 use borrow.Author.Tests.{leb-true}
+use Rattle.std.specs.Prelude.{Ok, Err}
 use Rattle.terms.specs.declared.Event.{Event}
 use Rattle.terms.specs.declared.Settings.{Settings}
 use Rattle.terms.specs.declared.Order.{Order}
 use Rattle.terms.specs.declared.Refusal.TheVariants.{SmallRoom}
-use Rattle.terms.specs.declared.Verdict.{Verdict}
-use Rattle.terms.specs.declared.Verdict.TheVariants.{Fine, Refused}
+use Rattle.terms.specs.Refusals.{Verdict}
 use Rattle.terms.specs.Sizes.{slots}
 use Rattle.tables.specs.Lengths.{table_length, room_length}
 use Rattle.terms.specs.Settings.{settings_verdict}
@@ -60,8 +60,8 @@ Long l = roomy l.buys l.sells l.room ≡ true
 
 none_live : (v : Verdict) (g : Settings) → ((opened_by g v).session.live.buys ≡ 0) × ((opened_by g v).session.live.sells ≡ 0)
 unfolding opened_session fixed_session
-none_live Fine g = (refl, refl)
-none_live (Refused r) g = (refl, refl)
+none_live (Ok _) g = (refl, refl)
+none_live (Err r) g = (refl, refl)
 
 opened-day : (g : Settings) (l : Lent) → day_lent (calls.opened l (opening_of g).session) ≡ days.opened (day_lent l) (opening_of g).session
 unfolding opening_of calls days decode
@@ -89,9 +89,9 @@ module _ (l : Lent) (e : Event) (long : Long l) where
       (ap (λ (x : Outcome). table_by x.verdict x.day.sells l.sells) comes_to)
 
   -- it leaves tables and room long enough
-  table_kept : (v : Verdict) (os : List Order) (t : List ℕ) → (v ≡ Fine → length os ≤ slots) → table_length ≤ length t → length (table_by v os t) ≡ length t
-  table_kept Fine os t f h = length-table_of os t (f refl) h
-  table_kept (Refused r) os t f h = refl
+  table_kept : (v : Verdict) (os : List Order) (t : List ℕ) → (v ≡ Ok tt → length os ≤ slots) → table_length ≤ length t → length (table_by v os t) ≡ length t
+  table_kept (Ok _) os t f h = length-table_of os t (f refl) h
+  table_kept (Err r) os t f h = refl
 
   all-long : (table_length ≤ length l.buys) × (table_length ≤ length l.sells) × (room_length ≤ length l.room)
   unfolding roomy
@@ -172,7 +172,7 @@ end-long left stage l bytes h =
 
 -- ---- one call of feed or end, where nothing lent is short
 
-module _ (run : Run) (buys sells room bytes out : List ℕ) (v : feed_verdict buys sells room ≡ Fine) where
+module _ (run : Run) (buys sells room bytes out : List ℕ) (v : feed_verdict buys sells room ≡ Ok tt) where
   fine-long : roomy buys sells room ≡ true
   unfolding feed_verdict
   fine-long = (fine-first SmallRoom (roomy buys sells room) _ v).0
@@ -209,7 +209,7 @@ module _ (of : Feed) (h h' : Holding) (p : Piece) (text : List ℕ) (k : PieceFe
       same-said printing (length bytes) f.stage f.world bytes long ∙ (λ i. printed_from days (stage i) (world i) (kept i ++ more))
 
 -- what was to be printed of these bytes before the call, in terms of days
-beforehand : (h : Holding) (p : Piece) → feed_verdict h.buys h.sells p.room ≡ Fine → (more : List ℕ) →
+beforehand : (h : Holding) (p : Piece) → feed_verdict h.buys h.sells p.room ≡ Ok tt → (more : List ℕ) →
     printed_from calls h.run.stage (lent_of h.run.session h.buys h.sells p.room) ((h.kept ++ p.bytes) ++ more) ≡ to_print h (p.bytes ++ more)
 beforehand h p v more =
     let l : Lent = lent_of h.run.session h.buys h.sells p.room in

@@ -6,16 +6,15 @@ use mathlib.Core.Bool.{Bool, true, false}
 use mathlib.Core.List.{List, [], ◌∷◌, ◌++◌, append_assoc}
 use lib.ListN.{length, take, replicate, length-replicate}
 use borrow.Author.Tests.{le-leb, leb-true}
+use Rattle.std.specs.Prelude.{Ok, Err}
 use Rattle.terms.specs.declared.Settings.{Settings}
 use Rattle.terms.specs.declared.Event.{Event}
 use Rattle.terms.specs.declared.Order.{Order}
 use Rattle.terms.specs.declared.Report.{Report}
 use Rattle.terms.specs.declared.Refusal.TheVariants.{SmallRoom}
-use Rattle.terms.specs.declared.Verdict.{Verdict}
-use Rattle.terms.specs.declared.Verdict.TheVariants.{Fine, Refused}
 use Rattle.terms.specs.Sizes.{slots}
 use Rattle.terms.specs.Settings.{settings_verdict}
-use Rattle.terms.specs.Refusals.{code_of}
+use Rattle.terms.specs.Refusals.{Verdict, code_of}
 use Rattle.terms.proofs.Logic.{both, make, cases}
 use Rattle.tables.specs.Lengths.{table_length, room_length}
 use Rattle.tables.specs.Records.{records_of}
@@ -30,7 +29,7 @@ use Rattle.engine_law.specs.Outcome.{Outcome, outcome, after, told}
 use Rattle.engine_law.specs.Calls.{roomy, LongTables, called, answer_by, table_by}
 use Rattle.engine_law.proofs.Applies.{called-outcome}
 use Rattle.engine_law.proofs.Left.{sides_few}
-use Rattle.resume_law.specs.declared.Comeback.{Comeback}
+use Rattle.resume_law.specs.Answers.{Comeback, bad_at}
 use Rattle.resume_law.specs.Saved.{saved, any_event, AllAccepted, accepted_of, whole_in}
 use Rattle.resume_law.specs.Rebuilt.{Rebuilt, rebuilt, resumed}
 use Rattle.resume_law.specs.Calls.{table_after, tables_long, resumed_on}
@@ -82,7 +81,7 @@ module _ (h h₁ h₂ : Held) (e : Event) (es : List Event) (rs : List Report) (
 
   leaves_by : (v : Verdict) → o.verdict ≡ v → Leaves h₁ o.day es h₂ → Leaves h (day_held h) (e ∷ es) h₂
   unfolding accepted_of after
-  leaves_by Fine v k =
+  leaves_by (Ok _) v k =
       let few = sides_few (day_held h) e v in
       let b : Bool = any_event (accepted_of o.day es) in
       let still : b ≡ false → after o.day es ≡ o.day = none_after o.day es in
@@ -96,7 +95,7 @@ module _ (h h₁ h₂ : Held) (e : Event) (es : List Event) (rs : List Report) (
             (side-on (after o.day es).sells o.day.sells h.sells h₁.sells h₂.sells b few.1
             (l.sells ∙ ap (λ (x : Verdict). table_by x o.day.sells h.sells) v) k.sold (λ q. ap (λ (d : Day). d.sells) (still q)));
       }
-  leaves_by (Refused r) v k =
+  leaves_by (Err r) v k =
       let w =
       leaves_same h h₁ h₂ o.day es
       (l.buys ∙ ap (λ (x : Verdict). table_by x o.day.buys h.buys) v)
@@ -133,18 +132,18 @@ record Exactly (g : Settings) (buys sells : List ℕ) (es : List Event) (h : Hel
   sold : h.sells ≡ table_after (any_event es) (after (opened g) es).sells sells
 
 -- an opening of settings that pass
-opening-fine : (g : Settings) → settings_verdict g ≡ Fine → opening_of g ≡ opened_by g Fine
+opening-fine : (g : Settings) → settings_verdict g ≡ Ok tt → opening_of g ≡ opened_by g (Ok tt)
 unfolding opening_of
 opening-fine g v = ap (opened_by g) v
 
 abbrev at_opening : Settings → List ℕ → List ℕ → Held
 at_opening g buys sells = opened_on (opening_of g) buys sells
 
-opened-held : (g : Settings) (buys sells : List ℕ) → settings_verdict g ≡ Fine → day_held (at_opening g buys sells) ≡ opened g
+opened-held : (g : Settings) (buys sells : List ℕ) → settings_verdict g ≡ Ok tt → day_held (at_opening g buys sells) ≡ opened g
 opened-held g buys sells v =
     opening-held g buys sells ∙ ap (λ (o : Opened). record { session = o.session; buys = []; sells = [] }) (opening-fine g v)
 
-run_exactly : (g : Settings) (buys sells : List ℕ) (es : List Event) (rs : List Report) (h : Held) → settings_verdict g ≡ Fine →
+run_exactly : (g : Settings) (buys sells : List ℕ) (es : List Event) (rs : List Report) (h : Held) → settings_verdict g ≡ Ok tt →
     AllAccepted (opened g) es → Calling (at_opening g buys sells) es rs h → Exactly g buys sells es h
 run_exactly g buys sells es rs h v a run =
     let o : day_held (at_opening g buys sells) ≡ opened g = opened-held g buys sells v in
@@ -162,7 +161,7 @@ run_exactly g buys sells es rs h v a run =
 abbrev blank_room : List ℕ
 blank_room = replicate room_length 0
 
-module _ (h : Held) (e : Event) (long : LongTables h.buys h.sells) (v : (outcome (day_held h) e).verdict ≡ Fine) where
+module _ (h : Held) (e : Event) (long : LongTables h.buys h.sells) (v : (outcome (day_held h) e).verdict ≡ Ok tt) where
   abbrev was : Outcome
   was = called h.session e h.buys h.sells blank_room
 
@@ -183,7 +182,7 @@ module _ (h : Held) (e : Event) (long : LongTables h.buys h.sells) (v : (outcome
   was_is : was ≡ outcome (day_held h) e
   was_is = called-outcome h.session e h.buys h.sells blank_room room_is
 
-  fine : was.verdict ≡ Fine
+  fine : was.verdict ≡ Ok tt
   fine = ap (λ (x : Outcome). x.verdict) was_is ∙ v
 
   hands : HandsOut (answer_by was.verdict (length was.reports)) (put blank_room 0 (records_of was.reports)) was.reports
@@ -227,7 +226,7 @@ record Ran (h : Held) (es : List Event) : Type 0 where
   run : Calling h es (told (day_held h) es) left
 
 -- one call more
-ran_on : (h : Held) (e : Event) (es : List Event) (long : LongTables h.buys h.sells) (v : (outcome (day_held h) e).verdict ≡ Fine) → Ran (after_call h e long v) es → Ran h (e ∷ es)
+ran_on : (h : Held) (e : Event) (es : List Event) (long : LongTables h.buys h.sells) (v : (outcome (day_held h) e).verdict ≡ Ok tt) → Ran (after_call h e long v) es → Ran h (e ∷ es)
 unfolding told
 ran_on h e es long v r =
     let c : Call = record { event = e; room = blank_room } in
@@ -276,14 +275,14 @@ module _ (bytes buys sells : List ℕ) (n : ℕ) (h : Held) (c : Came bytes buys
   abbrev x : Rebuilt
   x = resumed_on buys sells bytes
 
-  answer_is : x.answer ≡ Comeback.Counts n
+  answer_is : x.answer ≡ Ok n
   answer_is = sym c.contract.answer ∙ c.counts
 
   long_is : tables_long buys sells ≡ true
   unfolding resumed_on
   long_is =
       cases (tables_long buys sells) (λ t. t)
-      (λ f. absurd (let q : Comeback.Refused SmallRoom 0 ≡ Comeback.Counts n = rw f at answer_is in let z : ◌≡◌ {A = ℕ} 0 1 = cc in omega arith))
+      (λ f. absurd (let q : ◌≡◌ {A = Comeback} (bad_at SmallRoom 0) (Ok n) = rw f at answer_is in let z : ◌≡◌ {A = ℕ} 0 1 = cc in omega arith))
 
   x_is : x ≡ resumed bytes
   unfolding resumed_on

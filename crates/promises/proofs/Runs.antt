@@ -5,12 +5,12 @@ use native.Mathlib.Nat.{le_refl, le_trans}
 use mathlib.Core.Path.{◌≡◌, refl, sym, ap, ◌∙◌, subst}
 use mathlib.Core.Bool.{true}
 use mathlib.Core.List.{List, [], ◌∷◌, ◌++◌, append_assoc, append-nil}
+use Rattle.std.specs.Prelude.{Ok}
 use Rattle.terms.specs.declared.Settings.{Settings}
 use Rattle.terms.specs.declared.Entry.{Entry}
 use Rattle.terms.specs.declared.Event.{Event}
 use Rattle.terms.specs.declared.Act.TheVariants.{Enter}
 use Rattle.terms.specs.declared.Report.{Report}
-use Rattle.terms.specs.declared.Verdict.TheVariants.{Fine}
 use Rattle.book_law.specs.Told.{total, traded_in, cancelled_in, traded, cancelled}
 use Rattle.book_law.proofs.Remainder.{total-append}
 use Rattle.state_law.specs.Day.{Day}
@@ -119,7 +119,7 @@ run_new id d (e ∷ es) h =
 pub run-asked : (d : Day) (before later : List Event) (t : ℕ) (n : Entry) → (outcome (after d before) (record {
   time = t;
   act = Enter n;
-})).verdict ≡ Fine →
+})).verdict ≡ Ok tt →
     asked ((after d before).session.live.given + 1) d (before ++ (record { time = t; act = Enter n } ∷ later)) ≡ n.lots
 unfolding asked
 run-asked d before later t n h =

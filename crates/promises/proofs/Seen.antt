@@ -7,17 +7,16 @@ use mathlib.Core.Path.{◌≡◌, refl, sym, ap, ◌∙◌, subst}
 use mathlib.Core.Bool.{Bool, true, false, cond}
 use mathlib.Core.List.{List, [], append-nil}
 use lib.ListN.{length, take, length-append, length-replicate}
+use Rattle.std.specs.Prelude.{Ok, Err}
 use Rattle.terms.specs.declared.Settings.{Settings}
 use Rattle.terms.specs.declared.Event.{Event}
 use Rattle.terms.specs.declared.Order.{Order}
 use Rattle.terms.specs.declared.Report.{Report}
 use Rattle.terms.specs.declared.Side.{Side}
 use Rattle.terms.specs.declared.Side.TheVariants.{Buy, Sell}
-use Rattle.terms.specs.declared.Verdict.{Verdict}
-use Rattle.terms.specs.declared.Verdict.TheVariants.{Fine, Refused}
 use Rattle.terms.specs.Sizes.{slots}
 use Rattle.tables.specs.Lengths.{width, table_length}
-use Rattle.terms.specs.Refusals.{code_of}
+use Rattle.terms.specs.Refusals.{Verdict, code_of}
 use Rattle.terms.proofs.Refusals.{refusal-number}
 use Rattle.tables.specs.Tables.{decode, encode, table_of}
 use Rattle.tables.proofs.Slots.{length-encode, length-decode, decode-encode, encode-decode}
@@ -89,14 +88,14 @@ table_long os t = simp (length-append, length-replicate) (omega (arith, length-e
 called-long : {P : Type 0} (h h' : Held) (c : Call) (rs : List Report) → Called h c rs h' → (Long h' → P) → (h' ≡ h → P) → P
 called-long {P} h h' c rs k f g = go (verdict_on h c) refl
   where
-    table : (v : Verdict) (os : List Order) (t u : List ℕ) → v ≡ Fine → u ≡ table_by v os t → table_length ≤ length u
+    table : (v : Verdict) (os : List Order) (t u : List ℕ) → v ≡ Ok tt → u ≡ table_by v os t → table_length ≤ length u
     table v os t u e w = rw (w, e) (table_long os t)
 
     go : (v : Verdict) → verdict_on h c ≡ v → P
-    go Fine v =
+    go (Ok _) v =
         let fine = verdict-called h c ∙ v in
         f (table _ _ _ h'.buys fine k.contract.bought, table _ _ _ h'.sells fine k.contract.sold)
-    go (Refused r) v = g (refused-call h h' c rs k r v).1
+    go (Err r) v = g (refused-call h h' c rs k r v).1
 
 run_long : {P : Type 0} (h : Held) (es : List Event) (rs : List Report) (h' : Held) → Calling h es rs h' → (Long h' → P) → (h' ≡ h → P) → P
 run_long h es rs h' (ends h₀) f g = g refl
@@ -130,8 +129,8 @@ module _ {g : Settings} {es : List Event} {rs : List Report} {h : Held} (r : Run
   start_seen id = ap (resting id) (start-held r) ∙ (λ i. lots_of id (sym (none_seen Buy) i) + lots_of id (sym (none_seen Sell) i))
 
 by_code : {P : Type 0} (v : Verdict) → (code_of v ≡ 0 → P) → ((code_of v ≡ 0 → ⊥) → P) → P
-by_code Fine f g = f refl
-by_code (Refused r) f g = g (λ z. omega (arith, (refusal-number r).0))
+by_code (Ok _) f g = f refl
+by_code (Err r) f g = g (λ z. omega (arith, (refusal-number r).0))
 
 pub calls-show-resting : CallsShowResting
 calls-show-resting g es rs h r id =

@@ -7,15 +7,14 @@ use mathlib.Core.Bool.{Bool, true, false}
 use mathlib.Core.List.{List, [], ◌∷◌, ◌++◌}
 use lib.ListN.{length, take}
 use lib.Seq.{take-append_seam}
+use Rattle.std.specs.Prelude.{Ok, Err}
 use Rattle.terms.specs.declared.Event.{Event}
 use Rattle.terms.specs.declared.Report.{Report}
 use Rattle.terms.specs.declared.Refusal.{Refusal}
 use Rattle.terms.specs.declared.Refusal.TheVariants.{SmallRoom}
-use Rattle.terms.specs.declared.Verdict.{Verdict}
-use Rattle.terms.specs.declared.Verdict.TheVariants.{Fine, Refused}
 use Rattle.tables.specs.Lengths.{record_length}
 use Rattle.tables.specs.Records.{records_of}
-use Rattle.terms.specs.Refusals.{code_of}
+use Rattle.terms.specs.Refusals.{Verdict, code_of}
 use Rattle.tables.proofs.Records.{length_records}
 use Rattle.terms.proofs.Refusals.{code_fine}
 use Rattle.tables.specs.Put.{put}
@@ -50,7 +49,7 @@ module _ (h : Held) (c : Call) where
   verdict-called = called-verdict h.session c.event h.buys h.sells c.room
 
   -- row 1 applies, or else the other rows decide, on the day that is held
-  pub short-verdict : has_room h c ≡ false → verdict_on ≡ Refused SmallRoom
+  pub short-verdict : has_room h c ≡ false → verdict_on ≡ Err SmallRoom
   short-verdict = small-verdict h.session c.event h.buys h.sells c.room
 
   pub judged_verdict : has_room h c ≡ true → verdict_on ≡ refusal_of (day_held h) c.event
@@ -91,10 +90,10 @@ module _ (h h' : Held) (c : Call) (rs : List Report) (k : Called h c rs h') wher
   judged b = subst (λ o. Left o h rs h') (judged_called h c b) left
 
   -- a refused call hands out nothing and changes nothing
-  pub refused-call : (r : Refusal) → verdict_on h c ≡ Refused r → (rs ≡ []) × (h' ≡ h)
+  pub refused-call : (r : Refusal) → verdict_on h c ≡ Err r → (rs ≡ []) × (h' ≡ h)
   unfolding called
   refused-call r v =
-      let k' : Left (decided (Refused r) (day_held h) (act (day_held h) c.event)) h rs h' =
+      let k' : Left (decided (Err r) (day_held h) (act (day_held h) c.event)) h rs h' =
       subst (λ x. Left (decided x (day_held h) (act (day_held h) c.event)) h rs h') v left in
       (k'.reports, λ i. record { session = k'.session i; buys = k'.buys i; sells = k'.sells i })
 
@@ -103,9 +102,9 @@ module _ (h h' : Held) (c : Call) (rs : List Report) (k : Called h c rs h') wher
   number_by = answered_code h.session c.event h.buys h.sells c.room h'.buys h'.sells k.room k.answered k.contract
 
   -- a call that answers 0 found nothing short, and its event was accepted on the day that was held
-  accepted-call : number_answered k ≡ 0 → (has_room h c ≡ true) × ((outcome (day_held h) c.event).verdict ≡ Fine)
+  accepted-call : number_answered k ≡ 0 → (has_room h c ≡ true) × ((outcome (day_held h) c.event).verdict ≡ Ok tt)
   accepted-call z =
-      let v : (called_on h c).verdict ≡ Fine = verdict-called h c ∙ code_fine (verdict_on h c) (sym number_by ∙ z) in
+      let v : (called_on h c).verdict ≡ Ok tt = verdict-called h c ∙ code_fine (verdict_on h c) (sym number_by ∙ z) in
       let b : has_room h c ≡ true = fine-roomy h.session c.event h.buys h.sells c.room v in
       (b, sym (ap (λ (o : Outcome). o.verdict) (judged_called h c b)) ∙ v)
 
@@ -170,7 +169,7 @@ run-asks id h es rs h' (calls h₀ h₁ h₂ c es₀ rs₀ rs₁ k run) =
 -- the whole run follows the definitions, and the event is accepted on the day that the events before it leave
 pub record Cut (d : Day) (before later : List Event) (e : Event) (rs own rest : List Report) (h'' : Held) : Type 0 where
   pub whole : Follows d (before ++ (e ∷ later)) (rs ++ (own ++ rest)) h''
-  pub accepted : (outcome (after d before) e).verdict ≡ Fine
+  pub accepted : (outcome (after d before) e).verdict ≡ Ok tt
   pub told-own : own ≡ (outcome (after d before) e).reports
 
 pub cut : (d : Day) (before later : List Event) (e : Event) (rs own rest : List Report) (h h' h'' : Held) (c : Call) → Follows d before rs h →
@@ -186,6 +185,6 @@ cut d before later e rs own rest h h' h'' c f k run same z =
             ∙ sym (told-append d before (e ∷ later));
         day = g.day ∙ ap (λ (x : Day). after x (e ∷ later)) f.day ∙ sym (after-append d before (e ∷ later));
       };
-      accepted = ap (λ (x : Day). (outcome x e).verdict) (sym f.day) ∙ subst (λ x. (outcome (day_held h) x).verdict ≡ Fine) same a.1;
+      accepted = ap (λ (x : Day). (outcome x e).verdict) (sym f.day) ∙ subst (λ x. (outcome (day_held h) x).verdict ≡ Ok tt) same a.1;
       told-own = l.reports ∙ ap (λ (x : Day). (outcome x e).reports) f.day;
     }

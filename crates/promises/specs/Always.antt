@@ -1,10 +1,9 @@
 -- NO RUN MEETS REFUSAL 2: an opened session is sound, and every event leaves it sound. TIME NEVER GOES BACK, in the session and in the
 -- reports. THE REPORTS OF AN EVENT FIT THE ROOM.
-use Rattle.std.specs.Prelude.{◌≤◌, ◌≡◌, true, List, ◌∷◌, ◌++◌, length}
+use Rattle.std.specs.Prelude.{◌≤◌, ◌≡◌, true, List, ◌∷◌, ◌++◌, length, Ok}
 use Rattle.terms.specs.declared.Settings.{Settings}
 use Rattle.terms.specs.declared.Event.{Event}
 use Rattle.terms.specs.declared.Report.{Report}
-use Rattle.terms.specs.declared.Verdict.TheVariants.{Fine}
 use Rattle.tables.specs.Lengths.{reports_most}
 use Rattle.terms.specs.Refusals.{code_of}
 use Rattle.terms.specs.Settings.{settings_verdict}
@@ -13,11 +12,11 @@ use Rattle.soundness_law.specs.Sound.{sound}
 use Rattle.engine_law.specs.Outcome.{outcome, after, told}
 
 abbrev pub AlwaysSound : Type 0
-AlwaysSound = (g : Settings) (es : List Event) → settings_verdict g ≡ Fine → sound (after (opened g) es) ≡ true
+AlwaysSound = (g : Settings) (es : List Event) → settings_verdict g ≡ Ok tt → sound (after (opened g) es) ≡ true
 
 -- after any events, no event is refused with 2
 abbrev pub NeverTwo : Type 0
-NeverTwo = (g : Settings) (es : List Event) (e : Event) → settings_verdict g ≡ Fine → code_of (outcome (after (opened g) es) e).verdict ≡ 2 → ⊥
+NeverTwo = (g : Settings) (es : List Event) (e : Event) → settings_verdict g ≡ Ok tt → code_of (outcome (after (opened g) es) e).verdict ≡ 2 → ⊥
 
 -- after more events the session's time is no earlier
 abbrev pub TimeForward : Type 0

@@ -1,13 +1,12 @@
 -- A CLOCK LINE CHANGES NO TRADE. Slab and ref reports may come at a clock event instead of a later one; every refusal and other report stays.
-use Rattle.std.specs.Prelude.{ℕ, ◌≤◌, ◌≡◌, List, [], ◌∷◌, ◌++◌}
+use Rattle.std.specs.Prelude.{ℕ, ◌≤◌, ◌≡◌, List, [], ◌∷◌, ◌++◌, Ok}
 use Rattle.std.specs.Option.{option_map_or}
 use Rattle.terms.specs.declared.Settings.{Settings}
 use Rattle.terms.specs.declared.Event.{Event}
 use Rattle.terms.specs.declared.Act.TheVariants.{Clock}
 use Rattle.terms.specs.declared.Report.{Report}
 use Rattle.terms.specs.declared.Said.{Said}
-use Rattle.terms.specs.declared.Verdict.{Verdict}
-use Rattle.terms.specs.declared.Verdict.TheVariants.{Fine}
+use Rattle.terms.specs.Refusals.{Verdict}
 use Rattle.book_law.specs.Tells.{tells}
 use Rattle.state_law.specs.Day.{Day, opened}
 use Rattle.engine_law.specs.Outcome.{outcome, after}
@@ -41,5 +40,5 @@ From t (e ∷ es) = (t ≤ e.time) × From t es
 -- after any events, an accepted clock event that is not later than those that follow changes no reply to them
 abbrev pub ClockLine : Type 0
 ClockLine =
-    (g : Settings) (before later : List Event) (t : ℕ) → (outcome (after (opened g) before) (clock_at t)).verdict ≡ Fine → From t later →
+    (g : Settings) (before later : List Event) (t : ℕ) → (outcome (after (opened g) before) (clock_at t)).verdict ≡ Ok tt → From t later →
     replies (outcome (after (opened g) before) (clock_at t)).day later ≡ replies (after (opened g) before) later

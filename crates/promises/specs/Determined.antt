@@ -4,7 +4,7 @@ use Rattle.terms.specs.declared.Settings.{Settings}
 use Rattle.terms.specs.declared.Event.{Event}
 use Rattle.terms.specs.declared.Report.{Report}
 use Rattle.terms.specs.declared.Side.{Side}
-use Rattle.terms.specs.declared.Verdict.{Verdict}
+use Rattle.terms.specs.Refusals.{Verdict}
 use Rattle.terms.specs.Settings.{settings_verdict}
 use Rattle.state_law.specs.declared.Session.{Session}
 use Rattle.state_law.specs.declared.Opened.{Opened}

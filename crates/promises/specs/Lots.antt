@@ -1,11 +1,10 @@
 -- EVERY LOT IS ACCOUNTED FOR. For every order accepted in a run, the lots asked for are those that the reports handed out so far say were
 -- traded under its number, and those cancelled under it, and those still resting.
-use Rattle.std.specs.Prelude.{ℕ, ◌+◌, ◌≡◌, List, [], ◌∷◌, ◌++◌}
+use Rattle.std.specs.Prelude.{ℕ, ◌+◌, ◌≡◌, List, [], ◌∷◌, ◌++◌, Ok}
 use Rattle.terms.specs.declared.Settings.{Settings}
 use Rattle.terms.specs.declared.Entry.{Entry}
 use Rattle.terms.specs.declared.Event.{Event}
 use Rattle.terms.specs.declared.Act.TheVariants.{Enter}
-use Rattle.terms.specs.declared.Verdict.TheVariants.{Fine}
 use Rattle.book_law.specs.Told.{traded, cancelled}
 use Rattle.state_law.specs.Day.{Day, opened}
 use Rattle.acts_law.specs.Asked.{asked_by, resting}
@@ -29,5 +28,5 @@ OrderKept =
     let e : Event = record { time = t; act = Enter n } in
     let id : ℕ = (after (opened g) before).session.live.given + 1 in
     let es : List Event = before ++ (e ∷ later) in
-    (outcome (after (opened g) before) e).verdict ≡ Fine →
+    (outcome (after (opened g) before) e).verdict ≡ Ok tt →
     n.lots ≡ traded id (told (opened g) es) + cancelled id (told (opened g) es) + resting id (after (opened g) es)

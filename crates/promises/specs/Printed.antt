@@ -1,8 +1,7 @@
 -- WHAT THE PROGRAM PRINTS: a run of calls of `feed::lines::take_lines`, each handed what the last one left and a further piece of the input,
 -- followed by `feed::lines::take_end`, prints `printed` of the whole input. That definition speaks of days, and knows no call, table or
 -- piece.
-use Rattle.std.specs.Prelude.{ℕ, ◌≡◌, List, [], ◌++◌, take, drop}
-use Rattle.terms.specs.declared.Verdict.TheVariants.{Fine}
+use Rattle.std.specs.Prelude.{ℕ, ◌≡◌, List, [], ◌++◌, take, drop, Ok}
 use Rattle.state_law.specs.Day.{Day}
 use Rattle.soundness_law.specs.Sound.{day_in}
 use Rattle.feed_law.specs.declared.Run.{Run}
@@ -40,7 +39,7 @@ pub record PieceFed (of : Feed) (h : Holding) (p : Piece) (text : List ℕ) (h' 
   pub answered : Taken
   pub room : List ℕ
   pub out : List ℕ
-  pub enough : feed_verdict h.buys h.sells p.room ≡ Fine
+  pub enough : feed_verdict h.buys h.sells p.room ≡ Ok tt
   pub contract : TakenBy of h.run h.buys h.sells p.room (h.kept ++ p.bytes) p.out h'.buys h'.sells room out answered
   pub run : h'.run ≡ answered.run
   pub kept : h'.kept ≡ drop answered.used (h.kept ++ p.bytes)

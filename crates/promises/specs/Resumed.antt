@@ -1,7 +1,7 @@
 -- COMING BACK (document 02, item 4). A call of `resume::resume` on saved bytes and two tables that hold anything leaves what a run of calls
 -- leaves on these tables, whose events are those that were saved. So whatever is promised of runs is promised of what follows it, with the
 -- reports of the saved events, and no others, as handed out.
-use Rattle.std.specs.Prelude.{ℕ, ◌+◌, ◌-◌, ◌≤◌, ◌≡◌, true, false, List, [], ◌++◌, length, take}
+use Rattle.std.specs.Prelude.{ℕ, ◌+◌, ◌-◌, ◌≤◌, ◌≡◌, true, false, List, [], ◌++◌, length, take, Ok}
 use Rattle.terms.specs.declared.Settings.{Settings}
 use Rattle.terms.specs.declared.Entry.{Entry}
 use Rattle.terms.specs.declared.Event.{Event}
@@ -9,7 +9,6 @@ use Rattle.terms.specs.declared.Act.TheVariants.{Enter}
 use Rattle.terms.specs.declared.Report.{Report}
 use Rattle.terms.specs.declared.Refusal.{Refusal}
 use Rattle.terms.specs.declared.Refusal.TheVariants.{SmallRoom}
-use Rattle.terms.specs.declared.Verdict.TheVariants.{Fine}
 use Rattle.terms.specs.Settings.{settings_verdict}
 use Rattle.lines_reading_law.specs.Lines.{render_settings}
 use Rattle.book_law.specs.Told.{traded, cancelled}
@@ -21,7 +20,7 @@ use Rattle.engine_law.specs.Calls.{LongTables, event_at}
 use Rattle.feed_law.specs.declared.Stage.{Stage}
 use Rattle.feed_law.specs.Worlds.{days}
 use Rattle.feed_law.specs.Saving.{saved_in, state_in}
-use Rattle.resume_law.specs.declared.Comeback.{Comeback}
+use Rattle.resume_law.specs.Answers.{bad_at}
 use Rattle.resume_law.specs.declared.Resumed.{Resumed}
 use Rattle.resume_law.specs.Saved.{saved, any_event, AllAccepted, accepted_of, whole_in}
 use Rattle.resume_law.specs.Rebuilt.{rebuilt, resumed}
@@ -36,12 +35,12 @@ use Rattle.promises.specs.Runs.{Held, day_held, opened_on, Call, Called, number_
 pub record Came (bytes buys sells : List ℕ) (n : ℕ) (h : Held) : Type 0 where
   pub answered : Resumed
   pub contract : ResumedAs bytes buys sells h.buys h.sells answered
-  pub counts : answered.answer ≡ Comeback.Counts n
+  pub counts : answered.answer ≡ Ok n
   pub session : h.session ≡ answered.session
 
 -- the first n bytes are the lines of settings that pass and of accepted events
 pub record SavedLines (bytes : List ℕ) (n : ℕ) (g : Settings) (es : List Event) : Type 0 where
-  pub settings : settings_verdict g ≡ Fine
+  pub settings : settings_verdict g ≡ Ok tt
   pub accepted : AllAccepted (opened g) es
   pub lines : take n bytes ≡ saved g es
 
@@ -57,13 +56,13 @@ ResumesRun =
 -- leaves exactly, in the session and each number of the tables, what the calls with the whole events leave.
 abbrev pub ResumesExactly : Type 0
 ResumesExactly =
-    (g : Settings) (buys sells : List ℕ) (es : List Event) (k : ℕ) → settings_verdict g ≡ Fine → LongTables buys sells →
+    (g : Settings) (buys sells : List ℕ) (es : List Event) (k : ℕ) → settings_verdict g ≡ Ok tt → LongTables buys sells →
     length (render_settings g) ≤ k →
     let lines : List Event = accepted_of (opened g) es in
     let held : List Event = whole_in (k - length (render_settings g)) lines in
     (buys' sells' : List ℕ) (r : Resumed) → ResumedAs (take k (saved g lines)) buys sells buys' sells' r →
     (rs : List Report) (h : Held) → Calling (opened_on (opening_of g) buys sells) held rs h →
-    (r.answer ≡ Comeback.Counts (length (saved g held))) × (r.session ≡ h.session) × (buys' ≡ h.buys) × (sells' ≡ h.sells)
+    (r.answer ≡ Ok (length (saved g held))) × (r.session ≡ h.session) × (buys' ≡ h.buys) × (sells' ≡ h.sells)
 
 -- ---- a run that begins with such a call: `old` are the saved events, and then come calls with the events es, which hand out rs and leave h
 
@@ -127,7 +126,7 @@ day_after input = state_in days (length input) Stage.Awaiting (record { session 
 -- as is the day on which the program stands
 pub data FileHolds (input : List ℕ) : Type 0 where
   nothing : saved_of input ≡ [] → FileHolds input
-  the_day : (g : Settings) (es : List Event) → saved_of input ≡ saved g es → settings_verdict g ≡ Fine → AllAccepted (opened g) es →
+  the_day : (g : Settings) (es : List Event) → saved_of input ≡ saved g es → settings_verdict g ≡ Ok tt → AllAccepted (opened g) es →
       resumed (saved_of input) ≡ rebuilt (length (saved_of input)) (any_event es) (day_after input) → FileHolds input
 
 -- whatever the input
@@ -145,10 +144,10 @@ state_on d input = state_in days (length input) Stage.Trading d input
 -- as the day on which the program stands
 abbrev pub ProgramGoesOn : Type 0
 ProgramGoesOn =
-    (file input : List ℕ) (n : ℕ) → (resumed file).answer ≡ Comeback.Counts n →
+    (file input : List ℕ) (n : ℕ) → (resumed file).answer ≡ Ok n →
     let d : Day = (resumed file).day in
     let kept : List ℕ = take n file ++ saved_on d input in
-    ((resumed kept).answer ≡ Comeback.Counts (length kept)) × ((resumed kept).day ≡ state_on d input)
+    ((resumed kept).answer ≡ Ok (length kept)) × ((resumed kept).day ≡ state_on d input)
 
 -- ---- refusals
 
@@ -156,11 +155,11 @@ ProgramGoesOn =
 abbrev pub RefusedInOrder : Type 0
 RefusedInOrder =
     (bytes buys sells buys' sells' : List ℕ) (r : Resumed) → ResumedAs bytes buys sells buys' sells' r →
-    (tables_long buys sells ≡ false → r.answer ≡ Comeback.Refused SmallRoom 0)
+    (tables_long buys sells ≡ false → r.answer ≡ bad_at SmallRoom 0)
     × (tables_long buys sells ≡ true → (r.answer ≡ (resumed bytes).answer) × FoundAs bytes (resumed bytes))
 
 -- "any refusal leaves the tables as lent"
 abbrev pub RefusedAsLent : Type 0
 RefusedAsLent =
     (bytes buys sells buys' sells' : List ℕ) (r : Resumed) (q : Refusal) (place : ℕ) → ResumedAs bytes buys sells buys' sells' r →
-    r.answer ≡ Comeback.Refused q place → (r.session ≡ fixed_session) × (buys' ≡ buys) × (sells' ≡ sells)
+    r.answer ≡ bad_at q place → (r.session ≡ fixed_session) × (buys' ≡ buys) × (sells' ≡ sells)

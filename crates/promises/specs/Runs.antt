@@ -31,9 +31,8 @@ use Rattle.soundness_law.specs.Sound.{sound, day_in}
 use Rattle.acts_law.specs.Asked.{asked_by, resting, accepts, numbers_to}
 use Rattle.acts_law.specs.Heard.{initial_band, enhanced_band, band_said, range_said, touched_by, slabs_told}
 use Rattle.engine_law.specs.Outcome.{after, told}
-use Rattle.engine_law.specs.declared.Answer.{Answer}
 use Rattle.engine_law.specs.declared.Applied.{Applied}
-use Rattle.engine_law.specs.Answers.{answer_code, answer_count}
+use Rattle.engine_law.specs.Answers.{answer_code, answer_count, Answer}
 use Rattle.engine_law.specs.Calls.{roomy, AppliedAs, event_at, view_call}
 use Rattle.lines_writing_law.specs.declared.Wrote.{Wrote}
 use Rattle.lines_writing_law.specs.Lines.{render_report, report_figures}

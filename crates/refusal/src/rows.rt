@@ -112,18 +112,18 @@ fn book_rows(s: Session, e: Event, p: Parts, buys: &[u64], sells: &[u64]) -> Ver
     ensures { result ≡ first_failed (book_rules sizes (day_in s buys.now sells.now) e) }
 {
     if !band_right(s, e.time, p.limit) {
-        return Verdict::Refused(Refusal::OutsideBand);
+        return Err(Refusal::OutsideBand);
     }
     if !finds_it(s, p.number, buys, sells) {
-        return Verdict::Refused(Refusal::NotResting);
+        return Err(Refusal::NotResting);
     }
     if !has_place(s, p.entry) {
-        return Verdict::Refused(Refusal::SideFull);
+        return Err(Refusal::SideFull);
     }
     if !has_numbers(s.live.given, s.tape.trades, p.entry) {
-        return Verdict::Refused(Refusal::DayFull);
+        return Err(Refusal::DayFull);
     }
-    Verdict::Fine
+    Ok(())
 }
 
 // Rows 6 and 7, which look at the settings, then those of the book.
@@ -132,10 +132,10 @@ fn market_rows(s: Session, e: Event, p: Parts, buys: &[u64], sells: &[u64]) -> V
     ensures { result ≡ first_failed (market_rules sizes (day_in s buys.now sells.now) e) }
 {
     if !in_hours(p.closes, e.time, s.settings.length) {
-        return Verdict::Refused(Refusal::OutOfHours);
+        return Err(Refusal::OutOfHours);
     }
     if !tick_right(s.settings.tick, p.ticked) {
-        return Verdict::Refused(Refusal::OffTick);
+        return Err(Refusal::OffTick);
     }
     book_rows(s, e, p, buys, sells)
 }
@@ -148,14 +148,14 @@ fn event_rows(s: Session, e: Event, buys: &[u64], sells: &[u64]) -> Verdict
     let p = parts::carried(e.act);
     let running = !s.clock.closed;
     if !running {
-        return Verdict::Refused(Refusal::Closed);
+        return Err(Refusal::Closed);
     }
     if !numbers_right(e.time, p) {
-        return Verdict::Refused(Refusal::NumberRange);
+        return Err(Refusal::NumberRange);
     }
     let forward = s.clock.time <= e.time;
     if !forward {
-        return Verdict::Refused(Refusal::TimeBack);
+        return Err(Refusal::TimeBack);
     }
     market_rows(s, e, p, buys, sells)
 }
@@ -166,7 +166,7 @@ pub fn verdict(s: Session, e: Event, buys: &[u64], sells: &[u64]) -> Verdict
     ensures { result ≡ refusal_of (day_in s buys.now sells.now) e }
 {
     if !soundness::is_sound(s, buys, sells) {
-        return Verdict::Refused(Refusal::Unsound);
+        return Err(Refusal::Unsound);
     }
     event_rows(s, e, buys, sells)
 }

@@ -7,16 +7,15 @@ use mathlib.Core.List.{List, [], ◌∷◌}
 use borrow.Author.Tests.{leb-true, ltb-true, eqb-false, not-true}
 use lib.Dec.{leb, ltb, eqb}
 use lib.ListN.{length}
-use Rattle.std.specs.Prelude.{Option, Some}
+use Rattle.std.specs.Prelude.{Option, Some, Ok, Err}
 use Rattle.terms.specs.declared.Entry.{Entry}
 use Rattle.terms.specs.declared.Event.{Event}
 use Rattle.terms.specs.declared.Refusal.{Refusal}
 use Rattle.terms.specs.declared.Refusal.TheVariants.{Unsound, Closed, NumberRange, TimeBack, OutOfHours, OffTick, OutsideBand, NotResting, SideFull, DayFull}
-use Rattle.terms.specs.declared.Verdict.TheVariants.{Fine, Refused}
 use Rattle.terms.specs.Truth.{◌⊓◌}
 use Rattle.terms.specs.Sizes.{time_most, lots_most, price_most, numbers_most, trades_before, sizes}
 use Rattle.terms.specs.Numbers.{is_time, is_lots, is_price, is_number, on_tick}
-use Rattle.terms.specs.Refusals.{number_of, Rule, first_failed, code_of}
+use Rattle.terms.specs.Refusals.{Verdict, number_of, Rule, first_failed, code_of}
 use Rattle.terms.proofs.Logic.{by, cases, split, both, between_facts}
 use Rattle.terms.specs.Options.{of_any}
 use Rattle.rules_law.specs.Slabs.{in_band}
@@ -33,10 +32,10 @@ unfoldable row_of : ℕ → List Rule → Bool
 row_of n [] = true
 row_of n (r ∷ rs) = cond (eqb (number_of r.refusal) n) r.holds (row_of n rs)
 
-not-fine : {P : Type 0} (r : Refusal) → Refused r ≡ Fine → P
+not-fine : {P : Type 0} (r : Refusal) → ◌≡◌ {A = Verdict} (Err r) (Ok tt) → P
 not-fine r e = absurd (let z : ◌≡◌ {A = ℕ} 0 1 = cc in omega arith)
 
-row-holds : (rs : List Rule) → first_failed rs ≡ Fine → (n : ℕ) → row_of n rs ≡ true
+row-holds : (rs : List Rule) → first_failed rs ≡ Ok tt → (n : ℕ) → row_of n rs ≡ true
 unfolding first_failed row_of
 row-holds [] e n = refl
 row-holds (r ∷ rs) e n =
@@ -57,7 +56,7 @@ pub record Accepted (d : Day) (e : Event) : Type 0 where
   pub placed : has_place sizes d e.act ≡ true
   pub numbered : has_numbers sizes d.session.live.given d.session.tape.trades e.act ≡ true
 
-pub accepted : (d : Day) (e : Event) → refusal_of d e ≡ Fine → Accepted d e
+pub accepted : (d : Day) (e : Event) → refusal_of d e ≡ Ok tt → Accepted d e
 unfolding refusal_of row_of
 accepted d e h =
     let row : (n : ℕ) → row_of n (rules d e) ≡ true = row-holds (rules d e) h in
@@ -148,11 +147,11 @@ unfolding refusal_of first_failed
 sound-not_two d e h r = not_among 2 (later_rules sizes d e) (λ z. omega arith) refl (rw h at r)
 
 -- on a day that is not sound every event is refused with 2
-pub unsound_refused : (d : Day) (e : Event) → sound d ≡ false → refusal_of d e ≡ Refused Unsound
+pub unsound_refused : (d : Day) (e : Event) → sound d ≡ false → refusal_of d e ≡ Err Unsound
 unfolding refusal_of first_failed
 unsound_refused d e h = rw h
 
 -- on a sound day that is closed every event is refused with 3
-pub closed_refused : (d : Day) (e : Event) → sound d ≡ true → d.session.clock.closed ≡ true → refusal_of d e ≡ Refused Closed
+pub closed_refused : (d : Day) (e : Event) → sound d ≡ true → d.session.clock.closed ≡ true → refusal_of d e ≡ Err Closed
 unfolding refusal_of first_failed
 closed_refused d e h c = rw (h, c)

@@ -7,11 +7,10 @@ use Rattle.terms.specs.declared.Life.{Life}
 use Rattle.terms.specs.declared.Life.TheVariants.{AllDay, Ioc}
 use Rattle.terms.specs.declared.Band.{Band}
 use Rattle.terms.specs.declared.Refusal.TheVariants.{Unsound, Closed, NumberRange, TimeBack, OutOfHours, OffTick, OutsideBand, NotResting, SideFull, DayFull}
-use Rattle.terms.specs.declared.Verdict.{Verdict}
 use Rattle.terms.specs.Truth.{◌⊓◌}
 use Rattle.terms.specs.Sizes.{Sizes, sizes}
 use Rattle.terms.specs.Numbers.{is_price, is_lots, is_time, is_number, on_tick}
-use Rattle.terms.specs.Refusals.{Rule, unless, first_failed}
+use Rattle.terms.specs.Refusals.{Verdict, Rule, unless, first_failed}
 use Rattle.terms.specs.Options.{of_any}
 use Rattle.rules_law.specs.Slabs.{in_band}
 use Rattle.book_law.specs.Priority.{rests}

@@ -10,25 +10,25 @@ ghost use Rattle.std.specs.Prelude.{◌≤◌, true, ◌≡◌, length};
 ghost use Rattle.terms.specs.Settings.{settings_verdict};
 ghost use Rattle.state_law.specs.Opening.{fixed_session};
 ghost use Rattle.engine_law.specs.Calls.{LongTables, LongEnough};
-ghost use Rattle.resume_law.specs.declared.Comeback.{Comeback};
+ghost use Rattle.resume_law.specs.Answers.{bad_at};
 ghost use Rattle.resume_law.specs.Rebuilt.{trading_by, resumed};
 ghost use Rattle.resume_law.specs.code.Replaying.{bare_from, LaidIf, Scratch, AllLong, RebuiltIn, RebuiltLent};
 ghost use Rattle.resume_law.specs.Calls.{all_long, Scrubbed, ResumedBy, ResumedAs, ResumedLent, resumed_to, tables_long};
 
 use engine::apply;
 use lines_reading_law::ReadSettings;
-use resume_law::{Comeback, Resumed};
+use resume_law::{BadLine, Resumed};
 use state::opening;
 use state_law::Session;
 use tables::{flat, lengths};
-use terms::{Refusal, Settings, Verdict};
+use terms::{Refusal, Settings};
 
 // A refusal: the fixed session, and nothing written.
-fn turned_down(r: Refusal, place: usize) -> Resumed
-    ensures { result ≡ resumed_to (Comeback.Refused r place) fixed_session }
+fn turned_down(refusal: Refusal, place: usize) -> Resumed
+    ensures { result ≡ resumed_to (bad_at refusal place) fixed_session }
 {
     Resumed {
-        answer: Comeback::Refused(r, place),
+        answer: Err(BadLine { refusal, place }),
         session: opening::fixed(),
     }
 }
@@ -88,8 +88,8 @@ fn from_settings(
     let verdict = o.verdict;
     let session = o.session;
     match verdict {
-        Verdict::Fine => from_opening(session, first, saved, buys, sells, bought, sold, room),
-        Verdict::Refused(refusal) => turned_down(Refusal::LineRefused, 0),
+        Ok(()) => from_opening(session, first, saved, buys, sells, bought, sold, room),
+        Err(_) => turned_down(Refusal::LineRefused, 0),
     }
 }
 

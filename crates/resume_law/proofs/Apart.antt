@@ -5,9 +5,9 @@ use mathlib.Core.Path.{◌≡◌, refl, sym, ap, ◌∙◌}
 use mathlib.Core.List.{List, [], ◌∷◌, ◌++◌}
 use lib.ListN.{length, drop}
 use lib.Seq.{drop-append_seam}
+use Rattle.std.specs.Prelude.{Ok}
 use Rattle.terms.specs.declared.Event.{Event}
 use Rattle.terms.specs.declared.Settings.{Settings}
-use Rattle.terms.specs.declared.Verdict.TheVariants.{Fine}
 use Rattle.terms.specs.Settings.{settings_verdict}
 use Rattle.lines_text_law.specs.Grammar.{whole, unfinished}
 use Rattle.lines_reading_law.specs.Lines.{render_event, render_settings}
@@ -30,11 +30,11 @@ same_rest : (a b xs ys : List ℕ) → a ++ xs ≡ b ++ ys → length a ≡ leng
 same_rest a b xs ys e l =
     sym (drop-append_seam a xs) ∙ (λ i. drop (l i) (e i)) ∙ drop-append_seam b ys
 
-read_lines : (d : Day) (e : Event) (es : List Event) → (outcome d e).verdict ≡ Fine → read_event (event_lines (e ∷ es)) ≡ whole e (length (render_event e))
+read_lines : (d : Day) (e : Event) (es : List Event) → (outcome d e).verdict ≡ Ok tt → read_event (event_lines (e ∷ es)) ≡ whole e (length (render_event e))
 unfolding event_lines
 read_lines d e es v = event-lines.back e (event_lines es) (accepted-writable d e v)
 
-no_lines : (d : Day) (e : Event) (es : List Event) → (outcome d e).verdict ≡ Fine → event_lines [] ≡ event_lines (e ∷ es) → ⊥
+no_lines : (d : Day) (e : Event) (es : List Event) → (outcome d e).verdict ≡ Ok tt → event_lines [] ≡ event_lines (e ∷ es) → ⊥
 unfolding event_lines
 no_lines d e es v q =
     let p : whole e (length (render_event e)) ≡ unfinished = sym (read_lines d e es v) ∙ ap read_event (sym q) ∙ event-lines.none in
@@ -53,7 +53,7 @@ lines-apart d d' (e ∷ es) (f ∷ fs) a b q =
     let r : es ≡ fs = lines-apart (outcome d e).day (outcome d' f).day es fs a.1 b.1 rest in
     λ i. same_read p i ∷ r i
 
-pub saved-apart : (g h : Settings) (es fs : List Event) → settings_verdict g ≡ Fine → settings_verdict h ≡ Fine → AllAccepted (opened g) es →
+pub saved-apart : (g h : Settings) (es fs : List Event) → settings_verdict g ≡ Ok tt → settings_verdict h ≡ Ok tt → AllAccepted (opened g) es →
     AllAccepted (opened h) fs → saved g es ≡ saved h fs → (g ≡ h) × (es ≡ fs)
 saved-apart g h es fs v w a b q =
     let p : whole g (length (render_settings g)) ≡ whole h (length (render_settings h)) =

@@ -5,12 +5,12 @@ use mathlib.Core.Path.{◌≡◌, refl, sym, ap, ◌∙◌, subst}
 use mathlib.Core.Bool.{true, false}
 use mathlib.Core.List.{List, [], ◌∷◌, ◌++◌, append_assoc, append-nil}
 use lib.ListN.{length, take, drop, length-append, length-drop, length-take, take-append-drop}
+use Rattle.std.specs.Prelude.{Ok, Err}
 use Rattle.terms.specs.declared.Event.{Event}
 use Rattle.terms.specs.declared.Settings.{Settings}
 use Rattle.terms.specs.declared.Report.{Report}
 use Rattle.terms.specs.declared.Refusal.{Refusal}
-use Rattle.terms.specs.declared.Verdict.{Verdict}
-use Rattle.terms.specs.declared.Verdict.TheVariants.{Fine, Refused}
+use Rattle.terms.specs.Refusals.{Verdict}
 use Rattle.terms.specs.Settings.{settings_verdict}
 use Rattle.lines_text_law.specs.Grammar.{LineAnswer, whole, unfinished, wrong}
 use Rattle.lines_reading_law.specs.Lines.{render_event, render_settings, EventLine, SettingsLine}
@@ -26,7 +26,7 @@ use Rattle.acts_law.proofs.Says.{act-moved}
 use Rattle.engine_law.specs.Outcome.{decided, outcome, after, told}
 use Rattle.engine_law.proofs.Kept.{refused-nothing}
 use Rattle.engine_law.proofs.Joined.{after-append}
-use Rattle.resume_law.specs.declared.Comeback.{Comeback}
+use Rattle.resume_law.specs.Answers.{bad_at}
 use Rattle.resume_law.specs.Saved.{event_lines, saved, any_event, AllAccepted, kept_by, accepted_of}
 use Rattle.resume_law.specs.Rebuilt.{Rebuilt, lines_from, trading_by, settled_by, resumed}
 use Rattle.resume_law.specs.Comes.{ClockIsLast, Replays, SavedReplays, FoundAs, AnyBytesFound, RefusalKeeps}
@@ -51,7 +51,7 @@ saved-more g es e =
     ap (λ (x : List ℕ). render_settings g ++ x) (lines-append es (e ∷ []) ∙ ap (λ (x : List ℕ). event_lines es ++ x) (one_line e))
     ∙ sym (append_assoc (render_settings g) (event_lines es) (render_event e))
 
-accepted-more : (d : Day) (es : List Event) (e : Event) → AllAccepted d es → (outcome (after d es) e).verdict ≡ Fine → AllAccepted d (es ++ (e ∷ []))
+accepted-more : (d : Day) (es : List Event) (e : Event) → AllAccepted d es → (outcome (after d es) e).verdict ≡ Ok tt → AllAccepted d (es ++ (e ∷ []))
 unfolding after
 accepted-more d [] e a v = (v, tt)
 accepted-more d (x ∷ es) e a v = (a.0, accepted-more (outcome d x).day es e a.1 v)
@@ -70,7 +70,7 @@ pub none_left : (l : List ℕ) → length l ≤ 0 → l ≡ []
 none_left [] h = refl
 none_left (x ∷ l) h = absurd (let q : suc (length l) ≤ 0 = h in omega arith)
 
-module _ (bytes : List ℕ) (g : Settings) (v : settings_verdict g ≡ Fine) where
+module _ (bytes : List ℕ) (g : Settings) (v : settings_verdict g ≡ Ok tt) where
   abbrev From : ℕ → List Event → List ℕ → Rebuilt
   From n es rest = lines_from n (length (saved g es)) (any_event es) (after (opened g) es) rest
 
@@ -102,12 +102,12 @@ module _ (bytes : List ℕ) (g : Settings) (v : settings_verdict g ≡ Fine) whe
       size : m ≡ length (render_event e)
       size = let l = length-take m rest in let s : length (take m rest) ≡ length (render_event e) = ap length read.1.0 in omega (arith, read.0)
 
-      stopped : (n : ℕ) (r : Refusal) → (outcome (after (opened g) es) e).verdict ≡ Refused r → FoundAs bytes (From (suc n) es rest)
+      stopped : (n : ℕ) (r : Refusal) → (outcome (after (opened g) es) e).verdict ≡ Err r → FoundAs bytes (From (suc n) es rest)
       stopped n r w =
           found (lines.line_refused (length (saved g es)) (any_event es) (after (opened g) es) rest n e m r q w)
           (line_refused g es e (take m rest) (drop m rest) r (here.split ∙ ap (λ (x : List ℕ). saved g es ++ x) (sym (take-append-drop m rest))) read.1 v here.accepted w)
 
-      next : (outcome (after (opened g) es) e).verdict ≡ Fine → At (es ++ (e ∷ [])) (drop m rest)
+      next : (outcome (after (opened g) es) e).verdict ≡ Ok tt → At (es ++ (e ∷ [])) (drop m rest)
       next w =
           record {
             split =
@@ -123,7 +123,7 @@ module _ (bytes : List ℕ) (g : Settings) (v : settings_verdict g ≡ Fine) whe
           let l = length-append (saved g es) (render_event e) in
           omega (arith, ap length (saved-more g es e), size)
 
-      onward : (n : ℕ) → (outcome (after (opened g) es) e).verdict ≡ Fine → From (suc n) es rest ≡ From n (es ++ (e ∷ [])) (drop m rest)
+      onward : (n : ℕ) → (outcome (after (opened g) es) e).verdict ≡ Ok tt → From (suc n) es rest ≡ From n (es ++ (e ∷ [])) (drop m rest)
       onward n w =
           line-applied (length (saved g es)) (any_event es) (after (opened g) es) rest n e m q w
           ∙ (λ i. lines_from n (place i) (sym (some_more es e) i) (sym (after_more (opened g) es e) i) (drop m rest))
@@ -141,10 +141,10 @@ module _ (bytes : List ℕ) (g : Settings) (v : settings_verdict g ≡ Fine) whe
   module _ (n : ℕ) (again : All n) (es : List Event) (rest : List ℕ) (here : At es rest) (h : length rest ≤ suc n) where
     by_verdict : (e : Event) (m : ℕ) → read_event rest ≡ whole e m → (w : Verdict) → (outcome (after (opened g) es) e).verdict ≡ w →
         FoundAs bytes (From (suc n) es rest)
-    by_verdict e m q Fine w =
+    by_verdict e m q (Ok _) w =
         found (onward es rest here e m q n w)
         (again (es ++ (e ∷ [])) (drop m rest) (next es rest here e m q w) (shorter es rest here e m q n h))
-    by_verdict e m q (Refused r) w = stopped es rest here e m q n r w
+    by_verdict e m q (Err r) w = stopped es rest here e m q n r w
 
     by_read : (o : LineAnswer Event) → read_event rest ≡ o → FoundAs bytes (From (suc n) es rest)
     by_read (whole e m) q = by_verdict e m q (outcome (after (opened g) es) e).verdict refl
@@ -179,10 +179,10 @@ module _ (bytes : List ℕ) where
 
     by_opening : (v : Verdict) → settings_verdict g ≡ v → FoundAs bytes (trading_by v g n bytes)
     unfolding after
-    by_opening Fine v =
+    by_opening (Ok _) v =
         subst (λ (m : ℕ). FoundAs bytes (lines_from (length bytes) m false (opened g) (drop n bytes))) (sym length_is)
         (find bytes g v (length bytes) [] (drop n bytes) (record { split = begins; accepted = tt }) (let l = length-drop n bytes in omega arith))
-    by_opening (Refused r) v = settings_refused g (take n bytes) (drop n bytes) r (sym (take-append-drop n bytes)) head.1 v
+    by_opening (Err r) v = settings_refused g (take n bytes) (drop n bytes) r (sym (take-append-drop n bytes)) head.1 v
 
   by_settings : (o : LineAnswer Settings) → read_settings bytes ≡ o → FoundAs bytes (settled_by o bytes)
   by_settings (whole g n) q = by_opening g n q (settings_verdict g) refl
@@ -194,7 +194,7 @@ any_bytes_found bytes = subst (FoundAs bytes) (sym (settled bytes (read_settings
 
 -- ---- a refusal
 
-keeps : (bytes : List ℕ) (x : Rebuilt) (r : Refusal) (n : ℕ) → FoundAs bytes x → x.answer ≡ Comeback.Refused r n → (x.moved ≡ false) × (x.day.session ≡ fixed_session)
+keeps : (bytes : List ℕ) (x : Rebuilt) (r : Refusal) (n : ℕ) → FoundAs bytes x → x.answer ≡ bad_at r n → (x.moved ≡ false) × (x.day.session ≡ fixed_session)
 keeps bytes x r n (settings_unfinished q) e = (refl, refl)
 keeps bytes x r n (settings_wrong m q) e = (refl, refl)
 keeps bytes x r n (settings_refused g line rest s q l v) e = (refl, refl)
@@ -207,15 +207,15 @@ refusal-keeps bytes r n e = keeps bytes (resumed bytes) r n (any_bytes_found byt
 
 -- ---- the clock
 
-accepted_time : (d : Day) (e : Event) → (outcome d e).verdict ≡ Fine → (outcome d e).day.session.clock.time ≡ e.time
+accepted_time : (d : Day) (e : Event) → (outcome d e).verdict ≡ Ok tt → (outcome d e).day.session.clock.time ≡ e.time
 unfolding outcome
 accepted_time d e v = go (refusal_of d e) v
   where
-    go : (w : Verdict) → (decided w d (act d e)).verdict ≡ Fine → (decided w d (act d e)).day.session.clock.time ≡ e.time
-    go Fine q = (act-moved d e).time
-    go (Refused r) q = absurd (let z : ◌≡◌ {A = ℕ} 0 1 = cc in omega arith)
+    go : (w : Verdict) → (decided w d (act d e)).verdict ≡ Ok tt → (decided w d (act d e)).day.session.clock.time ≡ e.time
+    go (Ok _) q = (act-moved d e).time
+    go (Err r) q = absurd (let z : ◌≡◌ {A = ℕ} 0 1 = cc in omega arith)
 
-accepted-last : (d : Day) (es : List Event) (e : Event) → AllAccepted d (es ++ (e ∷ [])) → (outcome (after d es) e).verdict ≡ Fine
+accepted-last : (d : Day) (es : List Event) (e : Event) → AllAccepted d (es ++ (e ∷ [])) → (outcome (after d es) e).verdict ≡ Ok tt
 unfolding after
 accepted-last d [] e a = a.0
 accepted-last d (x ∷ es) e a = accepted-last (outcome d x).day es e a.1
@@ -231,13 +231,13 @@ module _ (d : Day) (e : Event) (es : List Event) where
 
   replays_by : (v : Verdict) → (outcome d e).verdict ≡ v → Replays (outcome d e).day es → Replays d (e ∷ es)
   unfolding accepted_of after told
-  replays_by Fine v r =
+  replays_by (Ok _) v r =
       record {
         accepted = rw v (v, r.accepted);
         same_day = rw v r.same_day;
         same_told = rw v (ap (λ (x : List Report). (outcome d e).reports ++ x) r.same_told);
       }
-  replays_by (Refused q) v r =
+  replays_by (Err q) v r =
       let n = refused-nothing d e q v in
       record {
         accepted = rw v (subst (λ (x : Day). AllAccepted x (accepted_of (outcome d e).day es)) n.0 r.accepted);

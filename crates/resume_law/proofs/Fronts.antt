@@ -6,11 +6,11 @@ use mathlib.Core.Bool.{Bool, true, false}
 use mathlib.Core.List.{List, [], ◌++◌, append-nil}
 use lib.ListN.{length, drop, length-append, length-drop}
 use lib.Seq.{drop-append-le}
+use Rattle.std.specs.Prelude.{Ok, Err}
 use Rattle.terms.specs.declared.Settings.{Settings}
 use Rattle.terms.specs.declared.Refusal.{Refusal}
 use Rattle.terms.specs.declared.Refusal.TheVariants.{LineUnfinished, LineWrong, LineRefused}
-use Rattle.terms.specs.declared.Verdict.{Verdict}
-use Rattle.terms.specs.declared.Verdict.TheVariants.{Fine, Refused}
+use Rattle.terms.specs.Refusals.{Verdict}
 use Rattle.terms.specs.Settings.{settings_verdict}
 use Rattle.terms.specs.Sizes.{line_room}
 use Rattle.lines_text_law.specs.Grammar.{LineAnswer, whole, unfinished, wrong}
@@ -25,7 +25,7 @@ use Rattle.state_law.specs.declared.Opened.{Opened}
 use Rattle.state_law.specs.Opening.{opening_of, fixed_session}
 use Rattle.state_law.specs.Day.{opened}
 use Rattle.soundness_law.specs.Sound.{day_in}
-use Rattle.resume_law.specs.declared.Comeback.{Comeback}
+use Rattle.resume_law.specs.Answers.{bad_at}
 use Rattle.resume_law.specs.declared.Back.{Back}
 use Rattle.resume_law.specs.Rebuilt.{Rebuilt, refused, lines_from, trading_by, resumed}
 use Rattle.resume_law.specs.Pieces.{BackBy, tells_bad, BackAs, BackBehind, standing, to_come, BackFrom, back_to, unread_back}
@@ -37,7 +37,7 @@ use Rattle.resume_law.proofs.Lays.{judged, session_is, no_live, no-buys, no-sell
 
 -- ---- what is answered with no events
 
-counts-not : {n k : ℕ} {r : Refusal} {P : Type 0} → Comeback.Refused r k ≡ Comeback.Counts n → P
+counts-not : {n k : ℕ} {r : Refusal} {P : Type 0} → bad_at r k ≡ Ok n → P
 counts-not p = absurd (let z : ◌≡◌ {A = ℕ} 0 1 = cc in omega arith)
 
 pub unread_as : {gives : List ℕ → Bool → Type 0} (bytes buys sells : List ℕ) {r : Back} → gives bytes false → r ≡ unread_back → BackAs gives buys sells r
@@ -48,14 +48,14 @@ pub behind_as : {gives gives' : List ℕ → Bool → Type 0} (bytes : List ℕ)
     ((more : List ℕ) (w : Bool) → gives' more w → gives (bytes ++ more) w) → BackBehind gives' bytes buys sells r → BackAs gives buys sells r
 behind_as bytes given k = record { comes = back_of (λ (more : List ℕ). bytes ++ more) given (λ _. refl) (λ _ by. by) k.comes }
 
-module _ {r : Back} {q : Refusal} {n : ℕ} (e : r ≡ back_to (Comeback.Refused q n) fixed_session) where
+module _ {r : Back} {q : Refusal} {n : ℕ} (e : r ≡ back_to (bad_at q n) fixed_session) where
   refused_by : (x : Rebuilt) (buys sells : List ℕ) → x ≡ refused q n → BackBy x buys sells r
   refused_by x buys sells y =
       subst (λ (z : Rebuilt). BackBy z buys sells r) (sym y)
       (record { answer = ap (λ (z : Back). z.answer) e; session = ap (λ (z : Back). z.session) e; day = λ m h. counts-not h })
 
   -- a bad line is told, whatever follows
-  bad_behind : {gives : List ℕ → Bool → Type 0} (bytes buys sells more : List ℕ) (w : Bool) → gives more w → tells_bad (Comeback.Refused q n) ≡ true →
+  bad_behind : {gives : List ℕ → Bool → Type 0} (bytes buys sells more : List ℕ) (w : Bool) → gives more w → tells_bad (bad_at q n) ≡ true →
       resumed (bytes ++ more) ≡ refused q n → BackBehind gives bytes buys sells r
   bad_behind bytes buys sells more w g t y =
       record {
@@ -76,7 +76,7 @@ module _ (gives : List ℕ → Bool → Type 0) (bytes buys sells : List ℕ) (a
   front-whole g n e = answered (whole g n) e
 
   -- the bytes are all that there are
-  pub front-unfinished : gives [] true → a ≡ unfinished → r ≡ back_to (Comeback.Refused LineUnfinished 0) fixed_session → BackBehind gives bytes buys sells r
+  pub front-unfinished : gives [] true → a ≡ unfinished → r ≡ back_to (bad_at LineUnfinished 0) fixed_session → BackBehind gives bytes buys sells r
   front-unfinished g e q =
       record {
         comes =
@@ -85,7 +85,7 @@ module _ (gives : List ℕ → Bool → Type 0) (bytes buys sells : List ℕ) (a
       }
 
   -- whatever follows, the place is the same
-  pub front-wrong : (more : List ℕ) (w : Bool) → gives more w → (n : ℕ) → a ≡ wrong n → r ≡ back_to (Comeback.Refused LineWrong n) fixed_session →
+  pub front-wrong : (more : List ℕ) (w : Bool) → gives more w → (n : ℕ) → a ≡ wrong n → r ≡ back_to (bad_at LineWrong n) fixed_session →
       BackBehind gives bytes buys sells r
   front-wrong more w g n e q =
       bad_behind q bytes buys sells more w g refl
@@ -104,12 +104,12 @@ module _ (g : Settings) (first : ℕ) (bytes : List ℕ) (read : read_settings b
       (sorts.stays settings-lines bytes more (whole g first) (sorts.not-whole refl) (rw read at (settings-lines.right bytes)))
 
   module _ (gives : List ℕ → Bool → Type 0) (o : Opened) (begun : o ≡ opening_of g) (buys sells : List ℕ) (r : Back) where
-    pub opening-refused : (more : List ℕ) (w : Bool) → gives more w → (q : Refusal) → o.verdict ≡ Refused q →
-        r ≡ back_to (Comeback.Refused LineRefused 0) fixed_session → BackBehind gives bytes buys sells r
+    pub opening-refused : (more : List ℕ) (w : Bool) → gives more w → (q : Refusal) → o.verdict ≡ Err q →
+        r ≡ back_to (bad_at LineRefused 0) fixed_session → BackBehind gives bytes buys sells r
     opening-refused more w h q v e =
-        bad_behind e bytes buys sells more w h refl (with_more more ∙ ap (λ (x : Verdict). trading_by x g first (bytes ++ more)) (judged g o begun (Refused q) v))
+        bad_behind e bytes buys sells more w h refl (with_more more ∙ ap (λ (x : Verdict). trading_by x g first (bytes ++ more)) (judged g o begun (Err q) v))
 
-    module _ (v : o.verdict ≡ Fine) (buys' sells' : List ℕ) where
+    module _ (v : o.verdict ≡ Ok tt) (buys' sells' : List ℕ) where
       day_is : day_in o.session buys sells ≡ opened g
       day_is =
           no_live o.session buys sells (no-buys g o begun v) (no-sells g o begun v)
@@ -124,7 +124,7 @@ module _ (g : Settings) (first : ℕ) (bytes : List ℕ) (read : read_settings b
           let cut : drop first all ≡ drop first bytes ++ more = drop-append-le first bytes more first-there in
           let lines : resumed all ≡ lines_from (length (drop first bytes ++ more)) first false (day_in o.session buys sells) (drop first bytes ++ more) =
           with_more more
-          ∙ ap (λ (x : Verdict). trading_by x g first all) (judged g o begun Fine v)
+          ∙ ap (λ (x : Verdict). trading_by x g first all) (judged g o begun (Ok tt) v)
           ∙ same_fuel (length all) (length (drop first all)) first false (opened g) (drop first all) (omega arith) (omega arith)
           ∙ (λ i. lines_from (length (cut i)) first false (sym day_is i) (cut i)) in
           subst (λ (x : Rebuilt). BackBy x buys' sells' r) (sym lines) (record { answer = k.answer; session = k.session; day = k.day })

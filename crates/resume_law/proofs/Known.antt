@@ -5,9 +5,10 @@ use mathlib.Core.Path.{◌≡◌, refl, sym, ap, ◌∙◌, subst}
 use mathlib.Core.Bool.{Bool, true, false, false≢true}
 use mathlib.Core.List.{List}
 use lib.ListN.{length}
+use Rattle.std.specs.Prelude.{Ok, Err}
 use Rattle.terms.specs.declared.Refusal.{Refusal}
 use Rattle.terms.specs.declared.Refusal.TheVariants.{LineUnfinished}
-use Rattle.resume_law.specs.declared.Comeback.{Comeback}
+use Rattle.resume_law.specs.Answers.{Comeback, bad_at}
 use Rattle.resume_law.specs.declared.Back.{Back}
 use Rattle.resume_law.specs.Rebuilt.{resumed}
 use Rattle.resume_law.specs.Pieces.{BackBy, tells_bad, too_many, BackOf, BackAs}
@@ -23,7 +24,7 @@ pub record BadBack (bytes buys sells : List ℕ) (r : Back) : Type 0 where
   pub by : BackBy (resumed bytes) buys sells r
   pub refusal : Refusal
   pub place : ℕ
-  pub bad : r.answer ≡ Comeback.Refused refusal place
+  pub bad : r.answer ≡ bad_at refusal place
   pub finished : refusal ≡ LineUnfinished → ⊥
 
 -- just these bytes are given, and they are not too many
@@ -45,9 +46,15 @@ module _ (gives : List ℕ → Bool → Type 0) (bytes buys sells : List ℕ) (r
       go (bad_met b w g t e k) = record { read = e; by = theirs b w g k }
 
   bad_as : (c : Comeback) → r.answer ≡ c → tells_bad c ≡ true → BackBy (resumed bytes) buys sells r → BadBack bytes buys sells r
-  bad_as (Comeback.Counts n) e t k = absurd (false≢true t)
-  bad_as (Comeback.Refused q n) e t k =
-      record { by = k; refusal = q; place = n; bad = e; finished = λ u. absurd (false≢true (subst (λ (x : Refusal). tells_bad (Comeback.Refused x n) ≡ true) u t)) }
+  bad_as (Ok n) e t k = absurd (false≢true t)
+  bad_as (Err b) e t k =
+      record {
+        by = k;
+        refusal = b.refusal;
+        place = b.place;
+        bad = e;
+        finished = λ u. absurd (false≢true (subst (λ (x : Refusal). tells_bad (bad_at x b.place) ≡ true) u t));
+      }
 
   -- and then a read that fails: it is told, unless a bad line is
   pub broken_back : ((b : List ℕ) → gives b true → ⊥) → BackAs gives buys sells r → r.read ≡ true → BadBack bytes buys sells r

@@ -9,12 +9,12 @@ use lib.ListN.{length, take, drop, replicate, length-drop, length-replicate}
 use lib.Seq.{drop_at, length-take-le}
 use borrow.Rule.Slice.PartMut.{put_mid, same_len_mid}
 use borrow.Author.Tests.{leb-true, not-true, not-false}
+use Rattle.std.specs.Prelude.{Ok, Err}
 use Rattle.terms.specs.declared.Order.{Order}
 use Rattle.terms.specs.declared.Settings.{Settings}
 use Rattle.terms.specs.declared.Refusal.{Refusal}
 use Rattle.terms.specs.declared.Refusal.TheVariants.{SmallRoom, LineUnfinished, LineWrong, LineRefused}
-use Rattle.terms.specs.declared.Verdict.{Verdict}
-use Rattle.terms.specs.declared.Verdict.TheVariants.{Fine, Refused}
+use Rattle.terms.specs.Refusals.{Verdict}
 use Rattle.terms.specs.Truth.{◌⊓◌}
 use Rattle.tables.specs.Lengths.{width, table_length, room_length}
 use Rattle.terms.specs.Settings.{settings_verdict}
@@ -33,7 +33,7 @@ use Rattle.state_law.specs.Day.{Day}
 use Rattle.soundness_law.specs.Sound.{day_in}
 use Rattle.engine_law.specs.Calls.{roomy, LongTables, LongEnough}
 use Rattle.engine_law.proofs.Applies.{found_long}
-use Rattle.resume_law.specs.declared.Comeback.{Comeback}
+use Rattle.resume_law.specs.Answers.{bad_at}
 use Rattle.resume_law.specs.declared.Replayed.{Replayed}
 use Rattle.resume_law.specs.declared.Resumed.{Resumed}
 use Rattle.resume_law.specs.Rebuilt.{Rebuilt, refused, lines_from, trading_by, settled_by, resumed}
@@ -109,10 +109,10 @@ fits-sells bought sold room buys sells t s l e = rw (e, s.sold_length) l.sells_l
 -- ---- a refusal
 
 pub fixed_down : (r : Refusal) (place : ℕ) (s : Session) → s ≡ fixed_session →
-    resumed_to (Comeback.Refused r place) s ≡ resumed_to (Comeback.Refused r place) fixed_session
-fixed_down r place s e = ap (resumed_to (Comeback.Refused r place)) e
+    resumed_to (bad_at r place) s ≡ resumed_to (bad_at r place) fixed_session
+fixed_down r place s e = ap (resumed_to (bad_at r place)) e
 
-turned_down : {x : Rebuilt} {buys sells : List ℕ} {y : Resumed} {r : Refusal} {n : ℕ} → x ≡ refused r n → y ≡ resumed_to (Comeback.Refused r n) fixed_session →
+turned_down : {x : Rebuilt} {buys sells : List ℕ} {y : Resumed} {r : Refusal} {n : ℕ} → x ≡ refused r n → y ≡ resumed_to (bad_at r n) fixed_session →
     ResumedBy x buys sells buys sells y
 turned_down {x} {buys} {sells} {y} e q =
     subst (λ (z : Rebuilt). ResumedBy z buys sells buys sells y) (sym e)
@@ -126,32 +126,32 @@ module _ (g : Settings) (o : Opened) (begun : o ≡ opening_of g) where
   judged v e = by_verdict (settings_verdict g) ∙ ap (λ (x : Opened). x.verdict) (sym begun) ∙ e
     where
       by_verdict : (w : Verdict) → w ≡ (opened_by g w).verdict
-      by_verdict Fine = refl
-      by_verdict (Refused r) = refl
+      by_verdict (Ok _) = refl
+      by_verdict (Err r) = refl
 
-  pub session_is : o.verdict ≡ Fine → o.session ≡ opened_session g
+  pub session_is : o.verdict ≡ Ok tt → o.session ≡ opened_session g
   unfolding opening_of
-  session_is e = ap (λ (x : Opened). x.session) begun ∙ ap (λ (x : Verdict). (opened_by g x).session) (judged Fine e)
+  session_is e = ap (λ (x : Opened). x.session) begun ∙ ap (λ (x : Verdict). (opened_by g x).session) (judged (Ok tt) e)
 
   -- an opened session has no live orders
-  pub no-buys : o.verdict ≡ Fine → o.session.live.buys ≡ 0
+  pub no-buys : o.verdict ≡ Ok tt → o.session.live.buys ≡ 0
   unfolding opened_session
   no-buys e = ap (λ (x : Session). x.live.buys) (session_is e)
 
-  pub no-sells : o.verdict ≡ Fine → o.session.live.sells ≡ 0
+  pub no-sells : o.verdict ≡ Ok tt → o.session.live.sells ≡ 0
   unfolding opened_session
   no-sells e = ap (λ (x : Session). x.live.sells) (session_is e)
 
   module _ (first : ℕ) (bytes buys sells : List ℕ) (y : Resumed) where
-    pub settings-fine : (buys' sells' : List ℕ) → o.verdict ≡ Fine → ResumedBy (bare_from bytes first o.session) buys sells buys' sells' y →
+    pub settings-fine : (buys' sells' : List ℕ) → o.verdict ≡ Ok tt → ResumedBy (bare_from bytes first o.session) buys sells buys' sells' y →
         ResumedBy (trading_by (settings_verdict g) g first bytes) buys sells buys' sells' y
     settings-fine buys' sells' e k =
-        subst (λ (v : Verdict). ResumedBy (trading_by v g first bytes) buys sells buys' sells' y) (sym (judged Fine e))
+        subst (λ (v : Verdict). ResumedBy (trading_by v g first bytes) buys sells buys' sells' y) (sym (judged (Ok tt) e))
         (subst (λ (z : Session). ResumedBy (bare_from bytes first z) buys sells buys' sells' y) (session_is e) k)
 
-    pub settings-turned : (r : Refusal) → o.verdict ≡ Refused r → y ≡ resumed_to (Comeback.Refused LineRefused 0) fixed_session →
+    pub settings-turned : (r : Refusal) → o.verdict ≡ Err r → y ≡ resumed_to (bad_at LineRefused 0) fixed_session →
         ResumedBy (trading_by (settings_verdict g) g first bytes) buys sells buys sells y
-    settings-turned r e q = turned_down (ap (λ (v : Verdict). trading_by v g first bytes) (judged (Refused r) e)) q
+    settings-turned r e q = turned_down (ap (λ (v : Verdict). trading_by v g first bytes) (judged (Err r) e)) q
 
 -- ---- the lines, by how the settings are read
 
@@ -168,11 +168,11 @@ module _ (bytes : List ℕ) (a : LineAnswer Settings) (read : ReadAs SettingsLin
         ResumedBy (trading_by (settings_verdict g) g n bytes) buys sells buys' sells' y → ResumedBy (resumed bytes) buys sells buys' sells' y
     reads_whole buys' sells' g n e k = subst (λ (x : Rebuilt). ResumedBy x buys sells buys' sells' y) (sym (on (whole g n) e)) k
 
-    pub reads_unfinished : a ≡ unfinished → y ≡ resumed_to (Comeback.Refused LineUnfinished 0) fixed_session →
+    pub reads_unfinished : a ≡ unfinished → y ≡ resumed_to (bad_at LineUnfinished 0) fixed_session →
         ResumedBy (resumed bytes) buys sells buys sells y
     reads_unfinished e q = turned_down (on unfinished e) q
 
-    pub reads_wrong : (n : ℕ) → a ≡ wrong n → y ≡ resumed_to (Comeback.Refused LineWrong n) fixed_session →
+    pub reads_wrong : (n : ℕ) → a ≡ wrong n → y ≡ resumed_to (bad_at LineWrong n) fixed_session →
         ResumedBy (resumed bytes) buys sells buys sells y
     reads_wrong n e q = turned_down (on (wrong n) e) q
 
@@ -192,7 +192,7 @@ module _ (buys sells : List ℕ) (b : Bool) (judged : b ≡ tables_long buys sel
       record { buys_long = leb-true table_length (length buys) t.0; sells_long = leb-true table_length (length sells) t.1 }
 
   module _ (bytes : List ℕ) (y : Resumed) where
-    pub short-tables : not b ≡ true → y ≡ resumed_to (Comeback.Refused SmallRoom 0) fixed_session → ResumedAs bytes buys sells buys sells y
+    pub short-tables : not b ≡ true → y ≡ resumed_to (bad_at SmallRoom 0) fixed_session → ResumedAs bytes buys sells buys sells y
     unfolding resumed_on
     short-tables n q = turned_down (rw (is_short n)) q
 
@@ -218,7 +218,7 @@ module _ (buys sells bought sold room : List ℕ) (b : Bool) (judged : b ≡ all
       record { tables = tables-long buys sells true (sym t.0) refl; scratch = found_long bought sold room true (sym t.1) refl }
 
   module _ (bytes : List ℕ) (y : Resumed) where
-    pub lent_short : not b ≡ true → y ≡ resumed_to (Comeback.Refused SmallRoom 0) fixed_session →
+    pub lent_short : not b ≡ true → y ≡ resumed_to (bad_at SmallRoom 0) fixed_session →
         ResumedLent bytes buys sells bought sold room buys sells bought sold room y
     lent_short n q =
         let e : all_long buys sells bought sold room ≡ false = sym judged ∙ not-true b n in

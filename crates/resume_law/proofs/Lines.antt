@@ -4,12 +4,12 @@ use mathlib.Core.Path.{◌≡◌, refl, ap, ◌∙◌}
 use mathlib.Core.Bool.{Bool, true}
 use mathlib.Core.List.{List, []}
 use lib.ListN.{drop}
+use Rattle.std.specs.Prelude.{Ok, Err}
 use Rattle.terms.specs.declared.Event.{Event}
 use Rattle.terms.specs.declared.Settings.{Settings}
 use Rattle.terms.specs.declared.Refusal.{Refusal}
 use Rattle.terms.specs.declared.Refusal.TheVariants.{LineWrong, LineRefused}
-use Rattle.terms.specs.declared.Verdict.{Verdict}
-use Rattle.terms.specs.declared.Verdict.TheVariants.{Fine, Refused}
+use Rattle.terms.specs.Refusals.{Verdict}
 use Rattle.lines_text_law.specs.Grammar.{LineAnswer, whole, unfinished, wrong}
 use Rattle.lines_reading_law.specs.Answers.{read_event, read_settings}
 use Rattle.lines_reading_law.proofs.EventLines.{event-lines}
@@ -34,13 +34,13 @@ module _ (at : ℕ) (moved : Bool) (d : Day) (bytes : List ℕ) where
       lines_from (suc n) at moved d bytes ≡ Then n (record { line = line_by v m; day = (outcome d e).day })
   judged_is n e m v q w = read_is n (whole e m) q ∙ ap (λ (x : Verdict). Then n (record { line = line_by x m; day = (outcome d e).day })) w
 
-  pub line-applied : (n : ℕ) (e : Event) (m : ℕ) → read_event bytes ≡ whole e m → (outcome d e).verdict ≡ Fine →
+  pub line-applied : (n : ℕ) (e : Event) (m : ℕ) → read_event bytes ≡ whole e m → (outcome d e).verdict ≡ Ok tt →
       lines_from (suc n) at moved d bytes ≡ lines_from n (at + m) true (outcome d e).day (drop m bytes)
-  line-applied n e m q w = judged_is n e m Fine q w
+  line-applied n e m q w = judged_is n e m (Ok tt) q w
 
-  pub line_refused : (n : ℕ) (e : Event) (m : ℕ) (r : Refusal) → read_event bytes ≡ whole e m → (outcome d e).verdict ≡ Refused r →
+  pub line_refused : (n : ℕ) (e : Event) (m : ℕ) (r : Refusal) → read_event bytes ≡ whole e m → (outcome d e).verdict ≡ Err r →
       lines_from (suc n) at moved d bytes ≡ refused LineRefused at
-  line_refused n e m r q w = judged_is n e m (Refused r) q w
+  line_refused n e m r q w = judged_is n e m (Err r) q w
 
   pub line-unfinished : (n : ℕ) → read_event bytes ≡ unfinished → lines_from n at moved d bytes ≡ rebuilt at moved d
   unfolding lines_from

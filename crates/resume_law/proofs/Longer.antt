@@ -7,11 +7,11 @@ use mathlib.Core.Bool.{Bool, true}
 use mathlib.Core.List.{List, ◌++◌}
 use lib.ListN.{length, drop, length-drop}
 use lib.Seq.{drop-append-le, drop-drop}
+use Rattle.std.specs.Prelude.{Ok, Err}
 use Rattle.terms.specs.declared.Event.{Event}
 use Rattle.terms.specs.declared.Refusal.{Refusal}
 use Rattle.terms.specs.declared.Refusal.TheVariants.{LineWrong, LineRefused}
-use Rattle.terms.specs.declared.Verdict.{Verdict}
-use Rattle.terms.specs.declared.Verdict.TheVariants.{Fine, Refused}
+use Rattle.terms.specs.Refusals.{Verdict}
 use Rattle.lines_text_law.specs.Grammar.{LineAnswer, whole, unfinished, wrong}
 use Rattle.lines_text_law.specs.Reading.{Right}
 use Rattle.lines_reading_law.specs.Lines.{EventLine}
@@ -22,8 +22,8 @@ use Rattle.state_law.specs.Day.{Day}
 use Rattle.soundness_law.specs.Sound.{sound}
 use Rattle.engine_law.specs.Outcome.{outcome}
 use Rattle.engine_law.proofs.Kept.{accepted-sound}
-use Rattle.resume_law.specs.declared.Comeback.{Comeback}
-use Rattle.resume_law.specs.declared.SavedLine.{SavedLine}
+use Rattle.resume_law.specs.Answers.{Comeback, SavedLine, bad_at}
+use Rattle.resume_law.specs.declared.Halt.{Halt}
 use Rattle.resume_law.specs.Rebuilt.{Rebuilt, rebuilt, refused, Step, step_of, used_by, on_line, lines_from}
 use Rattle.resume_law.specs.Pieces.{tells_bad, unmoved}
 use Rattle.resume_law.proofs.Lines.{line-applied, line_refused, line-unfinished, line_wrong}
@@ -66,11 +66,11 @@ module _ (at : ℕ) (moved : Bool) (d : Day) (bytes : List ℕ) where
   module _ (n k : ℕ) (again : SameFuel n k) (h : length bytes ≤ suc n) (j : length bytes ≤ suc k) where
     fuel_judged : (e : Event) (m : ℕ) → read_event bytes ≡ whole e m → (v : Verdict) → (outcome d e).verdict ≡ v →
         lines_from (suc n) at moved d bytes ≡ lines_from (suc k) at moved d bytes
-    fuel_judged e m q Fine v =
+    fuel_judged e m q (Ok _) v =
         line-applied at moved d bytes n e m q v
         ∙ again (at + m) true (outcome d e).day (drop m bytes) (fewer bytes e m n q h) (fewer bytes e m k q j)
         ∙ sym (line-applied at moved d bytes k e m q v)
-    fuel_judged e m q (Refused r) v = line_refused at moved d bytes n e m r q v ∙ sym (line_refused at moved d bytes k e m r q v)
+    fuel_judged e m q (Err r) v = line_refused at moved d bytes n e m r q v ∙ sym (line_refused at moved d bytes k e m r q v)
 
     fuel_read : (o : LineAnswer Event) → read_event bytes ≡ o → lines_from (suc n) at moved d bytes ≡ lines_from (suc k) at moved d bytes
     fuel_read (whole e m) q = fuel_judged e m q (outcome d e).verdict refl
@@ -96,7 +96,7 @@ pub data Passes (at : ℕ) (moved : Bool) (d : Day) (xs : List ℕ) : Rebuilt �
   short : read_event xs ≡ unfinished → Passes at moved d xs (rebuilt at moved d)
   goes : (used : ℕ) (d' : Day) → sound d' ≡ true → used ≤ length xs → read_event (drop used xs) ≡ unfinished →
       ((ys : List ℕ) → Of at moved d (xs ++ ys) ≡ Of (at + used) true d' (drop used xs ++ ys)) → Passes at moved d xs (rebuilt (at + used) true d')
-  bad : (r : Refusal) (place : ℕ) → tells_bad (Comeback.Refused r place) ≡ true → place ≤ at + length xs → ((ys : List ℕ) → Of at moved d (xs ++ ys) ≡ refused r place) → Passes at moved d xs (refused r place)
+  bad : (r : Refusal) (place : ℕ) → tells_bad (bad_at r place) ≡ true → place ≤ at + length xs → ((ys : List ℕ) → Of at moved d (xs ++ ys) ≡ refused r place) → Passes at moved d xs (refused r place)
 
 abbrev All : ℕ → Type 0
 All n = (at : ℕ) (moved : Bool) (d : Day) (xs : List ℕ) → length xs ≤ n → Passes at moved d xs (lines_from n at moved d xs)
@@ -105,7 +105,7 @@ module _ (at : ℕ) (moved : Bool) (d : Day) (xs : List ℕ) where
   found : {x y : Rebuilt} → x ≡ y → Passes at moved d xs y → Passes at moved d xs x
   found e p = subst (Passes at moved d xs) (sym e) p
 
-  module _ (e : Event) (m : ℕ) (q : read_event xs ≡ whole e m) (v : (outcome d e).verdict ≡ Fine) where
+  module _ (e : Event) (m : ℕ) (q : read_event xs ≡ whole e m) (v : (outcome d e).verdict ≡ Ok tt) where
     abbrev next : Day
     next = (outcome d e).day
 
@@ -137,9 +137,9 @@ module _ (at : ℕ) (moved : Bool) (d : Day) (xs : List ℕ) where
 
   module _ (n : ℕ) (again : All n) (h : length xs ≤ suc n) where
     passes_judged : (e : Event) (m : ℕ) → read_event xs ≡ whole e m → (v : Verdict) → (outcome d e).verdict ≡ v → Passes at moved d xs (lines_from (suc n) at moved d xs)
-    passes_judged e m q Fine v =
+    passes_judged e m q (Ok _) v =
         found (line-applied at moved d xs n e m q v) (onward e m q v (again (at + m) true (outcome d e).day (drop m xs) (fewer xs e m n q h)))
-    passes_judged e m q (Refused r) v =
+    passes_judged e m q (Err r) v =
         found (line_refused at moved d xs n e m r q v)
         (bad LineRefused at refl (omega arith) (λ ys. spare at moved d (xs ++ ys) ∙ line_refused at moved d (xs ++ ys) (length (xs ++ ys)) e m r (stays_whole xs e m q ys) v))
 
@@ -159,17 +159,17 @@ passes (suc n) at moved d xs h = passes_read at moved d xs n (passes n) h (read_
 -- ---- places count from the first byte of all pieces
 
 abbrev pub later : ℕ → Comeback → Comeback
-later b (Comeback.Counts n) = Comeback.Counts (b + n)
-later b (Comeback.Refused r n) = Comeback.Refused r (b + n)
+later b (Ok n) = Ok (b + n)
+later b (Err e) = bad_at e.refusal (b + e.place)
 
 abbrev pub later_by : ℕ → Rebuilt → Rebuilt
 later_by b x = record { answer = later b x.answer; moved = x.moved; day = x.day }
 
 line-later : (b : ℕ) (l : SavedLine) (at : ℕ) (moved : Bool) (d : Day) (more : Rebuilt) → on_line l (b + at) moved d (later_by b more) ≡ later_by b (on_line l at moved d more)
-line-later b (SavedLine.Applied n) at moved d more = refl
-line-later b SavedLine.Refused at moved d more = refl
-line-later b SavedLine.Unfinished at moved d more = refl
-line-later b (SavedLine.Wrong n) at moved d more = ap (refused LineWrong) (add_assoc b at n)
+line-later b (Ok n) at moved d more = refl
+line-later b (Err Halt.Refused) at moved d more = refl
+line-later b (Err Halt.Unfinished) at moved d more = refl
+line-later b (Err (Halt.Wrong n)) at moved d more = ap (refused LineWrong) (add_assoc b at n)
 
 pub lines-later : (b n at : ℕ) (moved : Bool) (d : Day) (bytes : List ℕ) → lines_from n (b + at) moved d bytes ≡ later_by b (lines_from n at moved d bytes)
 unfolding lines_from
@@ -184,10 +184,10 @@ lines-later b (suc n) at moved d bytes =
 -- ---- whether an event was among the lines before changes neither answer nor day
 
 line-unmoved : (l : SavedLine) (at : ℕ) (m m' : Bool) (d : Day) (more : Rebuilt) → unmoved (on_line l at m d more) ≡ unmoved (on_line l at m' d more)
-line-unmoved (SavedLine.Applied n) at m m' d more = refl
-line-unmoved SavedLine.Refused at m m' d more = refl
-line-unmoved SavedLine.Unfinished at m m' d more = refl
-line-unmoved (SavedLine.Wrong n) at m m' d more = refl
+line-unmoved (Ok n) at m m' d more = refl
+line-unmoved (Err Halt.Refused) at m m' d more = refl
+line-unmoved (Err Halt.Unfinished) at m m' d more = refl
+line-unmoved (Err (Halt.Wrong n)) at m m' d more = refl
 
 pub lines-unmoved : (n at : ℕ) (m m' : Bool) (d : Day) (bytes : List ℕ) → unmoved (lines_from n at m d bytes) ≡ unmoved (lines_from n at m' d bytes)
 unfolding lines_from

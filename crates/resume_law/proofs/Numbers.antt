@@ -5,12 +5,11 @@ use mathlib.Core.Path.{◌≡◌, sym, ◌∙◌}
 use mathlib.Core.Bool.{Bool, true}
 use mathlib.Core.List.{List, ◌++◌}
 use borrow.Author.Tests.{leb-true}
-use Rattle.std.specs.Prelude.{Option, Some, None}
+use Rattle.std.specs.Prelude.{Option, Some, None, Ok}
 use Rattle.std.specs.Option.{option_to_list}
 use Rattle.terms.specs.declared.Act.{Act}
 use Rattle.terms.specs.declared.Event.{Event}
 use Rattle.terms.specs.declared.Settings.{Settings}
-use Rattle.terms.specs.declared.Verdict.TheVariants.{Fine}
 use Rattle.terms.specs.Sizes.{price_most, lots_most, time_most, numbers_most, written_most}
 use Rattle.terms.specs.Numbers.{is_price, is_lots, is_number, Writable}
 use Rattle.terms.specs.Options.{of_any}
@@ -45,13 +44,13 @@ act-small a h =
     last None t = tt
     last (Some x) t = let n = between_facts 1 x price_most t in (omega arith, tt)
 
-pub accepted-writable : (d : Day) (e : Event) → (outcome d e).verdict ≡ Fine → Writable (event_figures e)
+pub accepted-writable : (d : Day) (e : Event) → (outcome d e).verdict ≡ Ok tt → Writable (event_figures e)
 accepted-writable d e v =
     let r = both (accepted d e (sym (outcome-verdict d e) ∙ v)).ranged in
     let t : e.time ≤ time_most = leb-true e.time time_most r.0 in
     (omega arith, act-small e.act r.1)
 
-pub settings-writable : (g : Settings) → settings_verdict g ≡ Fine → Writable (settings_figures g)
+pub settings-writable : (g : Settings) → settings_verdict g ≡ Ok tt → Writable (settings_figures g)
 settings-writable g v =
     let w = fine-valid g v in
     (omega arith, (omega arith, (omega arith, (omega arith, (omega arith, (omega arith, (omega arith, tt)))))))

@@ -8,12 +8,12 @@ use lib.ListN.{length, take, length-append}
 use lib.Seq.{drop-append_seam}
 use lib.Dec.{leb}
 use borrow.Author.Tests.{leb-true, leb-false}
+use Rattle.std.specs.Prelude.{Ok, Err}
 use Rattle.terms.specs.declared.Event.{Event}
 use Rattle.terms.specs.declared.Settings.{Settings}
 use Rattle.terms.specs.declared.Refusal.{Refusal}
 use Rattle.terms.specs.declared.Refusal.TheVariants.{LineWrong, LineRefused}
-use Rattle.terms.specs.declared.Verdict.{Verdict}
-use Rattle.terms.specs.declared.Verdict.TheVariants.{Fine, Refused}
+use Rattle.terms.specs.Refusals.{Verdict}
 use Rattle.terms.specs.Settings.{settings_verdict}
 use Rattle.terms.proofs.Logic.{cases}
 use Rattle.lines_text_law.specs.Grammar.{whole, unfinished, wrong}
@@ -66,7 +66,7 @@ still_some : (es : List Event) → or_some true es ≡ true
 still_some [] = refl
 still_some (e ∷ es) = refl
 
-module _ (n at : ℕ) (moved : Bool) (d : Day) (e : Event) (es : List Event) (tail : List ℕ) (v : (outcome d e).verdict ≡ Fine) where
+module _ (n at : ℕ) (moved : Bool) (d : Day) (e : Event) (es : List Event) (tail : List ℕ) (v : (outcome d e).verdict ≡ Ok tt) where
   abbrev line : List ℕ
   line = render_event e
 
@@ -123,7 +123,7 @@ record Reached (bytes : List ℕ) (g : Settings) (es : List Event) (tail : List 
   enough : length tail ≤ fuel
   same : resumed bytes ≡ lines_from fuel (length (saved g es)) (any_event es) (after (opened g) es) tail
 
-opens : (g : Settings) (rest : List ℕ) → settings_verdict g ≡ Fine →
+opens : (g : Settings) (rest : List ℕ) → settings_verdict g ≡ Ok tt →
     resumed (render_settings g ++ rest) ≡ lines_from (length (render_settings g ++ rest)) (length (render_settings g)) false (opened g) rest
 opens g rest v =
     let bytes : List ℕ = render_settings g ++ rest in
@@ -132,7 +132,7 @@ opens g rest v =
     ∙ ap (λ (x : Verdict). trading_by x g n bytes) v
     ∙ ap (lines_from (length bytes) n false (opened g)) (drop-append_seam (render_settings g) rest)
 
-reached : (bytes : List ℕ) (g : Settings) (es : List Event) (tail : List ℕ) → bytes ≡ saved g es ++ tail → settings_verdict g ≡ Fine →
+reached : (bytes : List ℕ) (g : Settings) (es : List Event) (tail : List ℕ) → bytes ≡ saved g es ++ tail → settings_verdict g ≡ Ok tt →
     AllAccepted (opened g) es → Reached bytes g es tail
 reached bytes g es tail q v a =
     let first : List ℕ = render_settings g in
@@ -173,14 +173,14 @@ module _ (bytes : List ℕ) (g : Settings) (es : List Event) (tail : List ℕ) (
       let r : Right EventLine tail (wrong n) = rw u at (event-lines.right tail) in
       sym (reads (omega (arith, r.0)) ∙ lines.line_wrong at (any_event es) d tail (k.fuel - 1) n u)
 
-  refused_here : (e : Event) (line rest : List ℕ) (r : Refusal) → tail ≡ line ++ rest → EventLine e line → (outcome d e).verdict ≡ Refused r →
+  refused_here : (e : Event) (line rest : List ℕ) (r : Refusal) → tail ≡ line ++ rest → EventLine e line → (outcome d e).verdict ≡ Err r →
       refused LineRefused at ≡ resumed bytes
   refused_here e line rest r q l w =
       let some_byte : 0 < length tail = omega (arith, ap length q, length-append line rest, line-some e line l) in
       sym
       (reads some_byte ∙ lines.line_refused at (any_event es) d tail (k.fuel - 1) e (length line) r (ap read_event q ∙ read_line e line rest l) w)
 
-settings-stop : (bytes : List ℕ) (g : Settings) (line rest : List ℕ) (r : Refusal) → bytes ≡ line ++ rest → SettingsLine g line → settings_verdict g ≡ Refused r →
+settings-stop : (bytes : List ℕ) (g : Settings) (line rest : List ℕ) (r : Refusal) → bytes ≡ line ++ rest → SettingsLine g line → settings_verdict g ≡ Err r →
     refused LineRefused 0 ≡ resumed bytes
 settings-stop bytes g line rest r q l v =
     let read : read_settings bytes ≡ whole g (length (render_settings g)) =

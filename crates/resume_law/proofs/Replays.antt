@@ -6,11 +6,11 @@ use mathlib.Core.Bool.{Bool, true, false}
 use mathlib.Core.List.{List}
 use lib.ListN.{length, drop, length-drop}
 use lib.Seq.{drop-drop}
+use Rattle.std.specs.Prelude.{Ok, Err}
 use Rattle.terms.specs.declared.Event.{Event}
 use Rattle.terms.specs.declared.Refusal.{Refusal}
 use Rattle.terms.specs.declared.Refusal.TheVariants.{LineWrong, LineRefused}
-use Rattle.terms.specs.declared.Verdict.{Verdict}
-use Rattle.terms.specs.declared.Verdict.TheVariants.{Fine, Refused}
+use Rattle.terms.specs.Refusals.{Verdict}
 use Rattle.lines_text_law.specs.Grammar.{LineAnswer, whole, unfinished, wrong}
 use Rattle.lines_text_law.specs.Reading.{Right}
 use Rattle.lines_reading_law.specs.Lines.{EventLine}
@@ -23,13 +23,13 @@ use Rattle.state_law.specs.Day.{Day}
 use Rattle.soundness_law.specs.Sound.{day_in}
 use Rattle.engine_law.specs.Outcome.{outcome}
 use Rattle.engine_law.specs.Calls.{LongEnough}
-use Rattle.resume_law.specs.declared.Comeback.{Comeback}
-use Rattle.resume_law.specs.declared.SavedLine.{SavedLine}
+use Rattle.resume_law.specs.Answers.{Comeback, SavedLine, bad_at}
+use Rattle.resume_law.specs.declared.Halt.{Halt}
 use Rattle.resume_law.specs.declared.Halted.{Halted}
 use Rattle.resume_law.specs.declared.Replayed.{Replayed}
 use Rattle.resume_law.specs.declared.LineReplayed.{LineReplayed}
 use Rattle.resume_law.specs.Rebuilt.{Rebuilt, rebuilt, refused, Step, line_by, step_of, used_by, lines_from}
-use Rattle.resume_law.specs.code.Replaying.{Clean, LineReplayedAs, LineFrom, place_in, replayed_to, stopped_at, held_from, ReplayedAs, CountsWithin, LinesReplayed, Halts}
+use Rattle.resume_law.specs.code.Replaying.{Clean, LineReplayedAs, LineFrom, place_in, place_on, replayed_to, stopped_at, held_from, ReplayedAs, CountsWithin, LinesReplayed, Halts}
 use Rattle.resume_law.proofs.Lines.{line-applied, line_refused, line-unfinished, line_wrong, lines_none}
 use Rattle.resume_law.proofs.Finds.{none_left}
 
@@ -59,7 +59,7 @@ replaying_start bytes first now buys sells h =
     }
 
 -- a refusal, whatever the tables hold
-refused_as : {x : Rebuilt} {buys sells : List ℕ} {y : Replayed} {r : Refusal} {n : ℕ} → x ≡ refused r n → y ≡ replayed_to (Comeback.Refused r n) fixed_session false →
+refused_as : {x : Rebuilt} {buys sells : List ℕ} {y : Replayed} {r : Refusal} {n : ℕ} → x ≡ refused r n → y ≡ replayed_to (bad_at r n) fixed_session false →
     ReplayedAs x buys sells y
 refused_as {x} {buys} {sells} {y} e q =
     subst (λ (z : Rebuilt). ReplayedAs z buys sells y) (sym e)
@@ -73,7 +73,7 @@ refused_as {x} {buys} {sells} {y} e q =
 
 -- lines that come to an end
 ended_as : {x : Rebuilt} {now : Session} {buys sells : List ℕ} {y : Replayed} {at : ℕ} {moved : Bool} → (moved ≡ true → Clean now buys sells) →
-    x ≡ rebuilt at moved (day_in now buys sells) → y ≡ replayed_to (Comeback.Counts at) now moved → ReplayedAs x buys sells y
+    x ≡ rebuilt at moved (day_in now buys sells) → y ≡ replayed_to (Ok at) now moved → ReplayedAs x buys sells y
 ended_as {x} {now} {buys} {sells} {y} c e q =
     subst (λ (z : Rebuilt). ReplayedAs z buys sells y) (sym e)
     (record {
@@ -84,6 +84,16 @@ ended_as {x} {now} {buys} {sells} {y} c e q =
       sold = λ m. (c m).sold;
     })
 
+-- a line is applied or not, and so in one way
+applied-or : {l : SavedLine} {n : ℕ} {h : Halt} {P : Type 0} → l ≡ Ok n → l ≡ Err h → P
+applied-or p q = absurd (let z : ◌≡◌ {A = ℕ} 0 1 = cc in omega arith)
+
+same-used : {l : SavedLine} {n k : ℕ} → l ≡ Ok n → l ≡ Ok k → n ≡ k
+same-used p q = cc
+
+same-halt : {l : SavedLine} {h k : Halt} → l ≡ Err h → l ≡ Err k → h ≡ k
+same-halt p q = cc
+
 module _ (bytes : List ℕ) (x : Rebuilt) (now : Session) (buys sells : List ℕ) (at : ℕ) (moved : Bool) (g : Replaying bytes x now buys sells at moved) where
   abbrev d : Day
   d = day_in now buys sells
@@ -92,7 +102,7 @@ module _ (bytes : List ℕ) (x : Rebuilt) (now : Session) (buys sells : List ℕ
   left = drop at bytes
 
   -- at the end of the bytes
-  pub replaying_end : length bytes < 2 ^ 64 → length bytes ≤ at → Halts bytes x buys sells (record { line = SavedLine.Unfinished; at = at; session = now; moved = moved })
+  pub replaying_end : length bytes < 2 ^ 64 → length bytes ≤ at → Halts bytes x buys sells (record { halt = Halt.Unfinished; at = at; session = now; moved = moved })
   replaying_end l h =
       let none : length left ≤ 0 = rw (length-drop at bytes) (omega arith) in
       record {
@@ -127,115 +137,112 @@ module _ (bytes : List ℕ) (x : Rebuilt) (now : Session) (buys sells : List ℕ
       -- ---- no line is applied
 
       abbrev Stops : Type 0
-      Stops = (y : Replayed) → used_by r.line ≡ 0 → y ≡ stopped_at r.line at r.session moved → ReplayedAs x buys' sells' y
+      Stops = (halt : Halt) (y : Replayed) → r.line ≡ Err halt → y ≡ stopped_at halt at r.session moved → ReplayedAs x buys' sells' y
 
       stops_judged : (e : Event) (n : ℕ) (v : Verdict) → read_event left ≡ whole e n → (outcome d e).verdict ≡ v → Stops
-      stops_judged e n Fine q w y u h =
-          absurd (sorts.some event-lines left e n (right-at e n q) (sym (ap used_by (by_verdict e n Fine q w).line) ∙ u))
-      stops_judged e n (Refused f) q w y u h =
+      stops_judged e n (Ok _) q w halt y u h = applied-or (by_verdict e n (Ok tt) q w).line u
+      stops_judged e n (Err f) q w halt y u h =
           refused_as (again ∙ line_refused at moved d left (g.fuel - 1) e n f q w)
-          (h ∙ ap (λ (l : SavedLine). stopped_at l at r.session moved) (by_verdict e n (Refused f) q w).line)
+          (h ∙ ap (λ (l : Halt). stopped_at l at r.session moved) (same-halt u (by_verdict e n (Err f) q w).line))
 
       same-session : read_event left ≡ unfinished → r.session ≡ now
       same-session q = ap (λ (z : Day). z.session) (by_read unfinished q).day
 
       stops_by : (o : LineAnswer Event) → read_event left ≡ o → Stops
-      stops_by (whole e n) q y u h = stops_judged e n (outcome d e).verdict q refl y u h
-      stops_by unfinished q y u h =
+      stops_by (whole e n) q halt y u h = stops_judged e n (outcome d e).verdict q refl halt y u h
+      stops_by unfinished q halt y u h =
           let t = by_read unfinished q in
           let same = t.same refl in
           let tables : ReplayedAs x buys sells y =
           ended_as g.clean (again ∙ line-unfinished at moved d left (suc (g.fuel - 1)) q)
-          (h ∙ ap (λ (l : SavedLine). stopped_at l at r.session moved) t.line ∙ ap (λ (s : Session). replayed_to (Comeback.Counts at) s moved) (same-session q)) in
+          (h ∙ ap (λ (l : Halt). stopped_at l at r.session moved) (same-halt u t.line) ∙ ap (λ (s : Session). replayed_to (Ok at) s moved) (same-session q)) in
           subst (λ (z : List ℕ). ReplayedAs x buys' z y) (sym same.1) (subst (λ (z : List ℕ). ReplayedAs x z sells y) (sym same.0) tables)
-      stops_by (wrong n) q y u h =
+      stops_by (wrong n) q halt y u h =
           refused_as (again ∙ line_wrong at moved d left (g.fuel - 1) n q)
-          (h ∙ ap (λ (l : SavedLine). stopped_at l at r.session moved) (by_read (wrong n) q).line)
+          (h ∙ ap (λ (l : Halt). stopped_at l at r.session moved) (same-halt u (by_read (wrong n) q).line))
 
-      pub replaying_stops : (used : ℕ) → length bytes < 2 ^ 64 → used ≡ used_by r.line → used ≡ 0 →
-          Halts bytes x buys' sells' (record { line = r.line; at = at; session = r.session; moved = moved })
-      replaying_stops used l u z =
-          record { comes = stops_by (read_event left) refl _ (sym u ∙ z) refl; within = g.within; fits = omega (arith, k.place_there) }
+      pub replaying_stops : (halt : Halt) → length bytes < 2 ^ 64 → r.line ≡ Err halt →
+          Halts bytes x buys' sells' (record { halt = halt; at = at; session = r.session; moved = moved })
+      replaying_stops halt l u =
+          let p : place_on r.line ≡ place_in halt = ap place_on u in
+          record { comes = stops_by (read_event left) refl halt _ u refl; within = g.within; fits = omega (arith, k.place_there) }
 
       -- ---- a line is applied
 
       abbrev Goes : Type 0
-      Goes = (used_by r.line ≡ 0 → ⊥) → Replaying bytes x r.session buys' sells' (at + used_by r.line) true
+      Goes = (used : ℕ) → r.line ≡ Ok used → (0 < used) × Replaying bytes x r.session buys' sells' (at + used) true
 
-      goes-applied : (e : Event) (n : ℕ) → read_event left ≡ whole e n → (outcome d e).verdict ≡ Fine → Goes
-      goes-applied e n q w some =
-          let t = by_verdict e n Fine q w in
-          let u : used_by r.line ≡ n = ap used_by t.line in
+      goes-applied : (e : Event) (n : ℕ) → read_event left ≡ whole e n → (outcome d e).verdict ≡ Ok tt → Goes
+      goes-applied e n q w used line =
+          let t = by_verdict e n (Ok tt) q w in
+          let u : used ≡ n = same-used line t.line in
           let l = length-drop at bytes in
           let h = (right-at e n q).0 in
-          rw u
-          (record {
-            fuel = g.fuel - 1;
-            within = omega arith;
-            enough = omega (arith, g.enough, fuelled, some, u);
-            rest =
-                again
-                ∙ line-applied at moved d left (g.fuel - 1) e n q w
-                ∙ (λ i. lines_from (g.fuel - 1) (at + n) true (sym t.day i) (drop-drop n at bytes i));
-            clean = λ m. t.clean (λ z. some (u ∙ z));
-          })
-
-      stays : {l : SavedLine} → used_by l ≡ 0 → r.line ≡ l → Goes
-      stays z e some = absurd (some (ap used_by e ∙ z))
+          let some : n ≡ 0 → ⊥ = sorts.some event-lines left e n (right-at e n q) in
+          rw u (
+            omega (arith, some),
+            record {
+              fuel = g.fuel - 1;
+              within = omega arith;
+              enough = omega (arith, g.enough, fuelled, some);
+              rest =
+                  again
+                  ∙ line-applied at moved d left (g.fuel - 1) e n q w
+                  ∙ (λ i. lines_from (g.fuel - 1) (at + n) true (sym t.day i) (drop-drop n at bytes i));
+              clean = λ m. t.clean some;
+            },
+          )
 
       goes_judged : (e : Event) (n : ℕ) (v : Verdict) → read_event left ≡ whole e n → (outcome d e).verdict ≡ v → Goes
-      goes_judged e n Fine q w = goes-applied e n q w
-      goes_judged e n (Refused f) q w = stays refl (by_verdict e n (Refused f) q w).line
+      goes_judged e n (Ok _) q w used line = goes-applied e n q w used line
+      goes_judged e n (Err f) q w used line = applied-or line (by_verdict e n (Err f) q w).line
 
       goes_by : (o : LineAnswer Event) → read_event left ≡ o → Goes
-      goes_by (whole e n) q = goes_judged e n (outcome d e).verdict q refl
-      goes_by unfinished q = stays refl (by_read unfinished q).line
-      goes_by (wrong n) q = stays refl (by_read (wrong n) q).line
+      goes_by (whole e n) q used line = goes_judged e n (outcome d e).verdict q refl used line
+      goes_by unfinished q used line = applied-or line (by_read unfinished q).line
+      goes_by (wrong n) q used line = applied-or line (by_read (wrong n) q).line
 
-      pub replaying_on : (used : ℕ) → used ≡ used_by r.line → (used ≡ 0 → ⊥) → Replaying bytes x r.session buys' sells' (at + used) true
-      replaying_on used u some =
-          let e : used_by r.line ≡ used = sym u in
-          subst (λ (n : ℕ). Replaying bytes x r.session buys' sells' (at + n) true) e (goes_by (read_event left) refl (λ z. some (sym e ∙ z)))
+      pub replaying_on : (used : ℕ) → r.line ≡ Ok used → Replaying bytes x r.session buys' sells' (at + used) true
+      replaying_on used line = (goes_by (read_event left) refl used line).1
 
-      -- so much of the bytes is taken
-      pub used-fits : (used : ℕ) → used ≡ used_by r.line → at + used ≤ length bytes
-      used-fits used u = rw u k.used_there
+      -- so much of the bytes is taken, and it is some
+      pub used-fits : (used : ℕ) → r.line ≡ Ok used → at + used ≤ length bytes
+      used-fits used line = let u : used_by r.line ≡ used = ap used_by line in omega (arith, k.used_there)
+
+      pub used-some : (used : ℕ) → r.line ≡ Ok used → 0 < used
+      used-some used line = (goes_by (read_event left) refl used line).0
 
 -- ---- where no line is applied
 
-module _ (line : SavedLine) (at : ℕ) (session : Session) (moved : Bool) (y : Replayed) where
-  pub stops-applied : (n : ℕ) → line ≡ SavedLine.Applied n → y ≡ replayed_to (Comeback.Counts at) session moved → y ≡ stopped_at line at session moved
-  stops-applied n e q = rw e q
-
-  pub stops-refused : line ≡ SavedLine.Refused → y ≡ replayed_to (Comeback.Refused LineRefused at) fixed_session false → y ≡ stopped_at line at session moved
+module _ (halt : Halt) (at : ℕ) (session : Session) (moved : Bool) (y : Replayed) where
+  pub stops-refused : halt ≡ Halt.Refused → y ≡ replayed_to (bad_at LineRefused at) fixed_session false → y ≡ stopped_at halt at session moved
   stops-refused e q = rw e q
 
-  pub stops-unfinished : line ≡ SavedLine.Unfinished → y ≡ replayed_to (Comeback.Counts at) session moved → y ≡ stopped_at line at session moved
+  pub stops-unfinished : halt ≡ Halt.Unfinished → y ≡ replayed_to (Ok at) session moved → y ≡ stopped_at halt at session moved
   stops-unfinished e q = rw e q
 
-  pub stops-wrong : (n : ℕ) → line ≡ SavedLine.Wrong n → y ≡ replayed_to (Comeback.Refused LineWrong (at + n)) fixed_session false →
-      y ≡ stopped_at line at session moved
+  pub stops-wrong : (n : ℕ) → halt ≡ Halt.Wrong n → y ≡ replayed_to (bad_at LineWrong (at + n)) fixed_session false →
+      y ≡ stopped_at halt at session moved
   stops-wrong n e q = rw e q
 
 -- the place of a wrong byte is a number of the machine
-pub wrong-fits : (line : SavedLine) (n at : ℕ) → line ≡ SavedLine.Wrong n → at + place_in line < 2 ^ 64 → at + n < 2 ^ 64
-wrong-fits line n at e h = rw e at h
+pub wrong-fits : (halt : Halt) (n at : ℕ) → halt ≡ Halt.Wrong n → at + place_in halt < 2 ^ 64 → at + n < 2 ^ 64
+wrong-fits halt n at e h = rw e at h
 
 -- where it halts tells the answer
-stopped-within : (n : ℕ) (line : SavedLine) (at : ℕ) (s : Session) (moved : Bool) → at ≤ n → CountsWithin n (stopped_at line at s moved).answer
-stopped-within n (SavedLine.Applied m) at s moved h = h
-stopped-within n SavedLine.Refused at s moved h = tt
-stopped-within n SavedLine.Unfinished at s moved h = h
-stopped-within n (SavedLine.Wrong m) at s moved h = tt
+stopped-within : (n : ℕ) (halt : Halt) (at : ℕ) (s : Session) (moved : Bool) → at ≤ n → CountsWithin n (stopped_at halt at s moved).answer
+stopped-within n Halt.Refused at s moved h = tt
+stopped-within n Halt.Unfinished at s moved h = h
+stopped-within n (Halt.Wrong m) at s moved h = tt
 
 pub halts_replayed : (bytes : List ℕ) (first : ℕ) (s : Session) (buys sells buys' sells' : List ℕ) (h : Halted) (y : Replayed) →
-    Halts bytes (held_from bytes first s buys sells) buys' sells' h → y ≡ stopped_at h.line h.at h.session h.moved →
+    Halts bytes (held_from bytes first s buys sells) buys' sells' h → y ≡ stopped_at h.halt h.at h.session h.moved →
     LinesReplayed bytes first s buys sells buys' sells' y
 halts_replayed bytes first s buys sells buys' sells' h y k e =
     record {
       replayed = subst (ReplayedAs (held_from bytes first s buys sells) buys' sells') (sym e) k.comes;
       within = subst (λ (z : Replayed). CountsWithin (length bytes) z.answer) (sym e)
-          (stopped-within (length bytes) h.line h.at h.session h.moved k.within);
+          (stopped-within (length bytes) h.halt h.at h.session h.moved k.within);
     }
 
 -- with a refusal comes the fixed session

@@ -6,6 +6,7 @@ use mathlib.Core.Path.{◌≡◌, refl, sym, ap, ◌∙◌, subst}
 use mathlib.Core.Bool.{Bool, true, false, true≢false, false≢true}
 use mathlib.Core.List.{List, [], ◌++◌, append_assoc, append-nil}
 use lib.ListN.{length, drop, length-append, length-drop}
+use Rattle.std.specs.Prelude.{Ok}
 use Rattle.terms.specs.declared.Event.{Event}
 use Rattle.terms.specs.declared.Order.{Order}
 use Rattle.terms.specs.declared.Refusal.{Refusal}
@@ -23,7 +24,8 @@ use Rattle.state_law.specs.declared.Session.{Session}
 use Rattle.state_law.specs.Day.{Day}
 use Rattle.soundness_law.specs.Sound.{sound, day_in}
 use Rattle.soundness_law.proofs.Days.{SoundDay, sound-day}
-use Rattle.resume_law.specs.declared.Comeback.{Comeback}
+use Rattle.resume_law.specs.Answers.{Comeback, bad_at}
+use Rattle.resume_law.specs.declared.BadLine.{BadLine}
 use Rattle.resume_law.specs.declared.Replayed.{Replayed}
 use Rattle.resume_law.specs.declared.Back.{Back}
 use Rattle.resume_law.specs.declared.Passed.{Passed}
@@ -118,7 +120,7 @@ module _ (bytes : List ℕ) (a : LineAnswer Event) (read : ReadAs EventLine byte
 
 -- at the end of the file it is dropped, and all before it counts
 pub start-ends : {gives : List ℕ → Bool → Type 0} (before : ℕ) (s : Session) (buys sells : List ℕ) {kept : List ℕ} {r : Back} → Starts kept → gives [] true →
-    r ≡ back_to (Comeback.Counts before) s → BackFrom gives (standing before s buys sells kept) buys sells r
+    r ≡ back_to (Ok before) s → BackFrom gives (standing before s buys sells kept) buys sells r
 unfolding to_come
 start-ends before s buys sells {kept} {r} start g e =
     let d : Day = day_in s buys sells in
@@ -153,10 +155,10 @@ day_back n d buys sells t s k =
     side_back t.session.live.sells d.sells sells (ap (λ (x : Session). x.live.sells) k.session ∙ w.sells-counted) (k.sold refl) in
     λ i. record { session = k.session i; buys = b i; sells = c i }
 
-counts_are : {n k : ℕ} {a : Comeback} → a ≡ Comeback.Counts n → a ≡ Comeback.Counts (0 + k) → n ≡ k
+counts_are : {n k : ℕ} {a : Comeback} → a ≡ Ok n → a ≡ Ok (0 + k) → n ≡ k
 counts_are {n} {k} p q = let z : n ≡ 0 + k = cc in omega arith
 
-counts-or : {n k : ℕ} {r : Refusal} {a : Comeback} {P : Type 0} → a ≡ Comeback.Counts n → a ≡ Comeback.Refused r k → P
+counts-or : {n k : ℕ} {r : Refusal} {a : Comeback} {P : Type 0} → a ≡ Ok n → a ≡ bad_at r k → P
 counts-or p q = absurd (let z : ◌≡◌ {A = ℕ} 0 1 = cc in omega arith)
 
 module _ (before : ℕ) (s : Session) (bytes buys sells : List ℕ) where
@@ -212,12 +214,12 @@ module _ (before : ℕ) (s : Session) (bytes buys sells : List ℕ) where
                 ∙ ap (λ (x : Day). unmoved (lines_of (before + used) x rest)) (sym e);
           }
 
-      bad_line : (q : Refusal) (n : ℕ) → tells_bad (Comeback.Refused q n) ≡ true → ((ys : List ℕ) → lines_of 0 d (bytes ++ ys) ≡ refused q n) →
-          t.session ≡ (refused q n).day.session → Told here buys' sells' (back_to (Comeback.Refused q (before + n)) t.session)
+      bad_line : (q : Refusal) (n : ℕ) → tells_bad (bad_at q n) ≡ true → ((ys : List ℕ) → lines_of 0 d (bytes ++ ys) ≡ refused q n) →
+          t.session ≡ (refused q n).day.session → Told here buys' sells' (back_to (bad_at q (before + n)) t.session)
       bad_line q n b f e =
           told_bad b refl
           (λ more.
-          subst (λ (x : Rebuilt). BackBy x buys' sells' (back_to (Comeback.Refused q (before + n)) t.session))
+          subst (λ (x : Rebuilt). BackBy x buys' sells' (back_to (bad_at q (before + n)) t.session))
           (sym (by_piece more ∙ ap (λ (x : Rebuilt). unmoved (later_by before x)) (f more)))
           (record { answer = refl; session = e; day = λ m h. counts-or h refl }))
 
@@ -240,8 +242,10 @@ module _ (before : ℕ) (s : Session) (bytes buys sells : List ℕ) where
       passed_by x (bad q n b w f) k (refuses p m h e) =
           ended (e ∙ ap (λ (a : Comeback). passed_end (back_to a t.session)) (same_place h k.answer)) (bad_line q n b f k.session)
         where
-          same_place : {p q : Refusal} {m n : ℕ} {a : Comeback} → a ≡ Comeback.Refused p m → a ≡ Comeback.Refused q n → Comeback.Refused p (before + m) ≡ Comeback.Refused q (before + n)
-          same_place h j = cc
+          same_place : {p q : Refusal} {m n : ℕ} {a : Comeback} → a ≡ bad_at p m → a ≡ bad_at q n → bad_at p (before + m) ≡ bad_at q (before + n)
+          same_place {p} {q} {m} {n} h j =
+              let z : ◌≡◌ {A = BadLine} (record { refusal = p; place = m }) (record { refusal = q; place = n }) = cc in
+              ap (λ (b : BadLine). bad_at b.refusal (before + b.place)) z
 
       -- a piece that has a whole line or a bad one
       pub piece-replayed : LinesReplayed bytes 0 s buys sells buys' sells' t → StoodAs t before r → PassedAs before s bytes buys sells buys' sells' r

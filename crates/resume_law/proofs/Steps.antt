@@ -6,10 +6,10 @@ use mathlib.Core.Path.{◌≡◌, refl, sym, ap, ◌∙◌, subst}
 use mathlib.Core.List.{List}
 use lib.ListN.{length, take, drop, length-take, length-drop}
 use lib.Seq.{take_all}
+use Rattle.std.specs.Prelude.{Ok, Err}
 use Rattle.terms.specs.declared.Event.{Event}
 use Rattle.terms.specs.declared.Refusal.{Refusal}
-use Rattle.terms.specs.declared.Verdict.{Verdict}
-use Rattle.terms.specs.declared.Verdict.TheVariants.{Fine, Refused}
+use Rattle.terms.specs.Refusals.{Verdict}
 use Rattle.tables.specs.Tables.{table_of}
 use Rattle.tables.proofs.Whole.{table_of-table_of}
 use Rattle.lines_text_law.specs.Grammar.{LineAnswer, whole, unfinished, wrong}
@@ -20,22 +20,23 @@ use Rattle.lines_reading_law.proofs.EventLines.{event-lines}
 use Rattle.state_law.specs.declared.Session.{Session}
 use Rattle.state_law.specs.Day.{Day}
 use Rattle.soundness_law.specs.Sound.{day_in}
-use Rattle.engine_law.specs.declared.Answer.{Answer}
+use Rattle.engine_law.specs.Answers.{Answer}
 use Rattle.engine_law.specs.declared.Applied.{Applied}
 use Rattle.engine_law.specs.Outcome.{Outcome, outcome}
 use Rattle.engine_law.specs.Calls.{called, answer_by, table_by}
 use Rattle.engine_law.proofs.Applies.{long-roomy, called-outcome}
 use Rattle.engine_law.proofs.Left.{sides_few, outcome-day}
-use Rattle.resume_law.specs.declared.SavedLine.{SavedLine}
+use Rattle.resume_law.specs.Answers.{SavedLine}
+use Rattle.resume_law.specs.declared.Halt.{Halt}
 use Rattle.resume_law.specs.declared.LineReplayed.{LineReplayed}
 use Rattle.resume_law.specs.Rebuilt.{Step, line_by, step_of, used_by}
-use Rattle.resume_law.specs.code.Replaying.{Clean, LineReplayedAs, AppliedLong, line_for, line_replayed_to, place_in, EventReplayed, LineTold, LineFrom}
+use Rattle.resume_law.specs.code.Replaying.{Clean, LineReplayedAs, AppliedLong, line_for, line_replayed_to, place_on, EventReplayed, LineTold, LineFrom}
 
 -- ---- the parts of a step, each as it has to be
 
 stepped_as : {t : Step} {buys sells buys' sells' : List ℕ} {r : LineReplayed} {line : SavedLine} {session : Session} → r ≡ line_replayed_to line session → line ≡ t.line →
     day_in session buys' sells' ≡ t.day → ((used_by t.line ≡ 0 → ⊥) → Clean session buys' sells') →
-    (t.line ≡ SavedLine.Unfinished → (buys' ≡ buys) × (sells' ≡ sells)) → LineReplayedAs t buys sells buys' sells' r
+    (t.line ≡ Err Halt.Unfinished → (buys' ≡ buys) × (sells' ≡ sells)) → LineReplayedAs t buys sells buys' sells' r
 stepped_as {t} {buys} {sells} {buys'} {sells'} {r} {line} {session} e l d c u =
     record {
       line = ap (λ (x : LineReplayed). x.line) e ∙ l;
@@ -47,10 +48,10 @@ stepped_as {t} {buys} {sells} {buys'} {sells'} {r} {line} {session} e l d c u =
 -- ---- the line by the engine's answer
 
 module _ (a : Answer) (used : ℕ) where
-  pub for_reported : (count : ℕ) → a ≡ Answer.Reported count → SavedLine.Applied used ≡ line_for a used
+  pub for_reported : (count : ℕ) → a ≡ Ok count → Ok used ≡ line_for a used
   for_reported count e = rw e refl
 
-  pub for_refused : (r : Refusal) → a ≡ Answer.Refused r → SavedLine.Refused ≡ line_for a used
+  pub for_refused : (r : Refusal) → a ≡ Err r → Err Halt.Refused ≡ line_for a used
   for_refused r e = rw e refl
 
 -- ---- an event that a call answers
@@ -73,7 +74,7 @@ module _ (s : Session) (e : Event) (buys sells room buys' sells' room' : List �
       outcome-day s p.session buys sells buys' sells' e (applied.applied.session ∙ ap (λ (x : Outcome). x.day.session) comes_to) bought_is sold_is
 
   -- an accepted event leaves clean tables
-  clean_is : o.verdict ≡ Fine → Clean p.session buys' sells'
+  clean_is : o.verdict ≡ Ok tt → Clean p.session buys' sells'
   clean_is v =
       let few = sides_few (day_in s buys sells) e v in
       let b : buys' ≡ table_of o.day.buys buys = bought_is ∙ ap (λ (x : Verdict). table_by x o.day.buys buys) v in
@@ -91,18 +92,18 @@ module _ (s : Session) (e : Event) (buys sells room buys' sells' room' : List �
             ∙ ap (λ (x : Day). table_of x.sells sells') (sym day_is);
       }
 
-  not-unfinished : (v : Verdict) (n : ℕ) {P : Type 0} → line_by v n ≡ SavedLine.Unfinished → P
-  not-unfinished Fine n q = absurd (let z : ◌≡◌ {A = ℕ} 0 1 = cc in omega arith)
-  not-unfinished (Refused r) n q = absurd (let z : ◌≡◌ {A = ℕ} 0 1 = cc in omega arith)
+  not-unfinished : (v : Verdict) (n : ℕ) {P : Type 0} → line_by v n ≡ Err Halt.Unfinished → P
+  not-unfinished (Ok _) n q = absurd (let z : ◌≡◌ {A = ℕ} 0 1 = cc in omega arith)
+  not-unfinished (Err r) n q = absurd (let z : ◌≡◌ {A = ℕ} 0 1 = cc in omega arith)
 
   -- an applied line was accepted
-  applied-fine : (v : Verdict) (used : ℕ) → (used_by (line_by v used) ≡ 0 → ⊥) → v ≡ Fine
-  applied-fine Fine used n = refl
-  applied-fine (Refused r) used n = absurd (n refl)
+  applied-fine : (v : Verdict) (used : ℕ) → (used_by (line_by v used) ≡ 0 → ⊥) → v ≡ Ok tt
+  applied-fine (Ok _) used n = refl
+  applied-fine (Err r) used n = absurd (n refl)
 
   line_is : (v : Verdict) (n used : ℕ) → line_for (answer_by v n) used ≡ line_by v used
-  line_is Fine n used = refl
-  line_is (Refused r) n used = refl
+  line_is (Ok _) n used = refl
+  line_is (Err r) n used = refl
 
   answered : p.answer ≡ answer_by o.verdict (length o.reports)
   answered = applied.applied.answer ∙ ap (λ (x : Outcome). answer_by x.verdict (length x.reports)) comes_to
@@ -120,11 +121,11 @@ module _ (s : Session) (e : Event) (buys sells room buys' sells' room' : List �
 
 -- a whole line and a wrong one lie within the bytes
 abbrev Within : List ℕ → SavedLine → Type 0
-Within bytes l = (used_by l ≤ length bytes) × (place_in l ≤ length bytes)
+Within bytes l = (used_by l ≤ length bytes) × (place_on l ≤ length bytes)
 
 bounds : (bytes : List ℕ) (v : Verdict) (n : ℕ) → n ≤ length bytes → Within bytes (line_by v n)
-bounds bytes Fine n h = (h, omega arith)
-bounds bytes (Refused r) n h = (omega arith, omega arith)
+bounds bytes (Ok _) n h = (h, omega arith)
+bounds bytes (Err r) n h = (omega arith, omega arith)
 
 module _ (session : Session) (bytes buys sells : List ℕ) (a : LineAnswer Event) (read : ReadAs EventLine bytes a) where
   abbrev d : Day
@@ -149,14 +150,14 @@ module _ (session : Session) (bytes buys sells : List ℕ) (a : LineAnswer Event
   line-whole buys' sells' r e n q k =
       with_bounds _ (whole e n) buys' sells' r q k.replayed k.replayed.line (bounds bytes (outcome d e).verdict n (right_as q).0)
 
-  pub line-unfinished : (r : LineReplayed) → a ≡ unfinished → r ≡ line_replayed_to SavedLine.Unfinished session → LineTold session bytes buys sells buys sells r
+  pub line-unfinished : (r : LineReplayed) → a ≡ unfinished → r ≡ line_replayed_to (Err Halt.Unfinished) session → LineTold session bytes buys sells buys sells r
   line-unfinished r q e =
-      with_bounds SavedLine.Unfinished unfinished buys sells r q (stepped_as e refl refl (λ n. absurd (n refl)) (λ u. (refl, refl)))
+      with_bounds (Err Halt.Unfinished) unfinished buys sells r q (stepped_as e refl refl (λ n. absurd (n refl)) (λ u. (refl, refl)))
       (ap (λ (x : LineReplayed). x.line) e) (omega arith, omega arith)
 
-  pub line_wrong : (r : LineReplayed) (n : ℕ) → a ≡ wrong n → r ≡ line_replayed_to (SavedLine.Wrong n) session → LineTold session bytes buys sells buys sells r
+  pub line_wrong : (r : LineReplayed) (n : ℕ) → a ≡ wrong n → r ≡ line_replayed_to (Err (Halt.Wrong n)) session → LineTold session bytes buys sells buys sells r
   line_wrong r n q e =
-      with_bounds (SavedLine.Wrong n) (wrong n) buys sells r q
+      with_bounds (Err (Halt.Wrong n)) (wrong n) buys sells r q
       (stepped_as e refl refl (λ z. absurd (z refl)) (λ u. absurd (let z : ◌≡◌ {A = ℕ} 0 1 = cc in omega arith)))
       (ap (λ (x : LineReplayed). x.line) e) (omega arith, le_of_lt (right_as q).0)
 

@@ -8,7 +8,7 @@ use Rattle.tables.specs.Put.{put}
 use Rattle.tables.specs.Tables.{table_of}
 use Rattle.state_law.specs.declared.Session.{Session}
 use Rattle.engine_law.specs.Calls.{roomy}
-use Rattle.resume_law.specs.declared.Comeback.{Comeback}
+use Rattle.resume_law.specs.Answers.{Comeback}
 use Rattle.resume_law.specs.declared.Resumed.{Resumed}
 use Rattle.resume_law.specs.Rebuilt.{Rebuilt, refused, resumed}
 

@@ -1,3 +1,4 @@
+pub mod Answers
 pub mod Saved
 pub mod Rebuilt
 pub mod Calls

@@ -1,5 +1,5 @@
 -- A file that is read in pieces of any length: what is still to come back, and what came back at its end.
-use Rattle.std.specs.Prelude.{ℕ, ◌+◌, ◌-◌, ◌^◌, ◌≤◌, ◌≡◌, Bool, true, false, not, List, [], ◌++◌, length, take, drop, eqb}
+use Rattle.std.specs.Prelude.{ℕ, ◌+◌, ◌-◌, ◌^◌, ◌≤◌, ◌≡◌, Bool, true, false, not, List, [], ◌++◌, length, take, drop, eqb, Ok, Err}
 use Rattle.terms.specs.declared.Refusal.{Refusal}
 use Rattle.terms.specs.declared.Refusal.TheVariants.{LineUnfinished}
 use Rattle.terms.specs.Refusals.{number_of}
@@ -9,7 +9,7 @@ use Rattle.state_law.specs.declared.Session.{Session}
 use Rattle.state_law.specs.Opening.{fixed_session}
 use Rattle.state_law.specs.Day.{Day}
 use Rattle.soundness_law.specs.Sound.{day_in}
-use Rattle.resume_law.specs.declared.Comeback.{Comeback}
+use Rattle.resume_law.specs.Answers.{Comeback, bad_at}
 use Rattle.resume_law.specs.declared.Replayed.{Replayed}
 use Rattle.resume_law.specs.declared.Back.{Back}
 use Rattle.resume_law.specs.declared.Passed.{Passed}
@@ -22,7 +22,7 @@ use Rattle.resume_law.specs.Rebuilt.{Rebuilt, lines_from, resumed}
 pub record BackBy (x : Rebuilt) (buys' sells' : List ℕ) (r : Back) : Type 0 where
   pub answer : r.answer ≡ x.answer
   pub session : r.session ≡ x.day.session
-  pub day : (n : ℕ) → x.answer ≡ Comeback.Counts n → day_in r.session buys' sells' ≡ x.day
+  pub day : (n : ℕ) → x.answer ≡ Ok n → day_in r.session buys' sells' ≡ x.day
 
 -- not even the settings line is whole, so that no day has begun
 abbrev pub is_unbegun : Refusal → Bool
@@ -30,8 +30,8 @@ is_unbegun q = eqb (number_of q) (number_of LineUnfinished)
 
 -- a bad line is told, whatever stands behind it; of an unfinished one the rest may follow
 abbrev pub tells_bad : Comeback → Bool
-tells_bad (Comeback.Counts n) = false
-tells_bad (Comeback.Refused q n) = not (is_unbegun q)
+tells_bad (Ok n) = false
+tells_bad (Err b) = not (is_unbegun b.refusal)
 
 -- so many bytes may not all be read: the machine's numbers end there, and the turns of reading
 abbrev pub too_many : ℕ
@@ -102,11 +102,11 @@ back_to answer session = record { answer = answer; session = session; read = tru
 
 -- not all could be read
 abbrev pub unread_back : Back
-unread_back = record { answer = Comeback.Counts 0; session = fixed_session; read = false }
+unread_back = record { answer = Ok 0; session = fixed_session; read = false }
 
 -- the first bytes were taken, and more may follow
 abbrev pub passed_to : ℕ → ℕ → Session → Passed
-passed_to used before session = record { used = used; before = before; back = back_to (Comeback.Counts before) session; more = true }
+passed_to used before session = record { used = used; before = before; back = back_to (Ok before) session; more = true }
 
 -- nothing more is to be read
 abbrev pub passed_end : Back → Passed
@@ -123,14 +123,14 @@ pub record StartTold (bytes : List ℕ) (r : Bool) : Type 0 where
 
 -- the number that an answer carries
 abbrev pub place_of : Comeback → ℕ
-place_of (Comeback.Counts n) = n
-place_of (Comeback.Refused r n) = n
+place_of (Ok n) = n
+place_of (Err b) = b.place
 
 -- THE CONTRACT of `stood`: what the replay of a piece comes to, behind so many bytes of earlier ones; or the sum is no number of the machine
 pub data StoodAs (t : Replayed) (before : ℕ) (r : Passed) : Type 0 where
   over : 2 ^ 64 ≤ before + place_of t.answer → r ≡ passed_end unread_back → StoodAs t before r
-  counts : (n : ℕ) → t.answer ≡ Comeback.Counts n → r ≡ passed_to n (before + n) t.session → StoodAs t before r
-  refuses : (q : Refusal) (n : ℕ) → t.answer ≡ Comeback.Refused q n → r ≡ passed_end (back_to (Comeback.Refused q (before + n)) t.session) →
+  counts : (n : ℕ) → t.answer ≡ Ok n → r ≡ passed_to n (before + n) t.session → StoodAs t before r
+  refuses : (q : Refusal) (n : ℕ) → t.answer ≡ bad_at q n → r ≡ passed_end (back_to (bad_at q (before + n)) t.session) →
       StoodAs t before r
 
 -- THE CONTRACT of `take_piece`: all whole lines are taken, and what is left is the start of a line; or all is told
@@ -143,7 +143,7 @@ pub record PassedAs (before : ℕ) (s : Session) (bytes buys sells buys' sells' 
 -- ---- the buffer
 
 abbrev pub coming_to : ℕ → ℕ → Session → Coming
-coming_to have before session = record { have = have; before = before; back = back_to (Comeback.Counts before) session; more = true }
+coming_to have before session = record { have = have; before = before; back = back_to (Ok before) session; more = true }
 
 abbrev pub coming_end : Back → Coming
 coming_end back = record { have = 0; before = 0; back = back; more = false }

@@ -1,9 +1,8 @@
 -- Document 02, item 4: "The app saves each accepted event as its line, after the settings line".
-use Rattle.std.specs.Prelude.{ℕ, ◌-◌, ◌≡◌, Bool, true, false, cond, List, [], ◌∷◌, ◌++◌, length, leb}
+use Rattle.std.specs.Prelude.{ℕ, ◌-◌, ◌≡◌, Bool, true, false, cond, List, [], ◌∷◌, ◌++◌, length, leb, Ok, Err}
 use Rattle.terms.specs.declared.Event.{Event}
 use Rattle.terms.specs.declared.Settings.{Settings}
-use Rattle.terms.specs.declared.Verdict.{Verdict}
-use Rattle.terms.specs.declared.Verdict.TheVariants.{Fine, Refused}
+use Rattle.terms.specs.Refusals.{Verdict}
 use Rattle.lines_reading_law.specs.Lines.{render_event, render_settings}
 use Rattle.state_law.specs.Day.{Day}
 use Rattle.engine_law.specs.Outcome.{outcome}
@@ -25,12 +24,12 @@ any_event (e ∷ es) = true
 -- each event is accepted, on the day that those before it left
 abbrev pub AllAccepted : Day → List Event → Type 0
 AllAccepted d [] = Unit {0}
-AllAccepted d (e ∷ es) = ((outcome d e).verdict ≡ Fine) × AllAccepted (outcome d e).day es
+AllAccepted d (e ∷ es) = ((outcome d e).verdict ≡ Ok tt) × AllAccepted (outcome d e).day es
 
 -- "each accepted event": those of any run that are accepted
 abbrev pub kept_by : Verdict → Event → List Event → List Event
-kept_by Fine e es = e ∷ es
-kept_by (Refused r) e es = es
+kept_by (Ok _) e es = e ∷ es
+kept_by (Err r) e es = es
 
 unfoldable pub accepted_of : Day → List Event → List Event
 accepted_of d [] = []

@@ -8,12 +8,15 @@
 use state_law::Session;
 use terms::Refusal;
 
-// What saved bytes are answered: how many of them count, or a refusal and its place, counted from the first saved byte.
-#[derive(Clone, Copy)]
-pub enum Comeback {
-    Counts(usize),
-    Refused(Refusal, usize),
+// The first bad line of saved bytes: its refusal, and its place counted from the first saved byte.
+#[derive(Clone, Copy, Debug, PartialEq, Eq)]
+pub struct BadLine {
+    pub refusal: Refusal,
+    pub place: usize,
 }
+
+// What saved bytes are answered: how many of them count, or their first bad line.
+pub type Comeback = Result<usize, BadLine>;
 
 // The answer, and the session that comes back.
 #[derive(Clone, Copy)]
@@ -22,15 +25,17 @@ pub struct Resumed {
     pub session: Session,
 }
 
-// What the next event line of saved bytes comes to: applied, with its length; refused by the engine; the start of a line or nothing at all;
-// wrong, with the place in the line.
-#[derive(Clone, Copy)]
-pub enum SavedLine {
-    Applied(usize),
+// Why an event line of saved bytes is not applied: it is refused by the engine; it is the start of a line or nothing at all; it is wrong, with
+// the place in the line.
+#[derive(Clone, Copy, Debug, PartialEq, Eq)]
+pub enum Halt {
     Refused,
     Unfinished,
     Wrong(usize),
 }
+
+// What the next event line of saved bytes comes to: applied, with its length, or why not.
+pub type SavedLine = Result<usize, Halt>;
 
 // The line, and the session after it.
 #[derive(Clone, Copy)]
@@ -43,7 +48,7 @@ pub struct LineReplayed {
 // was among the lines before it.
 #[derive(Clone, Copy)]
 pub struct Halted {
-    pub line: SavedLine,
+    pub halt: Halt,
     pub at: usize,
     pub session: Session,
     pub moved: bool,

@@ -6,15 +6,14 @@
 
 ghost use Rattle.std.specs.Prelude.{◌+◌, ◌^◌, ◌≤◌, ◌<◌, false, ◌≡◌, length};
 ghost use Rattle.state_law.specs.Opening.{fixed_session};
-ghost use Rattle.resume_law.specs.declared.Comeback.{Comeback};
-ghost use Rattle.resume_law.specs.Rebuilt.{used_by};
+ghost use Rattle.resume_law.specs.Answers.{bad_at};
 ghost use Rattle.engine_law.specs.Calls.{LongEnough};
 ghost use Rattle.resume_law.specs.code.Replaying.{AppliedLong, line_for, line_replayed_to, place_in, EventReplayed, LineTold, LineFrom, replayed_to, stopped_at, held_from, LinesReplayed, Halts};
 
 use engine::apply;
 use engine_law::{Answer, Applied};
 use lines_reading_law::ReadEvent;
-use resume_law::{Comeback, Halted, LineReplayed, Replayed, SavedLine};
+use resume_law::{BadLine, Comeback, Halt, Halted, LineReplayed, Replayed, SavedLine};
 use state::opening;
 use state_law::Session;
 use terms::{Event, Refusal};
@@ -33,8 +32,8 @@ fn line_for(answer: Answer, used: usize) -> SavedLine
     ensures { result ≡ line_for answer used }
 {
     match answer {
-        Answer::Reported(count) => SavedLine::Applied(used),
-        Answer::Refused(refusal) => SavedLine::Refused,
+        Ok(_) => Ok(used),
+        Err(_) => Err(Halt::Refused),
     }
 }
 
@@ -86,8 +85,8 @@ fn replay_line(
 {
     match lines_reading::read_event(bytes) {
         ReadEvent::Whole(event, used) => replay_event(session, event, used, buys, sells, room),
-        ReadEvent::Unfinished => line_replayed(SavedLine::Unfinished, session),
-        ReadEvent::Wrong(place) => line_replayed(SavedLine::Wrong(place), session),
+        ReadEvent::Unfinished => line_replayed(Err(Halt::Unfinished), session),
+        ReadEvent::Wrong(place) => line_replayed(Err(Halt::Wrong(place)), session),
     }
 }
 
@@ -106,18 +105,6 @@ fn line_at(
     replay_line(session, &bytes[at..], buys, sells, room)
 }
 
-// How many bytes an applied line has.
-fn used_by(line: SavedLine) -> usize
-    ensures { result ≡ used_by line }
-{
-    match line {
-        SavedLine::Applied(used) => used,
-        SavedLine::Refused => 0,
-        SavedLine::Unfinished => 0,
-        SavedLine::Wrong(_) => 0,
-    }
-}
-
 fn replayed(answer: Comeback, session: Session, moved: bool) -> Replayed
     ensures { result ≡ replayed_to answer session moved }
 {
@@ -129,22 +116,21 @@ fn replayed(answer: Comeback, session: Session, moved: bool) -> Replayed
 }
 
 // A refusal: the fixed session, and no table is to be written.
-fn refused_at(r: Refusal, place: usize) -> Replayed
-    ensures { result ≡ replayed_to (Comeback.Refused r place) fixed_session false }
+fn refused_at(refusal: Refusal, place: usize) -> Replayed
+    ensures { result ≡ replayed_to (bad_at refusal place) fixed_session false }
 {
-    replayed(Comeback::Refused(r, place), opening::fixed(), false)
+    replayed(Err(BadLine { refusal, place }), opening::fixed(), false)
 }
 
 // What is answered where a line at a place is not applied.
-fn stopped(line: SavedLine, at: usize, session: Session, moved: bool) -> Replayed
-    requires { at + place_in line < 2 ^ 64 }
-    ensures { result ≡ stopped_at line at session moved }
+fn stopped(halt: Halt, at: usize, session: Session, moved: bool) -> Replayed
+    requires { at + place_in halt < 2 ^ 64 }
+    ensures { result ≡ stopped_at halt at session moved }
 {
-    match line {
-        SavedLine::Applied(used) => replayed(Comeback::Counts(at), session, moved),
-        SavedLine::Refused => refused_at(Refusal::LineRefused, at),
-        SavedLine::Unfinished => replayed(Comeback::Counts(at), session, moved),
-        SavedLine::Wrong(place) => {
+    match halt {
+        Halt::Refused => refused_at(Refusal::LineRefused, at),
+        Halt::Unfinished => replayed(Ok(at), session, moved),
+        Halt::Wrong(place) => {
             let found = at + place;
             refused_at(Refusal::LineWrong, found)
         }
@@ -168,22 +154,24 @@ fn until_halted(
     let mut moved = false;
     while at < bytes.len() {
         let t = line_at(now, bytes, at, buys, sells, room);
-        let line = t.line;
-        let used = used_by(line);
         now = t.session;
-        if used == 0 {
-            return Halted {
-                line: line,
-                at: at,
-                session: now,
-                moved: moved,
-            };
+        match t.line {
+            Ok(used) => {
+                at += used;
+                moved = true;
+            }
+            Err(halt) => {
+                return Halted {
+                    halt: halt,
+                    at: at,
+                    session: now,
+                    moved: moved,
+                };
+            }
         }
-        at += used;
-        moved = true;
     }
     Halted {
-        line: SavedLine::Unfinished,
+        halt: Halt::Unfinished,
         at: at,
         session: now,
         moved: moved,
@@ -203,9 +191,5 @@ pub fn replay_lines(
     ensures { LinesReplayed bytes.now first session buys.old sells.old buys.new sells.new result }
 {
     let h = until_halted(bytes, first, session, buys, sells, room);
-    let line = h.line;
-    let at = h.at;
-    let after = h.session;
-    let moved = h.moved;
-    stopped(line, at, after, moved)
+    stopped(h.halt, h.at, h.session, h.moved)
 }

@@ -10,7 +10,7 @@ ghost use Rattle.engine_law.specs.Calls.{LongEnough};
 ghost use Rattle.resume_law.specs.Pieces.{back_to, unread_back, passed_to, passed_end, StartTold, StoodAs, PassedAs};
 
 use lines_reading_law::ReadEvent;
-use resume_law::{Back, Comeback, Passed, Replayed};
+use resume_law::{Back, BadLine, Comeback, Passed, Replayed};
 use state::opening;
 use state_law::Session;
 
@@ -30,7 +30,7 @@ pub fn unread() -> Back
     ensures { result ≡ unread_back }
 {
     Back {
-        answer: Comeback::Counts(0),
+        answer: Ok(0),
         session: opening::fixed(),
         read: false,
     }
@@ -42,7 +42,7 @@ fn passed_to(used: usize, before: usize, session: Session) -> Passed
     Passed {
         used: used,
         before: before,
-        back: back_to(Comeback::Counts(before), session),
+        back: back_to(Ok(before), session),
         more: true,
     }
 }
@@ -66,19 +66,22 @@ fn stood(t: Replayed, before: usize) -> Passed
     let session = t.session;
     let most = usize::MAX - before;
     match answer {
-        Comeback::Counts(n) => {
+        Ok(n) => {
             if n > most {
                 return passed_end(unread());
             }
             let all = before + n;
             passed_to(n, all, session)
         }
-        Comeback::Refused(refusal, n) => {
-            if n > most {
+        Err(bad) => {
+            if bad.place > most {
                 return passed_end(unread());
             }
-            let place = before + n;
-            passed_end(back_to(Comeback::Refused(refusal, place), session))
+            let told = BadLine {
+                refusal: bad.refusal,
+                place: before + bad.place,
+            };
+            passed_end(back_to(Err(told), session))
         }
     }
 }

@@ -8,12 +8,12 @@ use mathlib.Core.Bool.{true, false}
 use mathlib.Core.List.{List, []}
 use lib.Dec.{eqb}
 use lib.ListN.{length}
+use Rattle.std.specs.Prelude.{Ok, Err}
 use Rattle.terms.specs.declared.Settings.{Settings}
 use Rattle.terms.specs.declared.Order.{Order}
 use Rattle.terms.specs.declared.Side.{Side}
 use Rattle.terms.specs.declared.Side.TheVariants.{Buy, Sell}
 use Rattle.terms.specs.declared.Refusal.{Refusal}
-use Rattle.terms.specs.declared.Verdict.TheVariants.{Fine, Refused}
 use Rattle.terms.specs.Truth.{◌⊓◌}
 use Rattle.terms.specs.Refusals.{first_failed}
 use Rattle.terms.specs.Sizes.{price_most}
@@ -126,7 +126,7 @@ each_tradable s fs v e =
 
 -- ---- the opening
 
-fine-settings : (g : Settings) → settings_verdict g ≡ Fine → settings_valid g ≡ true
+fine-settings : (g : Settings) → settings_verdict g ≡ Ok tt → settings_valid g ≡ true
 unfolding settings_verdict settings_valid
 fine-settings g e =
     let r = fine-first _ (settings_ranged g) _ e in
@@ -159,24 +159,24 @@ opened_parts g h =
     }
 
 -- AN OPENED SESSION IS SOUND, for any settings that 12 and 13 let pass
-pub opened-sound : (g : Settings) → settings_verdict g ≡ Fine → sound (opened g) ≡ true
+pub opened-sound : (g : Settings) → settings_verdict g ≡ Ok tt → sound (opened g) ≡ true
 unfolding opened_session
 opened-sound g h =
     day-sound Buy (opened_session g) [] [] (opened_parts g (fine-settings g h)) (empty_sound 0 g.tick (band_now (opened_session g)))
 
 -- a sound day has settings that they let pass,
-pub sound-settings : (d : Day) → sound d ≡ true → settings_verdict d.session.settings ≡ Fine
+pub sound-settings : (d : Day) → sound d ≡ true → settings_verdict d.session.settings ≡ Ok tt
 unfolding settings_verdict settings_valid first_failed
 sound-settings d h =
     let v = both (sound-day d h).parts.valid in
     rw (v.0, v.1)
 
 -- so a day of settings that one of them refuses is not sound
-pub refused_unsound : (g : Settings) (r : Refusal) → settings_verdict g ≡ Refused r → sound (opened g) ≡ false
+pub refused_unsound : (g : Settings) (r : Refusal) → settings_verdict g ≡ Err r → sound (opened g) ≡ false
 unfolding opened_session
 refused_unsound g r e =
     cases (sound (opened g))
-    (λ h. absurd (let fine : settings_verdict g ≡ Fine = sound-settings (opened g) h in let z : ◌≡◌ {A = ℕ} 0 1 = cc in omega arith))
+    (λ h. absurd (let fine : settings_verdict g ≡ Ok tt = sound-settings (opened g) h in let z : ◌≡◌ {A = ℕ} 0 1 = cc in omega arith))
     (λ h. h)
 
 -- "one fixed session, broad, open, every number zero, which is not sound", whatever lies in the tables

@@ -7,7 +7,7 @@ ghost use Rattle.state_law.specs.Opening.{at_open, opened_session, fixed_session
 use rules::reference;
 use rules_law::{Reckoning, Tally, Tape};
 use state_law::{Dial, Live, Opened, Session};
-use terms::{Category, Settings, Verdict, judge};
+use terms::{Category, Settings, judge};
 
 // A tape before any trade.
 fn blank() -> Tape
@@ -87,19 +87,13 @@ pub fn begin(g: Settings) -> Opened
     ensures { result ≡ opening_of g }
 {
     match judge::check(g) {
-        Verdict::Fine => {
-            let session = opened(g);
-            Opened {
-                verdict: Verdict::Fine,
-                session: session,
-            }
-        }
-        Verdict::Refused(r) => {
-            let session = fixed();
-            Opened {
-                verdict: Verdict::Refused(r),
-                session: session,
-            }
-        }
+        Ok(()) => Opened {
+            verdict: Ok(()),
+            session: opened(g),
+        },
+        Err(r) => Opened {
+            verdict: Err(r),
+            session: fixed(),
+        },
     }
 }

@@ -4,10 +4,10 @@ use mathlib.Core.Path.{◌≡◌, refl}
 use mathlib.Core.Bool.{false}
 use mathlib.Core.List.{List, [], ◌∷◌, ◌++◌}
 use lib.ListN.{replicate}
+use Rattle.std.specs.Prelude.{Ok, Err}
 use Rattle.terms.specs.declared.Refusal.{Refusal}
 use Rattle.terms.specs.declared.Settings.{Settings}
-use Rattle.terms.specs.declared.Verdict.{Verdict}
-use Rattle.terms.specs.declared.Verdict.TheVariants.{Fine, Refused}
+use Rattle.terms.specs.Refusals.{Verdict}
 use Rattle.terms.specs.Categories.{row_of}
 use Rattle.terms.specs.Settings.{settings_verdict}
 use Rattle.rules_law.specs.declared.Reckoning.{Reckoning}
@@ -48,10 +48,10 @@ unfolding opening_of
 opening-verdict g = go (settings_verdict g)
   where
     go : (v : Verdict) → (opened_by g v).verdict ≡ v
-    go Fine = refl
-    go (Refused r) = refl
+    go (Ok _) = refl
+    go (Err r) = refl
 
-pub refused-opening : (g : Settings) (r : Refusal) → settings_verdict g ≡ Refused r → (opening_of g).session ≡ fixed_session
+pub refused-opening : (g : Settings) (r : Refusal) → settings_verdict g ≡ Err r → (opening_of g).session ≡ fixed_session
 unfolding opening_of
 refused-opening g r e = rw e
 

@@ -5,10 +5,10 @@ use mathlib.Core.Path.{◌≡◌, refl, ◌∙◌}
 use mathlib.Core.List.{List, [], ◌∷◌}
 use lib.Dec.{ltb}
 use lib.ListN.{length, length-append, length-take, length-drop, length-set}
+use Rattle.std.specs.Prelude.{Ok, Err}
 use Rattle.terms.specs.declared.Order.{Order}
 use Rattle.terms.specs.declared.Settings.{Settings}
-use Rattle.terms.specs.declared.Verdict.{Verdict}
-use Rattle.terms.specs.declared.Verdict.TheVariants.{Fine, Refused}
+use Rattle.terms.specs.Refusals.{Verdict}
 use Rattle.terms.specs.Settings.{settings_verdict}
 use Rattle.terms.proofs.Logic.{by}
 use Rattle.rules_law.specs.Close.{remembered, tape_after}
@@ -50,5 +50,5 @@ unfolding opening_of opened_session
 opening_ten g = go (settings_verdict g)
   where
     go : (v : Verdict) → Ten (opened_by g v).session
-    go Fine = record { prices = refl; sizes = refl }
-    go (Refused r) = fixed_ten
+    go (Ok _) = record { prices = refl; sizes = refl }
+    go (Err r) = fixed_ten

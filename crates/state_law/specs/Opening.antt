@@ -1,9 +1,8 @@
 -- The opening of a session, and the session that a refused opening returns.
-use Rattle.std.specs.Prelude.{false}
+use Rattle.std.specs.Prelude.{false, Ok, Err}
 use Rattle.terms.specs.declared.Settings.{Settings}
 use Rattle.terms.specs.declared.Category.TheVariants.{Broad}
-use Rattle.terms.specs.declared.Verdict.{Verdict}
-use Rattle.terms.specs.declared.Verdict.TheVariants.{Fine, Refused}
+use Rattle.terms.specs.Refusals.{Verdict}
 use Rattle.terms.specs.Settings.{settings_verdict}
 use Rattle.rules_law.specs.declared.Reckoning.{Reckoning}
 use Rattle.rules_law.specs.Reference.{opening_reference, no_trades}
@@ -35,8 +34,8 @@ fixed_session =
 
 -- "a refused one returns its number and one fixed session"
 abbrev pub opened_by : Settings → Verdict → Opened
-opened_by g Fine = record { verdict = Fine; session = opened_session g }
-opened_by g (Refused r) = record { verdict = Refused r; session = fixed_session }
+opened_by g (Ok _) = record { verdict = Ok tt; session = opened_session g }
+opened_by g (Err r) = record { verdict = Err r; session = fixed_session }
 
 unfoldable pub opening_of : Settings → Opened
 opening_of g = opened_by g (settings_verdict g)

@@ -37,6 +37,7 @@ pub struct Session {
 }
 
 // What an opening answers: whether the settings are refused, and the session.
+// Not a Result of the session: `opening_of` promises the fixed session of a refused opening too.
 #[derive(Clone, Copy)]
 pub struct Opened {
     pub verdict: Verdict,

@@ -9,13 +9,14 @@ use lib.Seq.{length-take-le, take-add}
 use borrow.Author.Tests.{eq-eqb, ne_eqb}
 use mir.Syntax.{w64}
 use mir.Val.{Fits}
+use Rattle.std.specs.Prelude.{Ok}
 use Rattle.terms.specs.Sizes.{line_room}
 use Rattle.descriptors.specs.declared.Got.{Got}
 use Rattle.descriptors.specs.Counted.{GotWithin}
 use Rattle.state_law.specs.declared.Session.{Session}
 use Rattle.state_law.specs.Opening.{fixed_session}
 use Rattle.soundness_law.specs.Sound.{day_in}
-use Rattle.resume_law.specs.declared.Comeback.{Comeback}
+use Rattle.resume_law.specs.Answers.{Comeback}
 use Rattle.resume_law.specs.declared.Back.{Back}
 use Rattle.resume_law.specs.declared.Coming.{Coming}
 use Rattle.resume_law.specs.Pieces.{BackAs, BackBehind, standing, Onward, BackFrom, back_to, unread_back, Starts, coming_to, coming_end}
@@ -114,7 +115,7 @@ read_fits left n g h e = record { fits = h.ends n e }
 pub fixed_back : (r : Back) (a : Comeback) (s : Session) → r ≡ back_to a s → s ≡ fixed_session → r ≡ back_to a fixed_session
 fixed_back r a s e f = e ∙ ap (back_to a) f
 
-module _ (n before : ℕ) (s : Session) (b : Back) (e : b ≡ back_to (Comeback.Counts before) s) where
+module _ (n before : ℕ) (s : Session) (b : Back) (e : b ≡ back_to (Ok before) s) where
   pub coming_back : ◌≡◌ {A = Coming} (record { have = n; before = before; back = b; more = true }) (coming_to n before s)
   coming_back = ap (λ (x : Back). record { have = n; before = before; back = x; more = true }) e
 

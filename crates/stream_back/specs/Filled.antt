@@ -1,11 +1,10 @@
 -- What the reads of a file come to: the first one, and each behind the bytes that are kept.
-use Rattle.std.specs.Prelude.{ℕ, ◌+◌, ◌≤◌, ◌<◌, ◌≡◌, Bool, true, false, cond, List, [], eqb, length, take}
+use Rattle.std.specs.Prelude.{ℕ, ◌+◌, ◌≤◌, ◌<◌, ◌≡◌, Bool, true, false, cond, List, [], eqb, length, take, Ok}
 use Rattle.terms.specs.declared.Settings.{Settings}
 use Rattle.descriptors.specs.declared.Got.{Got}
 use Rattle.lines_text_law.specs.Grammar.{whole}
 use Rattle.lines_reading_law.specs.Answers.{read_settings}
 use Rattle.state_law.specs.declared.Session.{Session}
-use Rattle.resume_law.specs.declared.Comeback.{Comeback}
 use Rattle.resume_law.specs.declared.Back.{Back}
 use Rattle.resume_law.specs.declared.Coming.{Coming}
 use Rattle.resume_law.specs.Pieces.{BackBehind, Standing, standing, Onward, BackFrom, unread_back, coming_to, coming_end, stands_on}
@@ -15,7 +14,7 @@ use Rattle.stream_back.specs.declared.Piece.{Piece}
 
 -- nothing more is to be read: so many bytes count, and all could be read or not
 abbrev pub stopped_at : ℕ → Session → Bool → Coming
-stopped_at before s read = coming_end (record { answer = Comeback.Counts before; session = s; read = read })
+stopped_at before s read = coming_end (record { answer = Ok before; session = s; read = read })
 
 -- a read of no bytes is the end of the file, where those that are kept are dropped; a read that failed is not
 abbrev pub coming_after : Got → ℕ → ℕ → Session → Coming

@@ -12,7 +12,7 @@ ghost use Rattle.terms.specs.Sizes.{line_room};
 ghost use Rattle.state_law.specs.Opening.{fixed_session};
 ghost use Rattle.engine_law.specs.Calls.{LongEnough};
 ghost use Rattle.descriptors.specs.Counted.{GotWithin};
-ghost use Rattle.resume_law.specs.declared.Comeback.{Comeback};
+ghost use Rattle.resume_law.specs.Answers.{bad_at};
 ghost use Rattle.resume_law.specs.Pieces.{BackAs, BackBehind, standing, BackFrom, back_to, Starts, coming_to, coming_end, stands_on};
 ghost use Rattle.stream_law.specs.Sources.{Gives};
 ghost use Rattle.stream_source.specs.Reads.{EndsWithin};
@@ -21,11 +21,11 @@ ghost use Rattle.stream_back.specs.Filled.{stopped_at, coming_after, ComesOn, Re
 use descriptors::Got;
 use descriptors::live::Live;
 use lines_reading_law::ReadSettings;
-use resume_law::{Back, Comeback, Coming};
+use resume_law::{Back, BadLine, Coming};
 use state::opening;
 use state_law::Session;
 use stream_law::Source;
-use terms::{Refusal, Settings, Verdict};
+use terms::{Refusal, Settings};
 
 // What is kept from piece to piece, and where the source stands then.
 #[derive(Clone, Copy)]
@@ -36,9 +36,9 @@ pub struct Piece {
 
 // Nothing comes back.
 fn refused(refusal: Refusal, place: usize) -> Back
-    ensures { result ≡ back_to (Comeback.Refused refusal place) fixed_session }
+    ensures { result ≡ back_to (bad_at refusal place) fixed_session }
 {
-    resume_pieces::back_to(Comeback::Refused(refusal, place), opening::fixed())
+    resume_pieces::back_to(Err(BadLine { refusal, place }), opening::fixed())
 }
 
 // ---- reads
@@ -49,7 +49,7 @@ fn coming_to(have: usize, before: usize, session: Session) -> Coming
     Coming {
         have: have,
         before: before,
-        back: resume_pieces::back_to(Comeback::Counts(before), session),
+        back: resume_pieces::back_to(Ok(before), session),
         more: true,
     }
 }
@@ -70,7 +70,7 @@ fn stopped(before: usize, session: Session, read: bool) -> Coming
     ensures { result ≡ stopped_at before session read }
 {
     coming_end(Back {
-        answer: Comeback::Counts(before),
+        answer: Ok(before),
         session: session,
         read: read,
     })
@@ -232,10 +232,10 @@ fn from_settings(
     let verdict = o.verdict;
     let session = o.session;
     match verdict {
-        Verdict::Fine => from_opening(
+        Ok(()) => from_opening(
             live, from, given, session, first, end, buf, buys, sells, room,
         ),
-        Verdict::Refused(refusal) => refused(Refusal::LineRefused, 0),
+        Err(_) => refused(Refusal::LineRefused, 0),
     }
 }
 

@@ -21,7 +21,7 @@ ghost use Rattle.stream_law.specs.Keeping.{OnAs, trading_run, RefusedAs, BadLaid
 use descriptors::live::Live;
 use feed_law::{Run, Stage};
 use feed_prints::printing;
-use resume_law::{Back, Comeback};
+use resume_law::Back;
 use state_law::Session;
 use stream_law::{Finish, Kept, Mode, Sink, Source};
 use tables::lengths;
@@ -159,17 +159,24 @@ fn begin(
     let answer = back.answer;
     let session = back.session;
     match answer {
-        Comeback::Counts(count) => {
+        Ok(count) => {
             let run = trading(session);
             go_on(
                 live, input, given, file, to, expected, count, run, buys, sells,
             )
         }
-        Comeback::Refused(refusal, place) => {
-            not_back(
-                live, input, given, file, to, expected, refusal, place, buys, sells,
-            )
-        }
+        Err(bad) => not_back(
+            live,
+            input,
+            given,
+            file,
+            to,
+            expected,
+            bad.refusal,
+            bad.place,
+            buys,
+            sells,
+        ),
     }
 }
 

@@ -9,6 +9,7 @@ use borrow.Author.Tests.{not-true, not-false}
 use mir.Syntax.{w32}
 use mir.Val.{of_z, to_z, SFits}
 use mir.Facts.{to_z-of_z}
+use Rattle.std.specs.Prelude.{Ok, Err}
 use Rattle.terms.specs.declared.Refusal.{Refusal}
 use Rattle.tables.specs.Tables.{decode}
 use Rattle.state_law.specs.Opening.{fixed_session}
@@ -21,7 +22,8 @@ use Rattle.feed_law.specs.Turns.{printing}
 use Rattle.feed_law.specs.Saving.{saving}
 use Rattle.feed_law.specs.Feeds.{fresh_run}
 use Rattle.feed_law.proofs.Says.{said-map}
-use Rattle.resume_law.specs.declared.Comeback.{Comeback}
+use Rattle.resume_law.specs.declared.BadLine.{BadLine}
+use Rattle.resume_law.specs.Answers.{Comeback}
 use Rattle.resume_law.specs.declared.Back.{Back}
 use Rattle.resume_law.specs.Rebuilt.{Rebuilt, resumed}
 use Rattle.resume_law.specs.Pieces.{BackBy, is_unbegun, tells_bad, BackAs, BackOf}
@@ -106,13 +108,13 @@ module _ {expected : List ℕ} {gives : List ℕ → Bool → Type 0} {to : Sink
   refused-told e t k = record { refused = rw (sym e ∙ t) k.told }
 
 module _ {expected : List ℕ} {gives : List ℕ → Bool → Type 0} {to : Sink} {back : Back} {buys sells : List ℕ} {r : Finish} where
-  pub begun-counts : {n : ℕ} {run : Run} → back.answer ≡ Comeback.Counts n → run ≡ trading_run back.session →
+  pub begun-counts : {n : ℕ} {run : Run} → back.answer ≡ Ok n → run ≡ trading_run back.session →
       OnAs expected gives to n (holding run buys sells []) r → BegunAs expected gives to back buys sells r
   begun-counts {n} e f k =
       let k' : OnAs expected gives to n (holding (trading_run back.session) buys sells []) r = subst (λ (x : Run). OnAs expected gives to n (holding x buys sells []) r) f k in
       record { keeps = rw e k'.goes }
 
-  pub begun-refused : {q : Refusal} {place : ℕ} → back.answer ≡ Comeback.Refused q place → RefusedAs expected gives to q place r → BegunAs expected gives to back buys sells r
+  pub begun-refused : {b : BadLine} → back.answer ≡ Err b → RefusedAs expected gives to b.refusal b.place r → BegunAs expected gives to back buys sells r
   begun-refused e k = record { keeps = rw e k.refused }
 
 -- THE WHOLE: what came back is that of the file's bytes, and so is what the program did then; or not all could be read
@@ -120,8 +122,8 @@ module _ (expected : List ℕ) {saves : List ℕ → Bool → Type 0} (gives : L
   module _ (f : Finish) where
     keeps-day : (x : Rebuilt) (c : Comeback) → x.answer ≡ c → BackBy x buys sells back → KeepsAs expected gives to c (day_in back.session buys sells) f →
         KeepsAs expected gives to c x.day f
-    keeps-day x (Comeback.Counts n) e b k = subst (λ (d : Day). GoesOnFrom expected gives to n Stage.Trading d f) (b.day n e) k
-    keeps-day x (Comeback.Refused q place) e b k = k
+    keeps-day x (Ok n) e b k = subst (λ (d : Day). GoesOnFrom expected gives to n Stage.Trading d f) (b.day n e) k
+    keeps-day x (Err q) e b k = k
 
     keeps : (bytes : List ℕ) → BackBy (resumed bytes) buys sells back → BegunAs expected gives to back buys sells f →
         KeepsAs expected gives to (resumed bytes).answer (resumed bytes).day f

@@ -9,12 +9,13 @@ use lib.ListN.{length, take, length-append}
 use lib.Seq.{take_all}
 use lib.Dec.{leb}
 use borrow.Author.Tests.{leb-true, leb-false}
+use Rattle.std.specs.Prelude.{Ok, Err}
 use Rattle.state_law.specs.Day.{Day}
 use Rattle.feed_law.specs.declared.Stage.{Stage}
 use Rattle.feed_law.specs.Texts.{bad_text}
 use Rattle.feed_law.specs.Worlds.{days}
 use Rattle.feed_law.specs.Turns.{said_from}
-use Rattle.resume_law.specs.declared.Comeback.{Comeback}
+use Rattle.resume_law.specs.Answers.{Comeback}
 use Rattle.resume_law.specs.Rebuilt.{resumed}
 use Rattle.resume_law.specs.Pieces.{is_unbegun, tells_bad, too_many}
 use Rattle.stream_law.specs.declared.Source.{Source}
@@ -70,13 +71,13 @@ module _ (given expected : List ℕ) (short : length given < too_many) where
 
   module _ (f : Finish) where
     keeps-tells : (c : Comeback) (d : Day) → KeepsAs expected (Gives given (Source.Text 0)) (Sink.Match 0) c d f → Tells (kept_log c d given expected) expected f
-    keeps-tells (Comeback.Counts n) d k = goes-tells n Stage.Trading d f k
-    keeps-tells (Comeback.Refused q place) d k = go (is_unbegun q) k
+    keeps-tells (Ok n) d k = goes-tells n Stage.Trading d f k
+    keeps-tells (Err e) d k = go (is_unbegun e.refusal) k
       where
-        go : (b : Bool) → RefusedBy b expected (Gives given (Source.Text 0)) (Sink.Match 0) q place f →
-            Tells (cond b (log_behind 0 Stage.Awaiting no_day given expected) (shown_part (bad_text q place))) expected f
+        go : (b : Bool) → RefusedBy b expected (Gives given (Source.Text 0)) (Sink.Match 0) e.refusal e.place f →
+            Tells (cond b (log_behind 0 Stage.Awaiting no_day given expected) (shown_part (bad_text e.refusal e.place))) expected f
         go true k = goes-tells 0 Stage.Awaiting no_day f k
-        go false k = finish-tells expected (shown_part (bad_text q place)) f k
+        go false k = finish-tells expected (shown_part (bad_text e.refusal e.place)) f k
 
 -- the bytes of a file that is lent are those that came back
 module _ (kept given expected : List ℕ) (r : Kept) (few : length kept < too_many) (short : length given < too_many) where

@@ -1,6 +1,6 @@
 -- A DAY THAT IS KEPT IN A FILE. Document 02, item 4: "The app saves each accepted event as its line, after the settings line, before showing
 -- any report."
-use Rattle.std.specs.Prelude.{ℕ, ◌≤◌, ◌<◌, ◌≡◌, Bool, true, false, cond, ◌&&◌, List, [], ◌∷◌, ◌++◌, length, take, ℤ}
+use Rattle.std.specs.Prelude.{ℕ, ◌≤◌, ◌<◌, ◌≡◌, Bool, true, false, cond, ◌&&◌, List, [], ◌∷◌, ◌++◌, length, take, ℤ, Ok, Err}
 use Rattle.std.specs.Int.Signed.{non_neg}
 use Rattle.terms.specs.declared.Refusal.{Refusal}
 use Rattle.state_law.specs.declared.Session.{Session}
@@ -14,7 +14,7 @@ use Rattle.feed_law.specs.Worlds.{days}
 use Rattle.feed_law.specs.Turns.{Says, printing, said_from}
 use Rattle.feed_law.specs.Saving.{saving}
 use Rattle.feed_law.specs.Feeds.{Prints}
-use Rattle.resume_law.specs.declared.Comeback.{Comeback}
+use Rattle.resume_law.specs.Answers.{Comeback}
 use Rattle.resume_law.specs.declared.Back.{Back}
 use Rattle.resume_law.specs.Rebuilt.{resumed}
 use Rattle.resume_law.specs.Pieces.{is_unbegun, tells_bad, too_many}
@@ -108,8 +108,8 @@ pub record BadTold (expected : List ℕ) (to : Sink) (q : Refusal) (place : ℕ)
 
 -- WHAT THE PROGRAM DOES by what the file comes back as: the day goes on behind the bytes that count, or nothing came back
 abbrev pub KeepsAs : List ℕ → (List ℕ → Bool → Type 0) → Sink → Comeback → Day → Finish → Type 0
-KeepsAs expected gives to (Comeback.Counts n) d r = GoesOnFrom expected gives to n Stage.Trading d r
-KeepsAs expected gives to (Comeback.Refused q place) d r = RefusedBy (is_unbegun q) expected gives to q place r
+KeepsAs expected gives to (Ok n) d r = GoesOnFrom expected gives to n Stage.Trading d r
+KeepsAs expected gives to (Err b) d r = RefusedBy (is_unbegun b.refusal) expected gives to b.refusal b.place r
 
 -- THE CONTRACT of `begin`: so for the day that the tables hold
 pub record BegunAs (expected : List ℕ) (gives : List ℕ → Bool → Type 0) (to : Sink) (back : Back) (buys sells : List ℕ) (r : Finish) : Type 0 where
@@ -134,8 +134,9 @@ log_behind n stage d given expected = (take n expected ++ settled) ++ said_from 
 
 -- THE LOG of a day that is kept, by what its file comes back as
 abbrev pub kept_log : Comeback → Day → List ℕ → List ℕ → List ℕ
-kept_log (Comeback.Counts n) d given expected = log_behind n Stage.Trading d given expected
-kept_log (Comeback.Refused q place) d given expected = cond (is_unbegun q) (log_behind 0 Stage.Awaiting no_day given expected) (shown_part (bad_text q place))
+kept_log (Ok n) d given expected = log_behind n Stage.Trading d given expected
+kept_log (Err b) d given expected =
+    cond (is_unbegun b.refusal) (log_behind 0 Stage.Awaiting no_day given expected) (shown_part (bad_text b.refusal b.place))
 
 abbrev pub KeptTells : List ℕ → List ℕ → Kept → Type 0
 KeptTells text expected Kept.NotOpened = ⊥

@@ -2,11 +2,10 @@
 use Prim.Native.Nat.{◌≤◌}
 use native.Mathlib.Omega.{arith}
 use mathlib.Core.Path.{◌≡◌, refl}
+use Rattle.std.specs.Prelude.{Ok, Err}
 use Rattle.terms.specs.declared.Refusal.{Refusal}
 use Rattle.terms.specs.declared.Refusal.TheVariants.{SmallRoom, Unsound, Closed, NumberRange, TimeBack, OutOfHours, OffTick, OutsideBand, NotResting, SideFull, DayFull, SettingsRange, SettingsOffTick, LineUnfinished, LineWrong, SmallLineRoom, NumberLong, LineRefused}
-use Rattle.terms.specs.declared.Verdict.{Verdict}
-use Rattle.terms.specs.declared.Verdict.TheVariants.{Fine, Refused}
-use Rattle.terms.specs.Refusals.{number_of, code_of}
+use Rattle.terms.specs.Refusals.{Verdict, number_of, code_of}
 
 -- the numbers of refusals run from 1 to 22
 pub refusal-number : (r : Refusal) → (1 ≤ number_of r) × (number_of r ≤ 22)
@@ -29,6 +28,6 @@ refusal-number SmallLineRoom = (omega arith, omega arith)
 refusal-number NumberLong = (omega arith, omega arith)
 refusal-number LineRefused = (omega arith, omega arith)
 
-pub code_fine : (v : Verdict) → code_of v ≡ 0 → v ≡ Fine
-code_fine Fine e = refl
-code_fine (Refused r) e = absurd (omega (arith, (refusal-number r).0))
+pub code_fine : (v : Verdict) → code_of v ≡ 0 → v ≡ Ok tt
+code_fine (Ok _) e = refl
+code_fine (Err r) e = absurd (omega (arith, (refusal-number r).0))

@@ -5,7 +5,7 @@ use mathlib.Core.Path.{◌≡◌}
 use mathlib.Core.Bool.{true, false}
 use borrow.Author.Tests.{leb-true, le-leb}
 use Rattle.terms.specs.declared.Settings.{Settings}
-use Rattle.terms.specs.declared.Verdict.TheVariants.{Fine}
+use Rattle.std.specs.Prelude.{Ok}
 use Rattle.terms.specs.Sizes.{base_most, tick_most, length_least, time_most, days_most, price_most}
 use Rattle.terms.specs.Refusals.{first_failed, code_of}
 use Rattle.terms.specs.Settings.{settings_ranged, settings_ticked, settings_valid, settings_verdict, Ranged, Valid}
@@ -81,7 +81,7 @@ thirteen_in_range g h =
 -- ---- valid settings
 
 -- settings that no refusal applies to are valid
-pub fine-valid : (g : Settings) → settings_verdict g ≡ Fine → Valid g
+pub fine-valid : (g : Settings) → settings_verdict g ≡ Ok tt → Valid g
 unfolding settings_verdict
 fine-valid g e =
     let r = fine-first _ (settings_ranged g) _ e in

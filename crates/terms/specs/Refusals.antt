@@ -1,9 +1,7 @@
 -- Document 01, "Refusal numbers, first that applies"; document 02, item 4.
-use Rattle.std.specs.Prelude.{ℕ, Bool, cond, List, [], ◌∷◌}
+use Rattle.std.specs.Prelude.{ℕ, ⊤, Bool, cond, List, [], ◌∷◌, Result, Ok, Err}
 use Rattle.terms.specs.declared.Refusal.{Refusal}
 use Rattle.terms.specs.declared.Refusal.TheVariants.{SmallRoom, Unsound, Closed, NumberRange, TimeBack, OutOfHours, OffTick, OutsideBand, NotResting, SideFull, DayFull, SettingsRange, SettingsOffTick, LineUnfinished, LineWrong, SmallLineRoom, NumberLong, LineRefused}
-use Rattle.terms.specs.declared.Verdict.{Verdict}
-use Rattle.terms.specs.declared.Verdict.TheVariants.{Fine, Refused}
 
 -- the rows of the paper's table
 abbrev pub number_of : Refusal → ℕ
@@ -26,6 +24,10 @@ number_of SmallLineRoom = 16  -- line room under 128 bytes
 number_of NumberLong = 17  -- a number above 999,999,999 to be written
 number_of LineRefused = 22  -- a saved line that the engine refuses; returns its start
 
+-- a judgement: no refusal applies, or the first that does
+abbrev pub Verdict : Type 0
+Verdict = Result ⊤ Refusal
+
 -- a rule: the refusal, and what must hold for it not to apply
 pub record Rule : Type 0 where
   pub refusal : Refusal
@@ -36,10 +38,10 @@ unless refusal holds = record { refusal = refusal; holds = holds }
 
 -- "first that applies"
 unfoldable pub first_failed : List Rule → Verdict
-first_failed [] = Fine
-first_failed (r ∷ rs) = cond r.holds (first_failed rs) (Refused r.refusal)
+first_failed [] = Ok tt
+first_failed (r ∷ rs) = cond r.holds (first_failed rs) (Err r.refusal)
 
 -- the paper's number of a verdict; 0 where no refusal applies
 abbrev pub code_of : Verdict → ℕ
-code_of Fine = 0
-code_of (Refused r) = number_of r
+code_of (Ok _) = 0
+code_of (Err r) = number_of r

@@ -2,11 +2,10 @@
 use Rattle.std.specs.Prelude.{◌≤◌, ◌≡◌, Bool, true, [], ◌∷◌, leb}
 use Rattle.terms.specs.declared.Settings.{Settings}
 use Rattle.terms.specs.declared.Refusal.TheVariants.{SettingsRange, SettingsOffTick}
-use Rattle.terms.specs.declared.Verdict.{Verdict}
 use Rattle.terms.specs.Truth.{◌⊓◌, between}
 use Rattle.terms.specs.Sizes.{base_most, tick_most, length_least, time_most, days_most, price_most}
 use Rattle.terms.specs.Numbers.{is_price, on_tick}
-use Rattle.terms.specs.Refusals.{unless, first_failed}
+use Rattle.terms.specs.Refusals.{Verdict, unless, first_failed}
 
 -- "category; base 1 to 50,000,000; previous close and previous settlement, prices; tick 1 to 10,000; length 3,600,000 to 86,400,000;
 -- days to maturity 0 to 366; underlying 0 to 100,000,000"

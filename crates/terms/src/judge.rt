@@ -34,12 +34,12 @@ pub fn check(g: Settings) -> Verdict
     ensures { result ≡ settings_verdict g }
 {
     if !ranged(g) {
-        return Verdict::Refused(Refusal::SettingsRange);
+        return Err(Refusal::SettingsRange);
     }
     if !ticked(g, ticks::factor(g.tick)) {
-        return Verdict::Refused(Refusal::SettingsOffTick);
+        return Err(Refusal::SettingsOffTick);
     }
-    Verdict::Fine
+    Ok(())
 }
 
 // Whether settings are valid, that is, neither refusal applies. `factor` is that of their tick.

@@ -171,8 +171,4 @@ pub enum Refusal {
 }
 
 // A judgement: nothing applies, or the first refusal that does.
-#[derive(Clone, Copy)]
-pub enum Verdict {
-    Fine,
-    Refused(Refusal),
-}
+pub type Verdict = Result<(), Refusal>;

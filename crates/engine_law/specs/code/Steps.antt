@@ -1,5 +1,5 @@
 -- What an accepted event finds and leaves in the lent numbers, where it begins and where it ends.
-use Rattle.std.specs.Prelude.{ℕ, ◌+◌, ◌/◌, ◌*◌, ◌≤◌, ◌≡◌, List, length}
+use Rattle.std.specs.Prelude.{ℕ, ◌+◌, ◌/◌, ◌*◌, ◌≤◌, ◌≡◌, List, length, Ok}
 use Rattle.terms.specs.declared.Entry.{Entry}
 use Rattle.terms.specs.declared.Side.{Side}
 use Rattle.terms.specs.declared.Side.TheVariants.{Buy, Sell}
@@ -15,13 +15,12 @@ use Rattle.acts_law.specs.declared.Entered.{Entered}
 use Rattle.acts_law.specs.declared.Withdrawn.{Withdrawn}
 use Rattle.acts_law.specs.code.Written.{Written, RestsIn, WithdrawnAs}
 use Rattle.acts_law.specs.code.Entering.{Entering, EnteredAs}
-use Rattle.engine_law.specs.declared.Answer.{Answer}
 use Rattle.engine_law.specs.declared.Applied.{Applied}
 use Rattle.engine_law.specs.declared.Begun.{Begun}
 
 -- the answer: the session with its live counts, and how many reports end at that place of the room
 abbrev pub done_at : Session → ℕ → ℕ → ℕ → Applied
-done_at s nbuys nsells at = record { answer = Answer.Reported (at / record_length); session = set_sells (set_buys s nbuys) nsells }
+done_at s nbuys nsells at = record { answer = Ok (at / record_length); session = set_sells (set_buys s nbuys) nsells }
 
 -- what must be there before the clock steps from old to s are reported; and what they leave, with the tables' tails cleared
 pub record Stepping (old s : Session) (buys sells room : List ℕ) : Type 0 where

@@ -8,8 +8,8 @@ ruleset answers = (rules, no-buys, no-sells, settings-fine, settings-turned)
 pub from_opening-requires : goal.from_opening-requires
 from_opening-requires c = search answers
 
-pub returns-in-Fine : goal.returns-in-Fine
-returns-in-Fine c = search answers
+pub returns-in-Ok : goal.returns-in-Ok
+returns-in-Ok c = search answers
 
-pub returns-in-Refused : goal.returns-in-Refused
-returns-in-Refused c = search answers
+pub returns-in-Err : goal.returns-in-Err
+returns-in-Err c = search answers

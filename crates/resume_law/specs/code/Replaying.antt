@@ -1,5 +1,5 @@
 -- What the replay of saved lines leaves in lent numbers: what code needs, beside the definitions in Rebuilt.
-use Rattle.std.specs.Prelude.{ℕ, ◌+◌, ◌^◌, ◌≤◌, ◌<◌, ◌≡◌, Bool, true, false, cond, List, [], length, drop}
+use Rattle.std.specs.Prelude.{ℕ, ◌+◌, ◌^◌, ◌≤◌, ◌<◌, ◌≡◌, Bool, true, false, cond, List, [], length, drop, Ok, Err}
 use Rattle.terms.specs.declared.Event.{Event}
 use Rattle.terms.specs.declared.Refusal.TheVariants.{LineWrong, LineRefused}
 use Rattle.tables.specs.Lengths.{table_length, room_length}
@@ -10,12 +10,12 @@ use Rattle.lines_reading_law.specs.Answers.{read_event}
 use Rattle.state_law.specs.declared.Session.{Session}
 use Rattle.state_law.specs.Opening.{fixed_session}
 use Rattle.soundness_law.specs.Sound.{day_in}
-use Rattle.engine_law.specs.declared.Answer.{Answer}
+use Rattle.engine_law.specs.Answers.{Answer}
 use Rattle.engine_law.specs.declared.Applied.{Applied}
 use Rattle.engine_law.specs.Calls.{LongTables, LongEnough, AppliedAs}
-use Rattle.resume_law.specs.declared.Comeback.{Comeback}
+use Rattle.resume_law.specs.Answers.{Comeback, SavedLine, bad_at}
 use Rattle.resume_law.specs.declared.Halted.{Halted}
-use Rattle.resume_law.specs.declared.SavedLine.{SavedLine}
+use Rattle.resume_law.specs.declared.Halt.{Halt}
 use Rattle.resume_law.specs.declared.Replayed.{Replayed}
 use Rattle.resume_law.specs.declared.Resumed.{Resumed}
 use Rattle.resume_law.specs.declared.LineReplayed.{LineReplayed}
@@ -34,7 +34,7 @@ pub record LineReplayedAs (t : Step) (buys sells buys' sells' : List ℕ) (r : L
   pub line : r.line ≡ t.line
   pub day : day_in r.session buys' sells' ≡ t.day
   pub clean : (used_by t.line ≡ 0 → ⊥) → Clean r.session buys' sells'
-  pub same : t.line ≡ SavedLine.Unfinished → (buys' ≡ buys) × (sells' ≡ sells)
+  pub same : t.line ≡ Err Halt.Unfinished → (buys' ≡ buys) × (sells' ≡ sells)
 
 -- THE CONTRACT of an event that is applied on slices that are long enough for any
 pub record AppliedLong (s : Session) (e : Event) (buys sells room buys' sells' room' : List ℕ) (r : Applied) : Type 0 where
@@ -43,18 +43,22 @@ pub record AppliedLong (s : Session) (e : Event) (buys sells room buys' sells' r
 
 -- what became of a line, by the engine's answer to its event
 abbrev pub line_for : Answer → ℕ → SavedLine
-line_for (Answer.Reported count) used = SavedLine.Applied used
-line_for (Answer.Refused r) used = SavedLine.Refused
+line_for (Ok count) used = Ok used
+line_for (Err r) used = Err Halt.Refused
 
 abbrev pub line_replayed_to : SavedLine → Session → LineReplayed
 line_replayed_to line session = record { line = line; session = session }
 
 -- the place of the first wrong byte
-abbrev pub place_in : SavedLine → ℕ
-place_in (SavedLine.Applied n) = 0
-place_in SavedLine.Refused = 0
-place_in SavedLine.Unfinished = 0
-place_in (SavedLine.Wrong n) = n
+abbrev pub place_in : Halt → ℕ
+place_in Halt.Refused = 0
+place_in Halt.Unfinished = 0
+place_in (Halt.Wrong n) = n
+
+-- and in a line; 0 where it is applied
+abbrev pub place_on : SavedLine → ℕ
+place_on (Ok n) = 0
+place_on (Err h) = place_in h
 
 -- THE CONTRACTS of a whole line of an event; of the line that bytes begin with, which lies within them; and of the line from a place on
 pub record EventReplayed (session : Session) (event : Event) (used : ℕ) (buys sells buys' sells' : List ℕ) (r : LineReplayed) : Type 0 where
@@ -63,12 +67,12 @@ pub record EventReplayed (session : Session) (event : Event) (used : ℕ) (buys 
 pub record LineTold (session : Session) (bytes buys sells buys' sells' : List ℕ) (r : LineReplayed) : Type 0 where
   pub replayed : LineReplayedAs (step_of (day_in session buys sells) (read_event bytes)) buys sells buys' sells' r
   pub used_there : used_by r.line ≤ length bytes
-  pub place_there : place_in r.line ≤ length bytes
+  pub place_there : place_on r.line ≤ length bytes
 
 pub record LineFrom (session : Session) (bytes : List ℕ) (at : ℕ) (buys sells buys' sells' : List ℕ) (r : LineReplayed) : Type 0 where
   pub replayed : LineReplayedAs (step_of (day_in session buys sells) (read_event (drop at bytes))) buys sells buys' sells' r
   pub used_there : at + used_by r.line ≤ length bytes
-  pub place_there : at + place_in r.line ≤ length bytes
+  pub place_there : at + place_on r.line ≤ length bytes
 
 -- ---- all of them
 
@@ -76,11 +80,10 @@ abbrev pub replayed_to : Comeback → Session → Bool → Replayed
 replayed_to answer session moved = record { answer = answer; session = session; moved = moved }
 
 -- where no line is applied at a place
-abbrev pub stopped_at : SavedLine → ℕ → Session → Bool → Replayed
-stopped_at (SavedLine.Applied n) at s moved = replayed_to (Comeback.Counts at) s moved
-stopped_at SavedLine.Refused at s moved = replayed_to (Comeback.Refused LineRefused at) fixed_session false
-stopped_at SavedLine.Unfinished at s moved = replayed_to (Comeback.Counts at) s moved
-stopped_at (SavedLine.Wrong n) at s moved = replayed_to (Comeback.Refused LineWrong (at + n)) fixed_session false
+abbrev pub stopped_at : Halt → ℕ → Session → Bool → Replayed
+stopped_at Halt.Refused at s moved = replayed_to (bad_at LineRefused at) fixed_session false
+stopped_at Halt.Unfinished at s moved = replayed_to (Ok at) s moved
+stopped_at (Halt.Wrong n) at s moved = replayed_to (bad_at LineWrong (at + n)) fixed_session false
 
 -- all event lines of the bytes from a place on, on what lent numbers hold; and on a session without orders
 abbrev pub held_from : List ℕ → ℕ → Session → List ℕ → List ℕ → Rebuilt
@@ -99,8 +102,8 @@ pub record ReplayedAs (x : Rebuilt) (buys sells : List ℕ) (r : Replayed) : Typ
 
 -- no more bytes count than there are
 abbrev pub CountsWithin : ℕ → Comeback → Type 0
-CountsWithin n (Comeback.Counts k) = k ≤ n
-CountsWithin n (Comeback.Refused r k) = Unit {0}
+CountsWithin n (Ok k) = k ≤ n
+CountsWithin n (Err b) = Unit {0}
 
 -- THE CONTRACT of `replay_lines`
 pub record LinesReplayed (bytes : List ℕ) (first : ℕ) (s : Session) (buys sells buys' sells' : List ℕ) (r : Replayed) : Type 0 where
@@ -109,9 +112,9 @@ pub record LinesReplayed (bytes : List ℕ) (first : ℕ) (s : Session) (buys se
 
 -- the same where the replay halts, before it is said what that comes to; the place of a wrong byte is a number of the machine
 pub record Halts (bytes : List ℕ) (x : Rebuilt) (buys sells : List ℕ) (h : Halted) : Type 0 where
-  pub comes : ReplayedAs x buys sells (stopped_at h.line h.at h.session h.moved)
+  pub comes : ReplayedAs x buys sells (stopped_at h.halt h.at h.session h.moved)
   pub within : h.at ≤ length bytes
-  pub fits : h.at + place_in h.line < 2 ^ 64
+  pub fits : h.at + place_in h.halt < 2 ^ 64
 
 -- the spare tables laid over the lent ones, where an event was among the lines
 pub record LaidIf (moved : Bool) (buys sells bought sold buys' sells' : List ℕ) : Type 0 where

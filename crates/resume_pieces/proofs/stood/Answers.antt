@@ -9,5 +9,5 @@ ruleset answers = (rules, counts, stood-over, stood_far, stood-refuses)
 pub returns-else-n-most : goal.returns-else-n-most
 returns-else-n-most c = search answers
 
-pub returns-else-n-most-2 : goal.returns-else-n-most-2
-returns-else-n-most-2 c = search answers
+pub returns-else-bad-most : goal.returns-else-bad-most
+returns-else-bad-most c = search answers

@@ -5,8 +5,8 @@ use Rattle.stream_back.proofs.from_settings.Goals as goal
 
 ruleset answers = (rules, opens-refused, opens-fine)
 
-pub returns-in-Fine : goal.returns-in-Fine
-returns-in-Fine c = search answers
+pub returns-in-Ok : goal.returns-in-Ok
+returns-in-Ok c = search answers
 
-pub returns-in-Refused : goal.returns-in-Refused
-returns-in-Refused c = search answers
+pub returns-in-Err : goal.returns-in-Err
+returns-in-Err c = search answers

@@ -5,5 +5,5 @@ use Rattle.stream_keep.proofs.begin.Goals as goal
 
 ruleset answers = (rules, begun-counts, begun-refused)
 
-pub returns-in-Counts : goal.returns-in-Counts
-returns-in-Counts c = search answers
+pub returns-in-Ok : goal.returns-in-Ok
+returns-in-Ok c = search answers

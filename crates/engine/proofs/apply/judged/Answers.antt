@@ -5,8 +5,8 @@ use Rattle.engine.proofs.apply.judged.Goals as goal
 
 ruleset answers = (rules, refused_as, accepted_as)
 
-pub returns-in-Refused : goal.returns-in-Refused
-returns-in-Refused c = search answers
+pub returns-in-Err : goal.returns-in-Err
+returns-in-Err c = search answers
 
-pub returns-in-Fine : goal.returns-in-Fine
-returns-in-Fine c = search answers
+pub returns-in-Ok : goal.returns-in-Ok
+returns-in-Ok c = search answers

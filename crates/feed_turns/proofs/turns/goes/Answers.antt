@@ -8,8 +8,8 @@ ruleset answers = (rules, reports-held, lines-held, goes-told, goes-refused)
 pub tell_records-wrote-requires : goal.tell_records-wrote-requires
 tell_records-wrote-requires c = search answers
 
-pub returns-in-Reported : goal.returns-in-Reported
-returns-in-Reported c = search answers
+pub returns-in-Ok : goal.returns-in-Ok
+returns-in-Ok c = search answers
 
-pub returns-in-Refused : goal.returns-in-Refused
-returns-in-Refused c = search answers
+pub returns-in-Err : goal.returns-in-Err
+returns-in-Err c = search answers

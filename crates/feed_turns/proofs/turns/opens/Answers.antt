@@ -5,8 +5,8 @@ use Rattle.feed_turns.proofs.turns.opens.Goals as goal
 
 ruleset answers = (rules, opens-fine, opens-refused)
 
-pub returns-in-Fine : goal.returns-in-Fine
-returns-in-Fine c = search answers
+pub returns-in-Ok : goal.returns-in-Ok
+returns-in-Ok c = search answers
 
-pub returns-in-Refused : goal.returns-in-Refused
-returns-in-Refused c = search answers
+pub returns-in-Err : goal.returns-in-Err
+returns-in-Err c = search answers

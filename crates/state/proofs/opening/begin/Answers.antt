@@ -4,13 +4,13 @@ use mathlib.Core.Path.{sym, ◌∙◌}
 use Rattle.terms.proofs.Valid.{fine-valid}
 use Rattle.state.proofs.opening.begin.Goals as goal
 
-pub opened-session-requires : goal.opened-session-requires
-opened-session-requires c = fine-valid c.args.g (sym c.check.ensures ∙ c.in-Fine.is)
+pub opened-requires : goal.opened-requires
+opened-requires c = fine-valid c.args.g (sym c.check.ensures ∙ c.in-Ok.is)
 
-pub returns-in-Fine : goal.returns-in-Fine
+pub returns-in-Ok : goal.returns-in-Ok
 unfolding opening_of
-returns-in-Fine c = simp (← c.opened-session.ensures, c.in-Fine.is, ← c.check.ensures)
+returns-in-Ok c = simp (← c.opened.ensures, c.in-Ok.is, ← c.check.ensures)
 
-pub returns-in-Refused : goal.returns-in-Refused
+pub returns-in-Err : goal.returns-in-Err
 unfolding opening_of
-returns-in-Refused c = simp (← c.fixed-session.ensures, c.in-Refused.is, ← c.check.ensures)
+returns-in-Err c = simp (← c.fixed.ensures, c.in-Err.is, ← c.check.ensures)
