@@ -1,8 +1,16 @@
 // The pieces of a line are read here: a word, a number, the two together, and the last field.
-ghost use Rattle.std.specs.Prelude.{◌≡◌, drop};
-ghost use Rattle.lines_text_law.specs.code.Pieces.{word_on, number_on, field_on, last_on};
+ghost use Rattle.std.specs.Prelude.{◌≡◌, ◌<◌, length, drop, OnOk};
+ghost use Rattle.lines_text_law.specs.code.Pieces.{byte_on, word_on, number_on, field_on, last_on};
 
 use lines_text_law::{LineError, Parsed};
+
+// The byte at a place.
+pub fn byte(s: &[u8], at: usize) -> Result<u8, LineError>
+    ensures value { result ≡ byte_on (drop at s.now) }
+    ensures within { OnOk result (at < length s.now) }
+{
+    s.get(at).copied().ok_or(LineError::Unfinished)
+}
 
 // Reads a word, and answers the place after it.
 pub fn word(s: &[u8], at: usize, w: &[u8]) -> Result<usize, LineError>
@@ -10,10 +18,7 @@ pub fn word(s: &[u8], at: usize, w: &[u8]) -> Result<usize, LineError>
 {
     let mut next = at;
     for &b in w {
-        if s.len() <= next {
-            return Err(LineError::Unfinished);
-        }
-        if s[next] != b {
+        if byte(s, next)? != b {
             return Err(LineError::Wrong(next));
         }
         next += 1;
@@ -25,10 +30,7 @@ pub fn word(s: &[u8], at: usize, w: &[u8]) -> Result<usize, LineError>
 pub fn number(s: &[u8], at: usize) -> Result<Parsed<u64>, LineError>
     ensures { result ≡ number_on (drop at s.now) at }
 {
-    if s.len() <= at {
-        return Err(LineError::Unfinished);
-    }
-    let first = s[at];
+    let first = byte(s, at)?;
     let mut next = at + 1;
     if first == b'0' {
         return Ok(Parsed { value: 0, next });

@@ -20,7 +20,7 @@ use Rattle.lines_text_law.specs.declared.Parsed.{Parsed}
 use Rattle.lines_text_law.specs.Text.{bytes}
 use Rattle.lines_text_law.specs.Grammar.{Grammar, stop, byte, either, number, word, LineAnswer, whole, unfinished, wrong, digit, more, look}
 use Rattle.lines_text_law.specs.Reading.{failed, answered}
-use Rattle.lines_text_law.specs.code.Pieces.{at, parsed, word_on, more_on, number_on, then_number, field_on, end_after, then_end, last_on, lastly}
+use Rattle.lines_text_law.specs.code.Pieces.{at, parsed, byte_on, word_on, more_on, number_on, then_number, field_on, end_after, then_end, last_on, lastly}
 use Rattle.lines_text_law.proofs.Digits.{digit-range, fewer}
 
 -- the bytes from place n on are none, or the byte there and the bytes behind it
@@ -32,6 +32,17 @@ rest_cases {P} s n a b = go (drop n s) refl
     go (x ∷ l) e =
         let len : length s - n ≡ suc (length l) = sym (length-drop n s) ∙ ap length e in
         b (rw add-one (drop-cons s n 0 (omega arith)))
+
+-- what is known of the bytes left, where a byte was found or none
+byte-there : (s : List ℕ) (n b : ℕ) → byte_on (drop n s) ≡ Ok b → drop n s ≡ b ∷ drop (n + 1) s
+byte-there s n b q =
+    rest_cases s n (λ e. let y = rw e at q in let z : ◌≡◌ {A = ℕ} 0 1 = cc in let w : ⊥ = omega arith in absurd w)
+    (λ e. let y : get_or s n 0 ≡ b = (let k = rw e at q in cc) in rw y at e)
+
+byte-none : (s : List ℕ) (n : ℕ) (x : LineError) → byte_on (drop n s) ≡ Err x → (drop n s ≡ []) × (x ≡ Unfinished)
+byte-none s n x q =
+    rest_cases s n (λ e. (e, let y = rw e at q in cc))
+    (λ e. let y = rw e at q in let z : ◌≡◌ {A = ℕ} 0 1 = cc in let w : ⊥ = omega arith in absurd w)
 
 -- ---- pieces
 
@@ -133,29 +144,31 @@ module _ {E : Type 0} (s w : List ℕ) (f : ℕ → E) (n : ℕ) (r : Result (Pa
   pub last-err : (x : LineError) (o : Result (Parsed E) LineError) → HandedOn o x → r ≡ Err x → answered o ≡ at s (lastly w f) n
   last-err x o h e = rw (handed_on o x h) (sym (rw (at_last s w f n, ← found, e)))
 
--- a choice is decided by the byte at its place
-module _ {E : Type 0} (s : List ℕ) (b : ℕ) (g h : Grammar E) (n : ℕ) where
-  pub either_end : length s ≤ n → unfinished ≡ at s (either b g h) n
-  unfolding at
-  either_end k = sym (rw (drop_of_length-le s k))
+-- a choice is decided by the byte at its place, where r found byte x or none
+there : (s : List ℕ) (n : ℕ) (r : Result ℕ LineError) → r ≡ byte_on (drop n s) → (x : ℕ) → r ≡ Ok x → drop n s ≡ x ∷ drop (n + 1) s
+there s n r found x q = byte-there s n x (sym found ∙ q)
 
-  pub either_this : (o : LineAnswer E) → n < length s → get_or s n 0 ≡ b → o ≡ at s g (n + 1) → o ≡ at s (either b g h) n
+module _ {E : Type 0} (s : List ℕ) (n : ℕ) (r : Result ℕ LineError) (found : r ≡ byte_on (drop n s)) where
+  pub either-err : (b : ℕ) (g h : Grammar E) (x : LineError) (o : Result (Parsed E) LineError) → HandedOn o x → r ≡ Err x → answered o ≡ at s (either b g h) n
   unfolding at
-  either_this o k e q = q ∙ sym (rw (drop-cons s n 0 k, eq-eqb (get_or s n 0) b e, add-one))
+  either-err b g h x o k q = let z = byte-none s n x (sym found ∙ q) in rw (handed_on o x k, z.1, z.0)
 
-  pub either_else : (o : LineAnswer E) → n < length s → (get_or s n 0 ≡ b → ⊥) → o ≡ at s h n → o ≡ at s (either b g h) n
+  pub either_this : (b : ℕ) (g h : Grammar E) (x : ℕ) (o : LineAnswer E) → r ≡ Ok x → x ≡ b → o ≡ at s g (n + 1) → o ≡ at s (either b g h) n
   unfolding at
-  either_else o k e q = q ∙ sym (rw (drop-cons s n 0 k, ne_eqb (get_or s n 0) b e))
+  either_this b g h x o q e k = k ∙ sym (rw (there s n r found x q, eq-eqb x b e))
 
--- the last way of a choice is taken or the byte is wrong
-module _ {E : Type 0} (s : List ℕ) (b : ℕ) (g : Grammar E) (n : ℕ) where
-  pub byte_this : (o : LineAnswer E) → n < length s → get_or s n 0 ≡ b → o ≡ at s g (n + 1) → o ≡ at s (byte b g) n
+  pub either_else : (b : ℕ) (g h : Grammar E) (x : ℕ) (o : LineAnswer E) → r ≡ Ok x → (x ≡ b → ⊥) → o ≡ at s h n → o ≡ at s (either b g h) n
   unfolding at
-  byte_this o k e q = q ∙ sym (rw (drop-cons s n 0 k, eq-eqb (get_or s n 0) b e, add-one))
+  either_else b g h x o q e k = k ∙ sym (rw (there s n r found x q, ne_eqb x b e))
 
-  pub byte_else : n < length s → (get_or s n 0 ≡ b → ⊥) → wrong n ≡ at s (byte b g) n
+  -- the last way of a choice is taken or the byte is wrong
+  pub byte_this : (b : ℕ) (g : Grammar E) (x : ℕ) (o : LineAnswer E) → r ≡ Ok x → x ≡ b → o ≡ at s g (n + 1) → o ≡ at s (byte b g) n
   unfolding at
-  byte_else k e = sym (rw (drop-cons s n 0 k, ne_eqb (get_or s n 0) b e))
+  byte_this b g x o q e k = k ∙ sym (rw (there s n r found x q, eq-eqb x b e))
+
+  pub byte_else : (b : ℕ) (g : Grammar E) (x : ℕ) → r ≡ Ok x → (x ≡ b → ⊥) → wrong n ≡ at s (byte b g) n
+  unfolding at
+  byte_else b g x q e = sym (rw (there s n r found x q, ne_eqb x b e))
 
 -- Rules for a reader's `return`: `search pieces` by the pieces found on the way, `search choices` by the byte there, `search steps` by both.
 pub ruleset pieces = (
@@ -168,36 +181,16 @@ pub ruleset pieces = (
   last-err,
 )
 
-pub ruleset choices = (either_end, either_this, either_else, byte_this, byte_else)
+pub ruleset choices = (either-err, either_this, either_else, byte_this, byte_else)
 
 pub ruleset steps = (pieces, choices)
 
--- ---- the loop over a word's bytes: o is what the whole word comes to, which is what the bytes left of it come to
+-- ---- the loop over a word's bytes: o is what the whole word comes to, which is what the bytes left of it come to, and r found byte b
 
-module _ (w s : List ℕ) (i p : ℕ) (o : Result ℕ LineError) (rest : o ≡ word_on (drop i w) (drop p s) p) where
-  pub word-past : length w ≤ i → Ok p ≡ o
-  word-past h = sym (rest ∙ rw (drop_of_length-le w h))
-
-  pub word-ends : i < length w → length s ≤ p → Err Unfinished ≡ o
-  word-ends h k = sym (rest ∙ rw (drop-cons w i 0 h, drop_of_length-le s k))
-
-  pub word_differs : i < length w → p < length s → (get_or s p 0 ≡ get_or w i 0 → ⊥) → Err (Wrong p) ≡ o
-  word_differs h k n = sym (rest ∙ rw (drop-cons w i 0 h, drop-cons s p 0 k, ne_eqb (get_or s p 0) (get_or w i 0) n))
-
-  pub word_turn : i < length w → p < length s → get_or s p 0 ≡ get_or w i 0 → o ≡ word_on (drop (i + 1) w) (drop (p + 1) s) (p + 1)
-  word_turn h k n = rest ∙ rw (drop-cons w i 0 h, drop-cons s p 0 k, eq-eqb (get_or s p 0) (get_or w i 0) n, add-one i, add-one p)
-
--- ---- the first byte of a number, b
-
-pub number-ends : (s : List ℕ) (p : ℕ) → length s ≤ p → Err Unfinished ≡ number_on (drop p s) p
-number-ends s p h = sym (rw (drop_of_length-le s h))
-
-module _ (s : List ℕ) (p b : ℕ) (there : p < length s) (read : b ≡ get_or s p 0) where
-  pub number-zero : b ≡ 48 → Ok (parsed 0 (p + 1)) ≡ number_on (drop p s) p
-  number-zero e = sym (rw (drop-cons s p 0 there, ← read, e))
-
-  pub number-wrong : (b ≡ 48 → ⊥) → digit b ≡ false → Err (Wrong p) ≡ number_on (drop p s) p
-  number-wrong n e = sym (rw (drop-cons s p 0 there, ← read, ne_eqb b 48 n, e))
+pub word_turn : (w s : List ℕ) (i p b : ℕ) (o r : Result ℕ LineError) → o ≡ word_on (drop i w) (drop p s) p → i < length w → r ≡ byte_on (drop p s) → r ≡ Ok b →
+    b ≡ get_or w i 0 → o ≡ word_on (drop (i + 1) w) (drop (p + 1) s) (p + 1)
+word_turn w s i p b o r rest more found it n =
+    rest ∙ rw (drop-cons w i 0 more, there s p r found b it, eq-eqb b (get_or w i 0) n, add-one i)
 
 -- ---- the loop over the further digits
 
@@ -209,16 +202,17 @@ pub record Digits (s : List ℕ) (n : ℕ) (o : Result (Parsed ℕ) LineError) (
   pub small : v < 10 ^ 9
   pub rest : o ≡ Ok (more_on (8 - i) v (drop p s) p)
 
--- behind the first digit, b
-pub digits_start : (s : List ℕ) (n b : ℕ) → n < length s → b ≡ get_or s n 0 → (b ≡ 48 → ⊥) → digit b ≡ true → Digits s n (number_on (drop n s) n) (b - 48) (n + 1) 0
-digits_start s n b there read z e =
+-- behind the first digit, b, which is worth v
+pub digits_start : (s : List ℕ) (n : ℕ) (r : Result ℕ LineError) (b v : ℕ) → r ≡ byte_on (drop n s) → r ≡ Ok b → (b ≡ 48 → ⊥) → digit b ≡ true → v ≡ b - 48 →
+    Digits s n (number_on (drop n s) n) v (n + 1) 0
+digits_start s n r b v found it z e worth =
     let ran = digit-range b e in
     record {
       place = omega arith;
       few = omega arith;
       short = omega arith;
       small = omega arith;
-      rest = rw (drop-cons s n 0 there, ← read, ne_eqb b 48 z, e, add-one n);
+      rest = rw (there s n r found b it, ne_eqb b 48 z, e, worth);
     }
 
 -- the bytes that the loop goes over: m of those behind the first digit

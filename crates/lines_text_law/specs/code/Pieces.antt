@@ -14,6 +14,11 @@ at s g n = look g (drop n s) n
 abbrev pub parsed : {E : Type 0} → E → ℕ → Parsed E
 parsed v n = record { value = v; next = n }
 
+-- what is found at a place, where the bytes left are l: the first of them
+abbrev pub byte_on : List ℕ → Result ℕ LineError
+byte_on [] = Err Unfinished
+byte_on (x ∷ l) = Ok x
+
 -- what reading the word w finds, where the bytes left are l and the first of them stands at place n
 abbrev pub word_on : List ℕ → List ℕ → ℕ → Result ℕ LineError
 word_on [] l n = Ok n
