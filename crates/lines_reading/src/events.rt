@@ -24,6 +24,7 @@ fn order(t: u64, side: Side, kind: Kind, life: Life, lots: u64) -> Event
 }
 
 // Reads from behind the lots on: a limit's price, and the end.
+#[tactic(auto, using(lines_text_law::proofs::Steps::reading), unfolding(lines_reading_law::specs::Grammars::price_rest))]
 fn price_rest(
     s: &[u8],
     at: usize,
@@ -49,6 +50,7 @@ fn price_rest(
     })
 }
 
+#[tactic(auto, using(lines_text_law::proofs::Steps::reading), unfolding(lines_reading_law::specs::Grammars::life_rest))]
 fn life_rest(
     s: &[u8],
     at: usize,
@@ -65,6 +67,7 @@ fn life_rest(
 }
 
 // Reads from the word after "life=" on.
+#[tactic(auto, using(lines_text_law::proofs::Steps::reading), unfolding(lines_reading_law::specs::Grammars::lives))]
 fn lives(s: &[u8], at: usize, t: u64, side: Side, limit: bool) -> Result<Parsed<Event>, LineError>
     ensures { answered result ≡ lookAt s.now (lives t side limit) at }
 {
@@ -75,7 +78,15 @@ fn lives(s: &[u8], at: usize, t: u64, side: Side, limit: bool) -> Result<Parsed<
     }
 }
 
-fn kind_rest(s: &[u8], at: usize, w: &[u8], t: u64, side: Side, limit: bool) -> Result<Parsed<Event>, LineError>
+#[tactic(auto, using(lines_text_law::proofs::Steps::reading), unfolding(lines_reading_law::specs::Grammars::kind_rest))]
+fn kind_rest(
+    s: &[u8],
+    at: usize,
+    w: &[u8],
+    t: u64,
+    side: Side,
+    limit: bool,
+) -> Result<Parsed<Event>, LineError>
     ensures { answered result ≡ lookAt s.now (kind_rest w.now t side limit) at }
 {
     let next = pieces::word(s, at, w)?;
@@ -83,6 +94,7 @@ fn kind_rest(s: &[u8], at: usize, w: &[u8], t: u64, side: Side, limit: bool) -> 
 }
 
 // Reads from the word after "kind=" on.
+#[tactic(auto, using(lines_text_law::proofs::Steps::reading), unfolding(lines_reading_law::specs::Grammars::kinds))]
 fn kinds(s: &[u8], at: usize, t: u64, side: Side) -> Result<Parsed<Event>, LineError>
     ensures { answered result ≡ lookAt s.now (kinds t side) at }
 {
@@ -93,6 +105,7 @@ fn kinds(s: &[u8], at: usize, t: u64, side: Side) -> Result<Parsed<Event>, LineE
     }
 }
 
+#[tactic(auto, using(lines_text_law::proofs::Steps::reading), unfolding(lines_reading_law::specs::Grammars::side_rest))]
 fn side_rest(s: &[u8], at: usize, w: &[u8], t: u64, side: Side) -> Result<Parsed<Event>, LineError>
     ensures { answered result ≡ lookAt s.now (side_rest w.now t side) at }
 {
@@ -111,7 +124,14 @@ fn act_of(single: Single, number: u64) -> Act
 }
 
 // Reads an act with one number, from behind the first byte of its word on.
-fn single_rest(s: &[u8], at: usize, w: &[u8], t: u64, single: Single) -> Result<Parsed<Event>, LineError>
+#[tactic(auto, using(lines_text_law::proofs::Steps::reading), unfolding(lines_reading_law::specs::Grammars::single_rest))]
+fn single_rest(
+    s: &[u8],
+    at: usize,
+    w: &[u8],
+    t: u64,
+    single: Single,
+) -> Result<Parsed<Event>, LineError>
     ensures { answered result ≡ lookAt s.now (single_rest w.now t single) at }
 {
     let number = pieces::last(s, at, w)?;
@@ -123,6 +143,7 @@ fn single_rest(s: &[u8], at: usize, w: &[u8], t: u64, single: Single) -> Result<
 }
 
 // Reads from behind "clo" on: close or clock.
+#[tactic(auto, using(lines_text_law::proofs::Steps::reading), unfolding(lines_reading_law::specs::Grammars::clock_rest))]
 fn clock_rest(s: &[u8], at: usize, t: u64) -> Result<Parsed<Event>, LineError>
     ensures { answered result ≡ lookAt s.now (clock_rest t) at }
 {
@@ -140,6 +161,7 @@ fn clock_rest(s: &[u8], at: usize, t: u64) -> Result<Parsed<Event>, LineError>
 }
 
 // Reads from behind "c" on: cancel, close or clock.
+#[tactic(auto, using(lines_text_law::proofs::Steps::reading), unfolding(lines_reading_law::specs::Grammars::cancel_rest))]
 fn cancel_rest(s: &[u8], at: usize, t: u64) -> Result<Parsed<Event>, LineError>
     ensures { answered result ≡ lookAt s.now (cancel_rest t) at }
 {
@@ -151,6 +173,7 @@ fn cancel_rest(s: &[u8], at: usize, t: u64) -> Result<Parsed<Event>, LineError>
 }
 
 // Reads from the word after "do=" on.
+#[tactic(auto, using(lines_text_law::proofs::Steps::reading), unfolding(lines_reading_law::specs::Grammars::acts))]
 fn acts(s: &[u8], at: usize, t: u64) -> Result<Parsed<Event>, LineError>
     ensures { answered result ≡ lookAt s.now (acts t) at }
 {
@@ -164,6 +187,7 @@ fn acts(s: &[u8], at: usize, t: u64) -> Result<Parsed<Event>, LineError>
 }
 
 // Reads the event whose line the bytes start with, by the grammar.
+#[tactic(auto, using(lines_text_law::proofs::Steps::reading), unfolding(lines_reading_law::specs::Answers::read_event, lines_reading_law::specs::Grammars::event_grammar))]
 pub fn read(s: &[u8]) -> Result<Parsed<Event>, LineError>
     ensures { answered result ≡ read_event s.now }
 {

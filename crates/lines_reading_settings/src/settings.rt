@@ -10,6 +10,7 @@ use lines_text_law::{LineError, Parsed};
 use terms::{Category, Settings};
 
 // Reads the days to maturity and the underlying, which end the line.
+#[tactic(auto, using(lines_text_law::proofs::Steps::reading), unfolding(lines_reading_law::specs::Grammars::last_numbers))]
 fn last_numbers(
     s: &[u8],
     at: usize,
@@ -41,6 +42,7 @@ fn last_numbers(
 }
 
 // Reads the tick and the length, and then the last two numbers.
+#[tactic(auto, using(lines_text_law::proofs::Steps::reading), unfolding(lines_reading_law::specs::Grammars::later_numbers))]
 fn later_numbers(
     s: &[u8],
     at: usize,
@@ -66,7 +68,13 @@ fn later_numbers(
 }
 
 // Reads from behind the first byte of a category on: the rest of its word, and the numbers.
-fn category_rest(s: &[u8], at: usize, w: &[u8], category: Category) -> Result<Parsed<Settings>, LineError>
+#[tactic(auto, using(lines_text_law::proofs::Steps::reading), unfolding(lines_reading_law::specs::Grammars::category_rest))]
+fn category_rest(
+    s: &[u8],
+    at: usize,
+    w: &[u8],
+    category: Category,
+) -> Result<Parsed<Settings>, LineError>
     ensures { answered result ≡ lookAt s.now (category_rest w.now category) at }
 {
     let base = pieces::field(s, at, w)?;
@@ -83,6 +91,7 @@ fn category_rest(s: &[u8], at: usize, w: &[u8], category: Category) -> Result<Pa
 }
 
 // Reads from the word after "cat=" on.
+#[tactic(auto, using(lines_text_law::proofs::Steps::reading), unfolding(lines_reading_law::specs::Grammars::categories))]
 fn categories(s: &[u8], at: usize) -> Result<Parsed<Settings>, LineError>
     ensures { answered result ≡ lookAt s.now categories at }
 {
@@ -100,6 +109,7 @@ fn categories(s: &[u8], at: usize) -> Result<Parsed<Settings>, LineError>
 }
 
 // Reads the settings whose line the bytes start with, by the grammar.
+#[tactic(auto, using(lines_text_law::proofs::Steps::reading), unfolding(lines_reading_law::specs::Answers::read_settings, lines_reading_law::specs::Grammars::settings_grammar))]
 pub fn read(s: &[u8]) -> Result<Parsed<Settings>, LineError>
     ensures { answered result ≡ read_settings s.now }
 {

@@ -4,7 +4,7 @@ use native.Mathlib.Nat.{pow-suc}
 use native.Mathlib.Numerals.{add-one}
 use native.Mathlib.Omega.{arith}
 use mathlib.Core.Path.{◌≡◌, refl, sym, ap, ◌∙◌}
-use mathlib.Core.Bool.{true, false}
+use mathlib.Core.Bool.{true, false, cond}
 use mathlib.Core.List.{List, [], ◌∷◌}
 use lib.ListN.{length, get_or, take, drop, length-take, length-drop, drop_of_length-le}
 use lib.Seq.{drop-cons}
@@ -12,14 +12,13 @@ use lib.Dec.{eqb, leb}
 use borrow.Author.Tests.{eq-eqb, ne_eqb, leb-true, leb-false}
 use Rattle.std.proofs.lemmas.List.{get_or-take, get_or-drop}
 use Rattle.terms.proofs.Logic.{cases}
-use Rattle.std.specs.Prelude.{Result, Ok, Err, IsErrAnd}
-use Rattle.std.proofs.lemmas.Result.{err_from_is_err_and}
+use Rattle.std.specs.Prelude.{Result, Ok, Err}
+use Rattle.std.proofs.lemmas.Bool.Decides.{nat_tests}
 use Rattle.lines_text_law.specs.declared.LineError.{LineError}
-use Rattle.lines_text_law.specs.declared.LineError.TheVariants.{Unfinished, Wrong}
 use Rattle.lines_text_law.specs.declared.Parsed.{Parsed}
 use Rattle.lines_text_law.specs.Text.{bytes}
-use Rattle.lines_text_law.specs.Grammar.{Grammar, stop, byte, either, number, word, LineAnswer, whole, unfinished, wrong, digit, more, look}
-use Rattle.lines_text_law.specs.Reading.{failed, answered}
+use Rattle.lines_text_law.specs.Grammar.{Grammar, stop, byte, either, number, word, LineAnswer, whole, wrong, digit, more, look}
+use Rattle.lines_text_law.specs.Reading.{failed}
 use Rattle.lines_text_law.specs.code.Pieces.{at, parsed, byte_on, word_on, more_on, number_on, then_number, field_on, end_after, then_end, last_on, lastly}
 use Rattle.lines_text_law.proofs.Digits.{digit-range, fewer}
 
@@ -39,32 +38,26 @@ byte-there s n b q =
     rest_cases s n (λ e. let y = rw e at q in let z : ◌≡◌ {A = ℕ} 0 1 = cc in let w : ⊥ = omega arith in absurd w)
     (λ e. let y : get_or s n 0 ≡ b = (let k = rw e at q in cc) in rw y at e)
 
-byte-none : (s : List ℕ) (n : ℕ) (x : LineError) → byte_on (drop n s) ≡ Err x → (drop n s ≡ []) × (x ≡ Unfinished)
-byte-none s n x q =
-    rest_cases s n (λ e. (e, let y = rw e at q in cc))
-    (λ e. let y = rw e at q in let z : ◌≡◌ {A = ℕ} 0 1 = cc in let w : ⊥ = omega arith in absurd w)
+found_there : (s : List ℕ) (n b : ℕ) (r : Result ℕ LineError) → r ≡ byte_on (drop n s) → r ≡ Ok b → drop n s ≡ b ∷ drop (n + 1) s
+found_there s n b r found it = byte-there s n b (sym found ∙ it)
 
 -- ---- pieces
 
-pub at-stop : {E : Type 0} (s : List ℕ) (e : E) (n : ℕ) → whole e n ≡ at s (stop e) n
+pub at-stop : {E : Type 0} (s : List ℕ) (e : E) (n : ℕ) → at s (stop e) n ≡ whole e n
 unfolding at
 at-stop s e n = refl
 
 -- how reading goes on behind a piece
-abbrev after_word : {E : Type 0} → Result ℕ LineError → (ℕ → LineAnswer E) → LineAnswer E
-after_word (Ok m) k = k m
-after_word (Err e) k = failed e
-
-abbrev after_number : {E : Type 0} → Result (Parsed ℕ) LineError → (Parsed ℕ → LineAnswer E) → LineAnswer E
-after_number (Ok p) k = k p
-after_number (Err e) k = failed e
+abbrev pub after : {A E : Type 0} → Result A LineError → (A → LineAnswer E) → LineAnswer E
+after (Ok x) k = k x
+after (Err e) k = failed e
 
 module _ {E : Type 0} (s : List ℕ) where
   -- reading goes on behind a number by its value
-  abbrev goes_on : (ℕ → Grammar E) → Parsed ℕ → LineAnswer E
+  abbrev pub goes_on : (ℕ → Grammar E) → Parsed ℕ → LineAnswer E
   goes_on g p = at s (g p.value) p.next
 
-  at-word : (w : List ℕ) (g : Grammar E) (n : ℕ) → at s (word w g) n ≡ after_word (word_on w (drop n s) n) (at s g)
+  pub at-word : (w : List ℕ) (g : Grammar E) (n : ℕ) → at s (word w g) n ≡ after (word_on w (drop n s) n) (at s g)
   unfolding at word
   at-word [] g n = refl
   at-word (b ∷ w) g n =
@@ -81,7 +74,7 @@ module _ {E : Type 0} (s : List ℕ) where
       (λ y. rw (e, y) (at_more f (v * 10 + (get_or s n 0 - 48)) (n + 1) g))
       (λ y. rw (e, y) (sym (rw e))))
 
-  at-number : (g : ℕ → Grammar E) (n : ℕ) → at s (number g) n ≡ after_number (number_on (drop n s) n) (goes_on g)
+  pub at-number : (g : ℕ → Grammar E) (n : ℕ) → at s (number g) n ≡ after (number_on (drop n s) n) (goes_on g)
   unfolding at
   at-number g n =
       rest_cases s n (λ e. rw e)
@@ -93,104 +86,50 @@ module _ {E : Type 0} (s : List ℕ) where
       (λ d. rw (e, y, d) (at_more 8 (get_or s n 0 - 48) (n + 1) g))
       (λ d. rw (e, y, d))))
 
-  at_field : (w : List ℕ) (g : ℕ → Grammar E) (n : ℕ) → at s (word w (number g)) n ≡ after_number (field_on w s n) (goes_on g)
+  pub at_field : (w : List ℕ) (g : ℕ → Grammar E) (n : ℕ) → at s (word w (number g)) n ≡ after (field_on w s n) (goes_on g)
   unfolding field_on
   at_field w g n = at-word w (number g) n ∙ go (word_on w (drop n s) n)
     where
-      go : (l : Result ℕ LineError) → after_word l (at s (number g)) ≡ after_number (then_number s l) (goes_on g)
+      go : (l : Result ℕ LineError) → after l (at s (number g)) ≡ after (then_number s l) (goes_on g)
       go (Ok m) = at-number g m
       go (Err e) = refl
 
-  at_last : (w : List ℕ) (f : ℕ → E) (n : ℕ) → at s (lastly w f) n ≡ after_number (last_on w s n) (λ p. whole (f p.value) p.next)
+  pub at_last : (w : List ℕ) (f : ℕ → E) (n : ℕ) → at s (lastly w f) n ≡ after (last_on w s n) (λ p. whole (f p.value) p.next)
   unfolding last_on lastly
   at_last w f n = at_field w (λ v. word (bytes "\n") (stop (f v))) n ∙ go (field_on w s n)
     where
-      end : (v : ℕ) (l : Result ℕ LineError) → after_word l (at s (stop (f v))) ≡ after_number (end_after v l) (λ p. whole (f p.value) p.next)
-      end v (Ok m) = sym (at-stop s (f v) m)
+      end : (v : ℕ) (l : Result ℕ LineError) → after l (at s (stop (f v))) ≡ after (end_after v l) (λ p. whole (f p.value) p.next)
+      end v (Ok m) = at-stop s (f v) m
       end v (Err e) = refl
 
       go : (l : Result (Parsed ℕ) LineError)
-          → after_number l (λ p. at s (word (bytes "\n") (stop (f p.value))) p.next) ≡ after_number (then_end s l) (λ p. whole (f p.value) p.next)
+          → after l (λ p. at s (word (bytes "\n") (stop (f p.value))) p.next) ≡ after (then_end s l) (λ p. whole (f p.value) p.next)
       go (Ok p) = at-word (bytes "\n") (stop (f p.value)) p.next ∙ end p.value (word_on (bytes "\n") (drop p.next s) p.next)
       go (Err e) = refl
 
--- ---- the same as rules for `search`: o is what a reader answers, r what a piece found
-
--- where a piece failed, `?` hands its error on
-abbrev HandedOn : {T E : Type 0} → Result T E → E → Type 0
-HandedOn o x = IsErrAnd o (λ y. y ≡ x)
-
-handed_on : {T E : Type 0} (o : Result T E) (x : E) → HandedOn o x → o ≡ Err x
-handed_on o x h = let p = err_from_is_err_and o h in p.1 ∙ ap Err p.2
-
-module _ {E : Type 0} (s w : List ℕ) (g : Grammar E) (n : ℕ) (r : Result ℕ LineError) (found : r ≡ word_on w (drop n s) n) where
-  pub word_to : (m : ℕ) (o : LineAnswer E) → r ≡ Ok m → o ≡ at s g m → o ≡ at s (word w g) n
-  word_to m o e h = h ∙ sym (rw (at-word s w g n, ← found, e))
-
-  pub word-err : (x : LineError) (o : Result (Parsed E) LineError) → HandedOn o x → r ≡ Err x → answered o ≡ at s (word w g) n
-  word-err x o h e = rw (handed_on o x h) (sym (rw (at-word s w g n, ← found, e)))
-
-module _ {E : Type 0} (s w : List ℕ) (g : ℕ → Grammar E) (n : ℕ) (r : Result (Parsed ℕ) LineError) (found : r ≡ field_on w s n) where
-  pub field_value : (p : Parsed ℕ) (o : LineAnswer E) → r ≡ Ok p → o ≡ at s (g p.value) p.next → o ≡ at s (word w (number g)) n
-  field_value p o e h = h ∙ sym (rw (at_field s w g n, ← found, e))
-
-  pub field-err : (x : LineError) (o : Result (Parsed E) LineError) → HandedOn o x → r ≡ Err x → answered o ≡ at s (word w (number g)) n
-  field-err x o h e = rw (handed_on o x h) (sym (rw (at_field s w g n, ← found, e)))
-
-module _ {E : Type 0} (s w : List ℕ) (f : ℕ → E) (n : ℕ) (r : Result (Parsed ℕ) LineError) (found : r ≡ last_on w s n) where
-  pub last_value : (p : Parsed ℕ) (o : LineAnswer E) → r ≡ Ok p → o ≡ whole (f p.value) p.next → o ≡ at s (lastly w f) n
-  last_value p o e h = h ∙ sym (rw (at_last s w f n, ← found, e))
-
-  pub last-err : (x : LineError) (o : Result (Parsed E) LineError) → HandedOn o x → r ≡ Err x → answered o ≡ at s (lastly w f) n
-  last-err x o h e = rw (handed_on o x h) (sym (rw (at_last s w f n, ← found, e)))
-
--- a choice is decided by the byte at its place, where r found byte x or none
-there : (s : List ℕ) (n : ℕ) (r : Result ℕ LineError) → r ≡ byte_on (drop n s) → (x : ℕ) → r ≡ Ok x → drop n s ≡ x ∷ drop (n + 1) s
-there s n r found x q = byte-there s n x (sym found ∙ q)
-
-module _ {E : Type 0} (s : List ℕ) (n : ℕ) (r : Result ℕ LineError) (found : r ≡ byte_on (drop n s)) where
-  pub either-err : (b : ℕ) (g h : Grammar E) (x : LineError) (o : Result (Parsed E) LineError) → HandedOn o x → r ≡ Err x → answered o ≡ at s (either b g h) n
+  -- a choice is decided by the byte at its place
+  pub at-either : (b : ℕ) (g h : Grammar E) (n : ℕ)
+      → at s (either b g h) n ≡ after (byte_on (drop n s)) (λ x. cond (eqb x b) (at s g (n + 1)) (at s h n))
   unfolding at
-  either-err b g h x o k q = let z = byte-none s n x (sym found ∙ q) in rw (handed_on o x k, z.1, z.0)
+  at-either b g h n =
+      rest_cases s n (λ e. rw e)
+      (λ e. cases (eqb (get_or s n 0) b) (λ y. rw (e, y)) (λ y. rw (e, y)))
 
-  pub either_this : (b : ℕ) (g h : Grammar E) (x : ℕ) (o : LineAnswer E) → r ≡ Ok x → x ≡ b → o ≡ at s g (n + 1) → o ≡ at s (either b g h) n
+  pub at-byte : (b : ℕ) (g : Grammar E) (n : ℕ) → at s (byte b g) n ≡ after (byte_on (drop n s)) (λ x. cond (eqb x b) (at s g (n + 1)) (wrong n))
   unfolding at
-  either_this b g h x o q e k = k ∙ sym (rw (there s n r found x q, eq-eqb x b e))
+  at-byte b g n =
+      rest_cases s n (λ e. rw e)
+      (λ e. cases (eqb (get_or s n 0) b) (λ y. rw (e, y)) (λ y. rw (e, y)))
 
-  pub either_else : (b : ℕ) (g h : Grammar E) (x : ℕ) (o : LineAnswer E) → r ≡ Ok x → (x ≡ b → ⊥) → o ≡ at s h n → o ≡ at s (either b g h) n
-  unfolding at
-  either_else b g h x o q e k = k ∙ sym (rw (there s n r found x q, ne_eqb x b e))
-
-  -- the last way of a choice is taken or the byte is wrong
-  pub byte_this : (b : ℕ) (g : Grammar E) (x : ℕ) (o : LineAnswer E) → r ≡ Ok x → x ≡ b → o ≡ at s g (n + 1) → o ≡ at s (byte b g) n
-  unfolding at
-  byte_this b g x o q e k = k ∙ sym (rw (there s n r found x q, eq-eqb x b e))
-
-  pub byte_else : (b : ℕ) (g : Grammar E) (x : ℕ) → r ≡ Ok x → (x ≡ b → ⊥) → wrong n ≡ at s (byte b g) n
-  unfolding at
-  byte_else b g x q e = sym (rw (there s n r found x q, ne_eqb x b e))
-
--- Rules for a reader's `return`: `search pieces` by the pieces found on the way, `search choices` by the byte there, `search steps` by both.
-pub ruleset pieces = (
-  at-stop,
-  word_to,
-  word-err,
-  field_value,
-  field-err,
-  last_value,
-  last-err,
-)
-
-pub ruleset choices = (either-err, either_this, either_else, byte_this, byte_else)
-
-pub ruleset steps = (pieces, choices)
+-- Rules for `grind` at a reader's `return`: what a grammar answers, by what the code found.
+pub ruleset reading = (nat_tests, at-stop, at-word, at_field, at_last, at-either, at-byte)
 
 -- ---- the loop over a word's bytes: o is what the whole word comes to, which is what the bytes left of it come to, and r found byte b
 
 pub word_turn : (w s : List ℕ) (i p b : ℕ) (o r : Result ℕ LineError) → o ≡ word_on (drop i w) (drop p s) p → i < length w → r ≡ byte_on (drop p s) → r ≡ Ok b →
     b ≡ get_or w i 0 → o ≡ word_on (drop (i + 1) w) (drop (p + 1) s) (p + 1)
 word_turn w s i p b o r rest more found it n =
-    rest ∙ rw (drop-cons w i 0 more, there s p r found b it, eq-eqb b (get_or w i 0) n, add-one i)
+    rest ∙ rw (drop-cons w i 0 more, found_there s p b r found it, eq-eqb b (get_or w i 0) n, add-one i)
 
 -- ---- the loop over the further digits
 
@@ -212,7 +151,7 @@ digits_start s n r b v found it z e worth =
       few = omega arith;
       short = omega arith;
       small = omega arith;
-      rest = rw (there s n r found b it, ne_eqb b 48 z, e, worth);
+      rest = rw (found_there s n b r found it, ne_eqb b 48 z, e, worth);
     }
 
 -- the bytes that the loop goes over: m of those behind the first digit
