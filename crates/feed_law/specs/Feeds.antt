@@ -1,5 +1,6 @@
 -- The calls of feed, feed_turns and feed_prints on lent numbers: what each answers, and what it leaves.
-use Rattle.std.specs.Prelude.{ℕ, ◌+◌, ◌≤◌, ◌≡◌, List, [], ◌∷◌, ◌++◌, length, take, drop}
+use Rattle.std.specs.Prelude.{ℕ, ◌+◌, ◌≤◌, ◌≡◌, List, [], ◌∷◌, ◌++◌, length, take, drop, Result, Ok, Err}
+use Rattle.terms.specs.declared.Refusal.{Refusal}
 use Rattle.terms.specs.declared.Refusal.TheVariants.{SmallRoom}
 use Rattle.terms.specs.declared.Event.{Event}
 use Rattle.terms.specs.declared.Settings.{Settings}
@@ -11,7 +12,6 @@ use Rattle.state_law.specs.declared.Session.{Session}
 use Rattle.state_law.specs.Opening.{opening_of, fixed_session}
 use Rattle.engine_law.specs.Calls.{roomy}
 use Rattle.lines_reading_law.specs.Answers.{read_event, read_settings}
-use Rattle.lines_writing_law.specs.declared.Wrote.{Wrote}
 use Rattle.feed_law.specs.declared.Run.{Run}
 use Rattle.feed_law.specs.declared.Stage.{Stage}
 use Rattle.feed_law.specs.declared.Stop.{Stop}
@@ -45,9 +45,9 @@ pub record RecordTold (room : List ℕ) (at : ℕ) (out : List ℕ) (wrote : ℕ
   pub short : wrote ≤ line_room
 
 -- how many bytes a writer wrote: none where it refused
-abbrev pub wrote_length : Wrote → ℕ
-wrote_length (Wrote.Written n) = n
-wrote_length (Wrote.Refused r) = 0
+abbrev pub wrote_length : Result ℕ Refusal → ℕ
+wrote_length (Ok n) = n
+wrote_length (Err r) = 0
 
 -- ---- before the first line
 

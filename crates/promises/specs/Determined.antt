@@ -1,5 +1,6 @@
 -- DETERMINACY: a contract allows one result for one input. Two results of a call coincide, with every lent number.
-use Rattle.std.specs.Prelude.{ℕ, ◌≡◌, List}
+use Rattle.std.specs.Prelude.{ℕ, ◌≡◌, List, Result}
+use Rattle.terms.specs.declared.Refusal.{Refusal}
 use Rattle.terms.specs.declared.Settings.{Settings}
 use Rattle.terms.specs.declared.Event.{Event}
 use Rattle.terms.specs.declared.Side.{Side}
@@ -17,7 +18,6 @@ use Rattle.lines_reading_law.specs.declared.ReadSettings.{ReadSettings}
 use Rattle.lines_reading_law.specs.Answers.{event_answer, EventRead, SettingsRead}
 use Rattle.records_law.specs.declared.ReadRecord.{ReadRecord}
 use Rattle.records_law.specs.Back.{RecordRead}
-use Rattle.lines_writing_law.specs.declared.Wrote.{Wrote}
 use Rattle.lines_writing_law.specs.Writes.{Writes}
 use Rattle.feed_law.specs.declared.Run.{Run}
 use Rattle.feed_law.specs.declared.Taken.{Taken}
@@ -72,7 +72,7 @@ WalkDetermined =
 
 -- every writer of lines: the answer and each byte of the room
 abbrev pub WriteDetermined : Type 0
-WriteDetermined = (room line numbers room₁ room₂ : List ℕ) (r₁ r₂ : Wrote) → Writes room line numbers r₁ room₁ → Writes room line numbers r₂ room₂ → (r₁ ≡ r₂) × (room₁ ≡ room₂)
+WriteDetermined = (room line numbers room₁ room₂ : List ℕ) (r₁ r₂ : Result ℕ Refusal) → Writes room line numbers r₁ room₁ → Writes room line numbers r₂ room₂ → (r₁ ≡ r₂) × (room₁ ≡ room₂)
 
 -- `records::read_record`
 abbrev pub RecordReadDetermined : Type 0
