@@ -7,27 +7,16 @@ ghost use Rattle.feed_law.specs.declared.Stage.{Stage};
 ghost use Rattle.feed_law.specs.Feeds.{Prints, EndTold, RecordTold, wrote_length};
 
 use feed_law::Stage;
-use lines_writing_law::Wrote;
 use records_law::ReadRecord;
 use tables::lengths;
 use terms::Refusal;
-
-// How many bytes a writer wrote: none where it refused.
-fn length_of(w: Wrote) -> usize
-    ensures { result ≡ wrote_length w }
-{
-    match w {
-        Wrote::Written(n) => n,
-        Wrote::Refused(_) => 0,
-    }
-}
 
 // Prints the line that tells of a refused event.
 pub fn tell_refused(time: u64, refusal: Refusal, out: &mut [u8]) -> usize
     requires { line_room ≤ length out.old }
     ensures { Prints out.old (refused_text time refusal) result out.new }
 {
-    length_of(lines_writing_reports::write_refused(time, refusal, out))
+    lines_writing_reports::write_refused(time, refusal, out).unwrap_or(0)
 }
 
 // Prints the line that tells of a bad line, or of refused settings.
@@ -35,7 +24,7 @@ pub fn tell_bad(refusal: Refusal, place: usize, out: &mut [u8]) -> usize
     requires { line_room ≤ length out.old }
     ensures { Prints out.old (bad_text refusal place) result out.new }
 {
-    length_of(lines_writing_reports::write_bad(refusal, place, out))
+    lines_writing_reports::write_bad(refusal, place, out).unwrap_or(0)
 }
 
 // Prints what the end of the input says of a day that has begun, where `rest` bytes stand behind the last line.
@@ -67,7 +56,9 @@ fn tell_record(room: &[u64], at: usize, out: &mut [u8]) -> usize
     ensures { RecordTold room.now at out.old result out.new }
 {
     match records::read_record(room, at) {
-        ReadRecord::Told(report) => length_of(lines_writing_reports::write_report(report, out)),
+        ReadRecord::Told(report) => {
+            lines_writing_reports::write_report(report, out).unwrap_or(0)
+        }
         ReadRecord::Nothing => 0,
     }
 }

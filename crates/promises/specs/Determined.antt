@@ -13,9 +13,10 @@ use Rattle.engine_law.specs.declared.Applied.{Applied}
 use Rattle.engine_law.specs.declared.Stood.{Stood}
 use Rattle.engine_law.specs.Calls.{AppliedAs, view_call}
 use Rattle.engine_law.specs.Standings.{standing_call}
-use Rattle.lines_reading_law.specs.declared.ReadEvent.{ReadEvent}
-use Rattle.lines_reading_law.specs.declared.ReadSettings.{ReadSettings}
-use Rattle.lines_reading_law.specs.Answers.{event_answer, EventRead, SettingsRead}
+use Rattle.lines_text_law.specs.declared.LineError.{LineError}
+use Rattle.lines_text_law.specs.declared.Parsed.{Parsed}
+use Rattle.lines_text_law.specs.Reading.{answered}
+use Rattle.lines_reading_law.specs.Answers.{EventRead, SettingsRead}
 use Rattle.records_law.specs.declared.ReadRecord.{ReadRecord}
 use Rattle.records_law.specs.Back.{RecordRead}
 use Rattle.lines_writing_law.specs.Writes.{Writes}
@@ -60,15 +61,15 @@ ApplyDetermined =
 
 -- `lines_reading::read_event` and `lines_reading::read_settings`
 abbrev pub EventReadDetermined : Type 0
-EventReadDetermined = (bytes : List ℕ) (r r' : ReadEvent) → EventRead bytes r → EventRead bytes r' → r ≡ r'
+EventReadDetermined = (bytes : List ℕ) (r r' : Result (Parsed Event) LineError) → EventRead bytes r → EventRead bytes r' → r ≡ r'
 
 abbrev pub SettingsReadDetermined : Type 0
-SettingsReadDetermined = (bytes : List ℕ) (r r' : ReadSettings) → SettingsRead bytes r → SettingsRead bytes r' → r ≡ r'
+SettingsReadDetermined = (bytes : List ℕ) (r r' : Result (Parsed Settings) LineError) → SettingsRead bytes r → SettingsRead bytes r' → r ≡ r'
 
 -- the walker's calls: `journal::step`, `line_at`, `event_at`
 abbrev pub WalkDetermined : Type 0
 WalkDetermined =
-    (bytes : List ℕ) (place : ℕ) (r r' : ReadEvent) → event_answer r ≡ read_at bytes place → event_answer r' ≡ read_at bytes place → r ≡ r'
+    (bytes : List ℕ) (place : ℕ) (r r' : Result (Parsed Event) LineError) → answered r ≡ read_at bytes place → answered r' ≡ read_at bytes place → r ≡ r'
 
 -- every writer of lines: the answer and each byte of the room
 abbrev pub WriteDetermined : Type 0

@@ -13,7 +13,7 @@ ghost use Rattle.resume_law.specs.code.Replaying.{AppliedLong, line_for, line_re
 
 use engine::apply;
 use engine_law::{Answer, Applied};
-use lines_reading_law::ReadEvent;
+use lines_text_law::LineError;
 use resume_law::{Comeback, Halted, LineReplayed, Replayed, SavedLine};
 use state::opening;
 use state_law::Session;
@@ -85,9 +85,9 @@ fn replay_line(
     ensures { LineTold session bytes.now buys.old sells.old buys.new sells.new result }
 {
     match lines_reading::read_event(bytes) {
-        ReadEvent::Whole(event, used) => replay_event(session, event, used, buys, sells, room),
-        ReadEvent::Unfinished => line_replayed(SavedLine::Unfinished, session),
-        ReadEvent::Wrong(place) => line_replayed(SavedLine::Wrong(place), session),
+        Ok(line) => replay_event(session, line.value, line.next, buys, sells, room),
+        Err(LineError::Unfinished) => line_replayed(SavedLine::Unfinished, session),
+        Err(LineError::Wrong(place)) => line_replayed(SavedLine::Wrong(place), session),
     }
 }
 
