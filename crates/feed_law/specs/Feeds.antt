@@ -1,5 +1,6 @@
 -- The calls of feed, feed_turns and feed_prints on lent numbers: what each answers, and what it leaves.
-use Rattle.std.specs.Prelude.{ℕ, ◌+◌, ◌≤◌, ◌≡◌, List, [], ◌∷◌, ◌++◌, length, take, drop, Result, Ok, Err}
+use Rattle.std.specs.Prelude.{ℕ, ◌+◌, ◌≤◌, ◌≡◌, List, [], ◌∷◌, ◌++◌, length, take, drop, Result}
+use Rattle.std.specs.Result.{result_unwrap_or}
 use Rattle.terms.specs.declared.Refusal.{Refusal}
 use Rattle.terms.specs.declared.Refusal.TheVariants.{SmallRoom}
 use Rattle.terms.specs.declared.Event.{Event}
@@ -46,8 +47,7 @@ pub record RecordTold (room : List ℕ) (at : ℕ) (out : List ℕ) (wrote : ℕ
 
 -- how many bytes a writer wrote: none where it refused
 abbrev pub wrote_length : Result ℕ Refusal → ℕ
-wrote_length (Ok n) = n
-wrote_length (Err r) = 0
+wrote_length r = result_unwrap_or r 0
 
 -- ---- before the first line
 

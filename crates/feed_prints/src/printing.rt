@@ -4,7 +4,7 @@ ghost use Rattle.terms.specs.Sizes.{line_room};
 ghost use Rattle.tables.specs.Lengths.{record_length};
 ghost use Rattle.feed_law.specs.Texts.{records_text, refused_text, bad_text, end_text};
 ghost use Rattle.feed_law.specs.declared.Stage.{Stage};
-ghost use Rattle.feed_law.specs.Feeds.{Prints, EndTold, RecordTold, wrote_length};
+ghost use Rattle.feed_law.specs.Feeds.{Prints, EndTold, RecordTold};
 
 use feed_law::Stage;
 use records_law::ReadRecord;
