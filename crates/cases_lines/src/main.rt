@@ -5,8 +5,7 @@
 
 ghost use Rattle.std.specs.Prelude.{◌<◌, ◌≤◌, length};
 
-use lines_reading_law::{ReadEvent, ReadSettings};
-use lines_writing_law::Wrote;
+use lines_text_law::LineError;
 use tables::lengths;
 use terms::{Act, Event, Refusal, numbers, sizes};
 
@@ -24,14 +23,14 @@ const RECORDS: [u64; 90] = [
 ];
 
 // Prints what a writer left in its room, or the number of its refusal.
-fn show(wrote: Wrote, line: &[u8]) {
+fn show(wrote: Result<usize, Refusal>, line: &[u8]) {
     match wrote {
-        Wrote::Written(n) => {
+        Ok(n) => {
             if n <= line.len() {
                 io::write_all(OUTPUT, &line[0..n]);
             }
         }
-        Wrote::Refused(r) => {
+        Err(r) => {
             io::write_all(OUTPUT, b"refused ");
             io::print_decimal(OUTPUT, numbers::of_refusal(r));
             io::write_all(OUTPUT, b"\n");
@@ -48,17 +47,17 @@ fn show_bad(refusal: Refusal, place: usize) {
 // Prints the event that the bytes start with, written again, or what is wrong; answers how many bytes it took.
 fn show_event(bytes: &[u8]) -> usize {
     match lines_reading::read_event(bytes) {
-        ReadEvent::Whole(e, n) => {
+        Ok(read) => {
             let mut line = [0u8; sizes::LINE];
-            let wrote = lines_writing::write_event(e, &mut line);
+            let wrote = lines_writing::write_event(read.value, &mut line);
             show(wrote, &line);
-            n
+            read.next
         }
-        ReadEvent::Unfinished => {
+        Err(LineError::Unfinished) => {
             show_bad(Refusal::LineUnfinished, bytes.len());
             0
         }
-        ReadEvent::Wrong(p) => {
+        Err(LineError::Wrong(p)) => {
             show_bad(Refusal::LineWrong, p);
             0
         }
@@ -68,17 +67,17 @@ fn show_event(bytes: &[u8]) -> usize {
 // Does the same for settings.
 fn show_settings(bytes: &[u8]) -> usize {
     match lines_reading::read_settings(bytes) {
-        ReadSettings::Whole(g, n) => {
+        Ok(read) => {
             let mut line = [0u8; sizes::LINE];
-            let wrote = lines_writing::write_settings(g, &mut line);
+            let wrote = lines_writing::write_settings(read.value, &mut line);
             show(wrote, &line);
-            n
+            read.next
         }
-        ReadSettings::Unfinished => {
+        Err(LineError::Unfinished) => {
             show_bad(Refusal::LineUnfinished, bytes.len());
             0
         }
-        ReadSettings::Wrong(p) => {
+        Err(LineError::Wrong(p)) => {
             show_bad(Refusal::LineWrong, p);
             0
         }

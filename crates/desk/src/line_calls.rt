@@ -6,19 +6,18 @@ ghost use Rattle.desk_law.specs.Reads.{EventReadInto, SettingsReadInto};
 ghost use Rattle.desk_law.specs.Writes.{wrote_number, Few, SettingsWrittenOn, EventWrittenOn, ReportWrittenOn};
 
 use desk_packing::{events, runs, settings};
-use lines_reading_law::{ReadEvent, ReadSettings};
-use lines_writing_law::Wrote;
+use lines_text_law::LineError;
 use tables::{flat, lengths};
 use terms::{Refusal, sizes};
 
 // A writer's answer as a number.
-pub fn wrote(w: Wrote) -> u64
+pub fn wrote(w: Result<usize, Refusal>) -> u64
     requires { Few w }
     ensures { result ≡ wrote_number w }
 {
     match w {
-        Wrote::Written(n) => desk_answers::done(n as u64),
-        Wrote::Refused(r) => desk_answers::refused(r),
+        Ok(n) => desk_answers::done(n as u64),
+        Err(r) => desk_answers::refused(r),
     }
 }
 
@@ -30,13 +29,13 @@ pub fn kakoludar_read_event(line: &[u8], event: &mut [u64]) -> u64
         return desk_answers::refused(Refusal::SmallRoom);
     }
     match lines_reading::read_event(line) {
-        ReadEvent::Whole(e, n) => {
-            let numbers = events::pack(e);
+        Ok(line) => {
+            let numbers = events::pack(line.value);
             flat::lay(event, &numbers);
-            desk_answers::done(n as u64)
+            desk_answers::done(line.next as u64)
         }
-        ReadEvent::Unfinished => desk_answers::refused(Refusal::LineUnfinished),
-        ReadEvent::Wrong(n) => desk_answers::wrong_at(n),
+        Err(LineError::Unfinished) => desk_answers::refused(Refusal::LineUnfinished),
+        Err(LineError::Wrong(n)) => desk_answers::wrong_at(n),
     }
 }
 
@@ -48,13 +47,13 @@ pub fn kakoludar_read_settings(line: &[u8], settings: &mut [u64]) -> u64
         return desk_answers::refused(Refusal::SmallRoom);
     }
     match lines_reading::read_settings(line) {
-        ReadSettings::Whole(g, n) => {
-            let numbers = settings::pack(g);
+        Ok(line) => {
+            let numbers = settings::pack(line.value);
             flat::lay(settings, &numbers);
-            desk_answers::done(n as u64)
+            desk_answers::done(line.next as u64)
         }
-        ReadSettings::Unfinished => desk_answers::refused(Refusal::LineUnfinished),
-        ReadSettings::Wrong(n) => desk_answers::wrong_at(n),
+        Err(LineError::Unfinished) => desk_answers::refused(Refusal::LineUnfinished),
+        Err(LineError::Wrong(n)) => desk_answers::wrong_at(n),
     }
 }
 

@@ -6,7 +6,7 @@ use mathlib.Core.Bool.{Bool, true, false, not}
 use mathlib.Core.List.{List, []}
 use borrow.Author.Tests.{lt-ltb, le-ltb, lt-leb, le-leb, not-true, not-false}
 use lib.ListN.{length, get_or, take, drop}
-use Rattle.std.specs.Prelude.{Option, Some, None, Ok, Err}
+use Rattle.std.specs.Prelude.{Option, Some, None, Ok, Err, Result}
 use Rattle.terms.specs.declared.Event.{Event}
 use Rattle.terms.specs.declared.Refusal.{Refusal}
 use Rattle.terms.specs.declared.Refusal.TheVariants.{SmallRoom, NumberRange, SettingsRange, SmallLineRoom}
@@ -19,7 +19,6 @@ use Rattle.lines_text_law.specs.Numerals.{all_writable}
 use Rattle.lines_reading_law.specs.Lines.{render_event, render_settings, event_figures, settings_figures}
 use Rattle.records_law.specs.Back.{RecordRead}
 use Rattle.records_law.proofs.Told.{told-first}
-use Rattle.lines_writing_law.specs.declared.Wrote.{Wrote}
 use Rattle.lines_writing_law.specs.Lines.{render_report, report_figures}
 use Rattle.lines_writing_law.specs.Writes.{line_verdict, wrote_of, room_of, Writes}
 use Rattle.desk_packing_law.specs.Runs.{settings_length, event_length}
@@ -31,7 +30,7 @@ use Rattle.lines_writing_law.proofs.Short.{event-short, settings-short, report_s
 
 -- ---- lines of any sort
 
-pub wrote-few : (v : Verdict) (n : ℕ) (w : Wrote) → n ≤ count_most → w ≡ wrote_of v n → Few w
+pub wrote-few : (v : Verdict) (n : ℕ) (w : Result ℕ Refusal) → n ≤ count_most → w ≡ wrote_of v n → Few w
 wrote-few (Ok _) n w h e = rw e h
 wrote-few (Err r) n w h e = rw e tt
 
@@ -39,10 +38,10 @@ pub wrote-number : (v : Verdict) (n : ℕ) → wrote_number (wrote_of v n) ≡ a
 wrote-number (Ok _) n = refl
 wrote-number (Err r) n = refl
 
-writes_few : (room line ns room' : List ℕ) (w : Wrote) → length line ≤ count_most → Writes room line ns w room' → Few w
+writes_few : (room line ns room' : List ℕ) (w : Result ℕ Refusal) → length line ≤ count_most → Writes room line ns w room' → Few w
 writes_few room line ns room' w h k = wrote-few (line_verdict room ns) (length line) w h k.answer
 
-writes_on : (v : Verdict) (room line ns room' : List ℕ) (w : Wrote) (r : ℕ) → v ≡ line_verdict room ns → Writes room line ns w room' → r ≡ wrote_number w → WrittenOn v line room room' r
+writes_on : (v : Verdict) (room line ns room' : List ℕ) (w : Result ℕ Refusal) (r : ℕ) → v ≡ line_verdict room ns → Writes room line ns w room' → r ≡ wrote_number w → WrittenOn v line room room' r
 writes_on v room line ns room' w r e k x =
     record { answer = x ∙ (ap wrote_number k.answer ∙ rw e (wrote-number (line_verdict room ns) (length line))); laid = rw e k.laid }
 
@@ -61,14 +60,14 @@ module _ (run room : List ℕ) (r : ℕ) where
     unfolding settings_verdict_on
     settings-none t x = refused-on _ SettingsRange _ room r (rw (le-ltb (length run) settings_length h, ← k, not-true found t)) x
 
-    pub settings-written : (g : Settings) (w : Wrote) (room' : List ℕ) → not found ≡ false → g ≡ settings_from run →
+    pub settings-written : (g : Settings) (w : Result ℕ Refusal) (room' : List ℕ) → not found ≡ false → g ≡ settings_from run →
         Writes room (render_settings g) (settings_figures g) w room' → r ≡ wrote_number w → SettingsWrittenOn run room room' r
     unfolding settings_verdict_on
     settings-written g w room' t e p x =
         rw (← e)
         (writes_on _ room (render_settings g) (settings_figures g) room' w r (rw (le-ltb (length run) settings_length h, ← k, not-false found t, e)) p x)
 
-pub settings-few : (g : Settings) (room room' : List ℕ) (w : Wrote) → Writes room (render_settings g) (settings_figures g) w room' → Few w
+pub settings-few : (g : Settings) (room room' : List ℕ) (w : Result ℕ Refusal) → Writes room (render_settings g) (settings_figures g) w room' → Few w
 settings-few g room room' w p = writes_few room (render_settings g) (settings_figures g) room' w (omega (arith, settings-short g)) p
 
 -- ---- events
@@ -83,13 +82,13 @@ module _ (run room : List ℕ) (r : ℕ) where
     unfolding event_verdict_on
     event-none t x = refused-on _ NumberRange _ room r (rw (le-ltb (length run) event_length h, ← k, t)) x
 
-    pub event-written : (e : Event) (w : Wrote) (room' : List ℕ) → found ≡ Some e → Writes room (render_event e) (event_figures e) w room' →
+    pub event-written : (e : Event) (w : Result ℕ Refusal) (room' : List ℕ) → found ≡ Some e → Writes room (render_event e) (event_figures e) w room' →
         r ≡ wrote_number w → EventWrittenOn run room room' r
     unfolding event_verdict_on event_from
     event-written e w room' t p x =
         rw (← k, t) (writes_on _ room (render_event e) (event_figures e) room' w r (rw (le-ltb (length run) event_length h)) p x)
 
-pub event-few : (e : Event) (room room' : List ℕ) (w : Wrote) → Writes room (render_event e) (event_figures e) w room' → Few w
+pub event-few : (e : Event) (room room' : List ℕ) (w : Result ℕ Refusal) → Writes room (render_event e) (event_figures e) w room' → Few w
 event-few e room room' w p = writes_few room (render_event e) (event_figures e) room' w (omega (arith, event-short e)) p
 
 -- ---- reports
@@ -119,11 +118,11 @@ module _ (run room : List ℕ) (r : ℕ) where
     report_none t x =
         rw (le-ltb (length run) record_length h, ← told-first run o h k, t) (record { answer = x; laid = none_written (line_verdict room []) room })
 
-    pub report_written : (p : Report) (w : Wrote) (room' : List ℕ) → o ≡ Some p → Writes room (render_report p) (report_figures p) w room' →
+    pub report_written : (p : Report) (w : Result ℕ Refusal) (room' : List ℕ) → o ≡ Some p → Writes room (render_report p) (report_figures p) w room' →
         r ≡ wrote_number w → ReportWrittenOn run room room' r
     unfolding report_verdict_on
     report_written p w room' t q x =
         rw (← told-first run o h k, t) (writes_on _ room (render_report p) (report_figures p) room' w r (rw (le-ltb (length run) record_length h)) q x)
 
-pub report_few : (p : Report) (room room' : List ℕ) (w : Wrote) → Writes room (render_report p) (report_figures p) w room' → Few w
+pub report_few : (p : Report) (room room' : List ℕ) (w : Result ℕ Refusal) → Writes room (render_report p) (report_figures p) w room' → Few w
 report_few p room room' w q = writes_few room (render_report p) (report_figures p) room' w (omega (arith, report_short p)) q

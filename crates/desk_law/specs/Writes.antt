@@ -1,12 +1,12 @@
 -- THE CALLS THAT WRITE A LINE from numbers: what each call answers, and what it leaves in the line room.
-use Rattle.std.specs.Prelude.{ℕ, ◌≤◌, ◌≡◌, cond, List, [], ltb, length, get_or, Option, Some, None, Ok, Err}
+use Rattle.std.specs.Prelude.{ℕ, ◌≤◌, ◌≡◌, cond, List, [], ltb, length, get_or, Option, Some, None, Ok, Err, Result}
 use Rattle.terms.specs.declared.Event.{Event}
+use Rattle.terms.specs.declared.Refusal.{Refusal}
 use Rattle.terms.specs.declared.Refusal.TheVariants.{SmallRoom, NumberRange, SettingsRange}
 use Rattle.terms.specs.declared.Report.{Report}
 use Rattle.terms.specs.Refusals.{Verdict}
 use Rattle.tables.specs.Lengths.{record_length}
 use Rattle.lines_reading_law.specs.Lines.{render_event, render_settings, event_figures, settings_figures}
-use Rattle.lines_writing_law.specs.declared.Wrote.{Wrote}
 use Rattle.lines_writing_law.specs.Lines.{render_report, report_figures}
 use Rattle.lines_writing_law.specs.Writes.{line_verdict, room_of}
 use Rattle.records_law.specs.Back.{report_in}
@@ -17,14 +17,14 @@ use Rattle.desk_packing_law.specs.Answers.{count_most, answer_of}
 
 -- ---- a writer's answer as a number
 
-abbrev pub wrote_number : Wrote → ℕ
-wrote_number (Wrote.Written n) = answer_of (Ok tt) n
-wrote_number (Wrote.Refused r) = answer_of (Err r) 0
+abbrev pub wrote_number : Result ℕ Refusal → ℕ
+wrote_number (Ok n) = answer_of (Ok tt) n
+wrote_number (Err r) = answer_of (Err r) 0
 
 -- a line that was written has no more bytes than an answer can count
-abbrev pub Few : Wrote → Type 0
-Few (Wrote.Written n) = n ≤ count_most
-Few (Wrote.Refused r) = Unit
+abbrev pub Few : Result ℕ Refusal → Type 0
+Few (Ok n) = n ≤ count_most
+Few (Err r) = Unit
 
 -- the contract of a writing call: the line is written where the verdict is fine; a refusal writes nothing
 pub record WrittenOn (v : Verdict) (line room room' : List ℕ) (r : ℕ) : Type 0 where

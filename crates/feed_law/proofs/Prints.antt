@@ -10,7 +10,8 @@ use mathlib.Core.List.{List, [], ◌∷◌, ◌++◌, append_assoc, append-nil}
 use lib.ListN.{length, take, drop, length-append, length-drop, drop_of_length-le}
 use lib.Seq.{drop-drop, drop_at, length-take-le, take_all, take-append_seam, drop-append_seam}
 use borrow.Author.Tests.{le-leb}
-use Rattle.std.specs.Prelude.{Option, Some, None, Ok, Err}
+use Rattle.std.specs.Prelude.{Option, Some, None, Ok, Err, Result}
+use Rattle.terms.specs.declared.Refusal.{Refusal}
 use Rattle.terms.specs.declared.Report.{Report}
 use Rattle.terms.specs.declared.Refusal.TheVariants.{NumberLong}
 use Rattle.terms.specs.Sizes.{line_room}
@@ -20,7 +21,6 @@ use Rattle.terms.specs.Refusals.{Verdict, first_failed}
 use Rattle.terms.proofs.Logic.{by}
 use Rattle.tables.specs.Put.{put}
 use Rattle.lines_text_law.specs.Numerals.{all_writable}
-use Rattle.lines_writing_law.specs.declared.Wrote.{Wrote}
 use Rattle.lines_writing_law.specs.Lines.{report_figures, render_report}
 use Rattle.lines_writing_law.proofs.Short.{report_short}
 use Rattle.lines_writing_law.specs.Writes.{line_verdict, wrote_of, room_of, Writes}
@@ -32,7 +32,7 @@ use Rattle.feed_law.specs.Feeds.{laid, wrote_length, Prints, PrintsFrom, RecordT
 
 -- ---- a writer's line
 
-module _ {out line ns out' : List ℕ} {w : Wrote} (long : line_room ≤ length out) (k : Writes out line ns w out') where
+module _ {out line ns out' : List ℕ} {w : Result ℕ Refusal} (long : line_room ≤ length out) (k : Writes out line ns w out') where
   verdict_is : (b : Bool) → all_writable ns ≡ b → line_verdict out ns ≡ cond b (Ok tt) (Err NumberLong)
   unfolding line_verdict first_failed
   verdict_is true e = rw (le-leb line_room (length out) long, e)
@@ -90,7 +90,7 @@ module _ {room : List ℕ} {at : ℕ} (r : Option Report) {out : List ℕ} (ther
       let q : Prints out (record_text (drop at room)) n out' = rw (record_found room at r there k) at p in
       record { printed = q; short = rw q.count (record-short (drop at room)) }
 
-  pub told_prints : {out' : List ℕ} {w : Wrote} (report : Report) {n : ℕ} → r ≡ Some report → line_room ≤ length out →
+  pub told_prints : {out' : List ℕ} {w : Result ℕ Refusal} (report : Report) {n : ℕ} → r ≡ Some report → line_room ≤ length out →
       Writes out (render_report report) (report_figures report) w out' → n ≡ wrote_length w → RecordTold room at out n out'
   unfolding report_text
   told_prints report {n} e h v q = told (rw e (writes_prints h v n q))

@@ -1,5 +1,7 @@
 -- The calls of feed, feed_turns and feed_prints on lent numbers: what each answers, and what it leaves.
-use Rattle.std.specs.Prelude.{ℕ, ◌+◌, ◌≤◌, ◌≡◌, List, [], ◌∷◌, ◌++◌, length, take, drop, Ok, Err}
+use Rattle.std.specs.Prelude.{ℕ, ◌+◌, ◌≤◌, ◌≡◌, List, [], ◌∷◌, ◌++◌, length, take, drop, Ok, Err, Result}
+use Rattle.std.specs.Result.{result_unwrap_or}
+use Rattle.terms.specs.declared.Refusal.{Refusal}
 use Rattle.terms.specs.declared.Refusal.TheVariants.{SmallRoom}
 use Rattle.terms.specs.declared.Event.{Event}
 use Rattle.terms.specs.declared.Settings.{Settings}
@@ -9,7 +11,6 @@ use Rattle.state_law.specs.declared.Session.{Session}
 use Rattle.state_law.specs.Opening.{opening_of, fixed_session}
 use Rattle.engine_law.specs.Calls.{roomy}
 use Rattle.lines_reading_law.specs.Answers.{read_event, read_settings}
-use Rattle.lines_writing_law.specs.declared.Wrote.{Wrote}
 use Rattle.feed_law.specs.declared.Run.{Run}
 use Rattle.feed_law.specs.declared.Stage.{Stage}
 use Rattle.feed_law.specs.declared.Stop.{Stop}
@@ -43,9 +44,8 @@ pub record RecordTold (room : List ℕ) (at : ℕ) (out : List ℕ) (wrote : ℕ
   pub short : wrote ≤ line_room
 
 -- how many bytes a writer wrote: none where it refused
-abbrev pub wrote_length : Wrote → ℕ
-wrote_length (Wrote.Written n) = n
-wrote_length (Wrote.Refused r) = 0
+abbrev pub wrote_length : Result ℕ Refusal → ℕ
+wrote_length r = result_unwrap_or r 0
 
 -- ---- before the first line
 

@@ -4,29 +4,19 @@ ghost use Rattle.terms.specs.Sizes.{line_room};
 ghost use Rattle.tables.specs.Lengths.{record_length};
 ghost use Rattle.feed_law.specs.Texts.{records_text, refused_text, bad_text, end_text};
 ghost use Rattle.feed_law.specs.declared.Stage.{Stage};
-ghost use Rattle.feed_law.specs.Feeds.{Prints, EndTold, RecordTold, wrote_length};
+ghost use Rattle.feed_law.specs.Feeds.{Prints, EndTold, RecordTold};
 
 use feed_law::Stage;
-use lines_writing_law::Wrote;
+
 use tables::lengths;
 use terms::Refusal;
-
-// How many bytes a writer wrote: none where it refused.
-fn length_of(w: Wrote) -> usize
-    ensures { result ≡ wrote_length w }
-{
-    match w {
-        Wrote::Written(n) => n,
-        Wrote::Refused(_) => 0,
-    }
-}
 
 // Prints the line that tells of a refused event.
 pub fn tell_refused(time: u64, refusal: Refusal, out: &mut [u8]) -> usize
     requires { line_room ≤ length out.old }
     ensures { Prints out.old (refused_text time refusal) result out.new }
 {
-    length_of(lines_writing_reports::write_refused(time, refusal, out))
+    lines_writing_reports::write_refused(time, refusal, out).unwrap_or(0)
 }
 
 // Prints the line that tells of a bad line, or of refused settings.
@@ -34,7 +24,7 @@ pub fn tell_bad(refusal: Refusal, place: usize, out: &mut [u8]) -> usize
     requires { line_room ≤ length out.old }
     ensures { Prints out.old (bad_text refusal place) result out.new }
 {
-    length_of(lines_writing_reports::write_bad(refusal, place, out))
+    lines_writing_reports::write_bad(refusal, place, out).unwrap_or(0)
 }
 
 // Prints what the end of the input says of a day that has begun, where `rest` bytes stand behind the last line.
@@ -66,7 +56,9 @@ fn tell_record(room: &[u64], at: usize, out: &mut [u8]) -> usize
     ensures { RecordTold room.now at out.old result out.new }
 {
     match records::read_record(room, at) {
-        Some(report) => length_of(lines_writing_reports::write_report(report, out)),
+        Some(report) => {
+            lines_writing_reports::write_report(report, out).unwrap_or(0)
+        }
         None => 0,
     }
 }

@@ -7,7 +7,7 @@ ghost use Rattle.feed_law.specs.Feeds.{turned_to, BadTurned, OpenTurned, WholeTu
 use engine::apply;
 use feed_law::{Run, Stage, Turned};
 use feed_prints::printing;
-use lines_reading_law::{ReadEvent, ReadSettings};
+use lines_text_law::LineError;
 use state::opening;
 use state_law::Session;
 use terms::{Event, Refusal, Settings};
@@ -59,9 +59,9 @@ fn settings_line(session: Session, bytes: &[u8], out: &mut [u8]) -> Turned
     ensures { SettingsTurned session bytes.now out.old out.new result }
 {
     match lines_reading::read_settings(bytes) {
-        ReadSettings::Whole(settings, used) => opens(settings, used, out),
-        ReadSettings::Unfinished => turned(Stage::Awaiting, session, 0, 0, 0),
-        ReadSettings::Wrong(place) => bad_line(session, place, out),
+        Ok(line) => opens(line.value, line.next, out),
+        Err(LineError::Unfinished) => turned(Stage::Awaiting, session, 0, 0, 0),
+        Err(LineError::Wrong(place)) => bad_line(session, place, out),
     }
 }
 
@@ -123,9 +123,9 @@ fn event_line(
     ensures { EventTurned session bytes.now buys.old sells.old room.old out.old buys.new sells.new room.new out.new result }
 {
     match lines_reading::read_event(bytes) {
-        ReadEvent::Whole(event, used) => goes(session, event, used, buys, sells, room, out),
-        ReadEvent::Unfinished => turned(Stage::Trading, session, 0, 0, 0),
-        ReadEvent::Wrong(place) => bad_line(session, place, out),
+        Ok(line) => goes(session, line.value, line.next, buys, sells, room, out),
+        Err(LineError::Unfinished) => turned(Stage::Trading, session, 0, 0, 0),
+        Err(LineError::Wrong(place)) => bad_line(session, place, out),
     }
 }
 

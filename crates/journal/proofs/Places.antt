@@ -1,13 +1,22 @@
 -- The bytes from a place on are a part of the slice; and what the reader's answer there says of lines.
-use Prim.Native.Nat.{ℕ, ◌-◌, ◌<◌}
+use Prim.Native.Nat.{ℕ, ◌-◌}
 use native.Mathlib.Nat.{le_of_eq, le_of_lt}
+use native.Mathlib.Omega.{arith}
+use denote.Ref.{Bor}
 use mathlib.Core.Path.{◌≡◌, sym, ap, ◌∙◌}
 use mathlib.Core.List.{List, []}
 use lib.ListN.{length, take, drop, length-drop, drop_of_length-le}
 use lib.Seq.{take_all}
+use Rattle.std.specs.Prelude.{Result, Option, Some, None, ◌⊎◌}
+use Rattle.std.specs.List.{PartBy}
+use Rattle.std.specs.Option.{unwrap_or}
+use Rattle.std.proofs.Common.{⊎_elim}
+use Rattle.terms.specs.declared.Event.{Event}
+use Rattle.lines_text_law.specs.declared.LineError.{LineError}
+use Rattle.lines_text_law.specs.declared.Parsed.{Parsed}
+use Rattle.lines_text_law.specs.Reading.{answered}
 use Rattle.lines_text_law.proofs.Sorts.{told, right_as}
-use Rattle.lines_reading_law.specs.declared.ReadEvent.{ReadEvent}
-use Rattle.lines_reading_law.specs.Answers.{EventRead, event_answer, read_event}
+use Rattle.lines_reading_law.specs.Answers.{EventRead, read_event}
 use Rattle.lines_reading_law.proofs.EventLines.{event-lines}
 use Rattle.lines_reading_law.specs.Walk.{read_at}
 
@@ -15,17 +24,18 @@ use Rattle.lines_reading_law.specs.Walk.{read_at}
 part_is : (bytes : List ℕ) (place : ℕ) → take (length bytes - place) (drop place bytes) ≡ drop place bytes
 part_is bytes place = take_all (length bytes - place) (drop place bytes) (le_of_eq (length-drop place bytes))
 
--- what is read of that part is the answer at the place
-pub read_there : (bytes : List ℕ) (place : ℕ) (r : ReadEvent) → EventRead (take (length bytes - place) (drop place bytes)) r → event_answer r ≡ read_at bytes place
-unfolding read_at
-read_there bytes place r a = told event-lines (take (length bytes - place) (drop place bytes)) (event_answer r) a ∙ ap read_event (part_is bytes place)
+-- what `get` finds from a place on, or nothing, is the bytes from the place on
+pub rest_is : (bytes : List ℕ) (place : ℕ) (o : Option (Bor (List ℕ))) (x : Bor (List ℕ)) → x.now ≡ []
+    → PartBy (λ (y : Bor (List ℕ)). y.now) bytes place (length bytes) o → (unwrap_or o x).now ≡ drop place bytes
+rest_is bytes place (Some y) x e (m, _) = m.2 ∙ part_is bytes place
+rest_is bytes place None x e (m, _) = e ∙ sym (drop_of_length-le bytes (⊎_elim (λ k. le_of_lt k) (λ k. absurd (let z : ⊥ = omega arith in z)) m))
 
--- what is read of no bytes is the answer at a place past the end
-pub read_past : (bytes : List ℕ) (place : ℕ) (r : ReadEvent) → length bytes < place → EventRead [] r → event_answer r ≡ read_at bytes place
+-- what is read of them is the answer at the place
+pub read_there : (bytes : List ℕ) (place : ℕ) (rest : List ℕ) (r : Result (Parsed Event) LineError) → rest ≡ drop place bytes → EventRead rest r → answered r ≡ read_at bytes place
 unfolding read_at
-read_past bytes place r past a = told event-lines [] (event_answer r) a ∙ ap read_event (sym (drop_of_length-le bytes (le_of_lt past)))
+read_there bytes place rest r q a = told event-lines rest (answered r) a ∙ ap read_event q
 
 -- an answer at a place is the reader's right answer for the bytes from there on
-pub right_there : (bytes : List ℕ) (place : ℕ) (r : ReadEvent) → event_answer r ≡ read_at bytes place → EventRead (drop place bytes) r
+pub right_there : (bytes : List ℕ) (place : ℕ) (r : Result (Parsed Event) LineError) → answered r ≡ read_at bytes place → EventRead (drop place bytes) r
 unfolding read_at
-right_there bytes place r q = right_as event-lines (drop place bytes) (event_answer r) q
+right_there bytes place r q = right_as event-lines (drop place bytes) (answered r) q

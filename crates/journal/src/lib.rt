@@ -5,10 +5,11 @@
 #![tactic(auto)]
 
 ghost use Rattle.std.specs.Prelude.{◌≡◌};
-ghost use Rattle.lines_reading_law.specs.Answers.{event_answer};
+ghost use Rattle.lines_text_law.specs.Reading.{answered};
 ghost use Rattle.lines_reading_law.specs.Walk.{read_at};
 
-use lines_reading_law::ReadEvent;
+use lines_text_law::{LineError, Parsed};
+use terms::Event;
 
 // A walker: the caller's bytes, and a place in them.
 #[derive(Clone, Copy)]
@@ -18,13 +19,10 @@ pub struct Walker<'a> {
 }
 
 // What the reader answers on the bytes from a place on.
-pub fn event_at(bytes: &[u8], at: usize) -> ReadEvent
-    ensures { event_answer result ≡ read_at bytes.now at }
+pub fn event_at(bytes: &[u8], at: usize) -> Result<Parsed<Event>, LineError>
+    ensures { answered result ≡ read_at bytes.now at }
 {
-    if bytes.len() < at {
-        return lines_reading::read_event(&bytes[0..0]);
-    }
-    lines_reading::read_event(&bytes[at..])
+    lines_reading::read_event(bytes.get(at..).unwrap_or(&[]))
 }
 
 // A walker at the start of the bytes.
@@ -35,8 +33,8 @@ pub fn new<'a>(bytes: &'a [u8]) -> Walker<'a>
 }
 
 // What the reader answers at the walker's place.
-pub fn step<'a>(w: Walker<'a>) -> ReadEvent
-    ensures { event_answer result ≡ read_at w.entry.bytes.now w.entry.at }
+pub fn step<'a>(w: Walker<'a>) -> Result<Parsed<Event>, LineError>
+    ensures { answered result ≡ read_at w.entry.bytes.now w.entry.at }
 {
     event_at(w.bytes, w.at)
 }
@@ -49,8 +47,8 @@ pub fn moved<'a>(w: Walker<'a>, at: usize) -> Walker<'a>
 }
 
 // A walker's step at a place of plain bytes, for callers that hold no walker.
-pub fn line_at(bytes: &[u8], at: usize) -> ReadEvent
-    ensures { event_answer result ≡ read_at bytes.now at }
+pub fn line_at(bytes: &[u8], at: usize) -> Result<Parsed<Event>, LineError>
+    ensures { answered result ≡ read_at bytes.now at }
 {
     step(moved(new(bytes), at))
 }

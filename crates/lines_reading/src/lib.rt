@@ -9,18 +9,19 @@ pub mod events;
 
 ghost use Rattle.lines_reading_law.specs.Answers.{EventRead, SettingsRead};
 
-use lines_reading_law::{ReadEvent, ReadSettings};
 use lines_reading_settings::settings;
+use lines_text_law::{LineError, Parsed};
+use terms::{Event, Settings};
 
 // Reads the event whose line the bytes start with.
-pub fn read_event(bytes: &[u8]) -> ReadEvent
+pub fn read_event(bytes: &[u8]) -> Result<Parsed<Event>, LineError>
     ensures { EventRead bytes.now result }
 {
     events::read(bytes)
 }
 
 // Reads the settings whose line the bytes start with.
-pub fn read_settings(bytes: &[u8]) -> ReadSettings
+pub fn read_settings(bytes: &[u8]) -> Result<Parsed<Settings>, LineError>
     ensures { SettingsRead bytes.now result }
 {
     settings::read(bytes)

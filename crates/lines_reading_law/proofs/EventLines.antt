@@ -17,15 +17,14 @@ use Rattle.lines_text_law.specs.Text.{bytes}
 use Rattle.lines_text_law.specs.Numerals.{numeral}
 use Rattle.terms.specs.Numbers.{Writable}
 use Rattle.lines_text_law.specs.Forms.{fill}
-use Rattle.lines_text_law.specs.Grammar.{word, whole, unfinished, wrong}
+use Rattle.lines_text_law.specs.Grammar.{word}
 use Rattle.lines_text_law.specs.code.Pieces.{at, lastly}
 use Rattle.lines_text_law.proofs.Grammars.{Spells, s_stop, s_byte, s_this, s_else, s_number, s_word, s_last, Plain, Agrees}
 use Rattle.lines_text_law.proofs.Sorts.{Lawful, lawful}
-use Rattle.lines_reading_law.specs.declared.ReadEvent.{ReadEvent}
 use Rattle.lines_reading_law.specs.declared.Single.{Single}
 use Rattle.lines_reading_law.specs.Lines.{side_word, event_figures, render_event}
 use Rattle.lines_reading_law.specs.Grammars.{event, order, price_rest, life_rest, lives, kind_rest, kinds, side_rest, act_of, single_rest, clock_rest, cancel_rest, acts, event_grammar}
-use Rattle.lines_reading_law.specs.Answers.{event_answer, read_code, read_event}
+use Rattle.lines_reading_law.specs.Answers.{read_code, read_event}
 
 -- every number of the event can be written
 abbrev Fine : Event → Type 0
@@ -170,19 +169,6 @@ act_spells t Clock f =
 pub event-lines : Lawful render_event event_figures read_event
 unfolding read_event at event_grammar word
 event-lines = lawful render_event event_figures event_grammar plain agrees (λ e f. act_spells e.time e.act f) refl
-
--- what code returned, as the answer that it stands for
-pub whole-event : {r : ReadEvent} {e : Event} {n : ℕ} → r ≡ ReadEvent.Whole e n → event_answer r ≡ whole e n
-whole-event q = ap event_answer q
-
-pub unfinished-event : {r : ReadEvent} → r ≡ ReadEvent.Unfinished → event_answer r ≡ unfinished
-unfinished-event q = ap event_answer q
-
-pub wrong-event : {r : ReadEvent} {n : ℕ} → r ≡ ReadEvent.Wrong n → event_answer r ≡ wrong n
-wrong-event q = ap event_answer q
-
--- rules for `search` where code has read a line
-pub ruleset read-event = (whole-event, unfinished-event, wrong-event)
 
 -- P12: "empty bytes: 14"
 pub event-none : read_code (read_event []) ≡ 14

@@ -1,4 +1,3 @@
 pub mod EventLines
-pub mod Prices
 pub mod SettingsLines
 pub mod Walks

@@ -9,14 +9,13 @@ use Rattle.lines_text_law.specs.Text.{bytes}
 use Rattle.lines_text_law.specs.Numerals.{numeral}
 use Rattle.terms.specs.Numbers.{Writable}
 use Rattle.lines_text_law.specs.Forms.{fill}
-use Rattle.lines_text_law.specs.Grammar.{word, whole, unfinished, wrong}
+use Rattle.lines_text_law.specs.Grammar.{word}
 use Rattle.lines_text_law.specs.code.Pieces.{at, lastly}
 use Rattle.lines_text_law.proofs.Grammars.{Spells, s_stop, s_byte, s_this, s_else, s_number, s_word, Plain, Agrees}
 use Rattle.lines_text_law.proofs.Sorts.{Lawful, lawful}
-use Rattle.lines_reading_law.specs.declared.ReadSettings.{ReadSettings}
 use Rattle.lines_reading_law.specs.Lines.{category_word, numbers_form, settings_figures, render_settings}
 use Rattle.lines_reading_law.specs.Grammars.{last_numbers, later_numbers, category_rest, categories, settings_grammar}
-use Rattle.lines_reading_law.specs.Answers.{settings_answer, read_code, read_settings}
+use Rattle.lines_reading_law.specs.Answers.{read_code, read_settings}
 
 -- every number of the settings can be written
 abbrev Fine : Settings → Type 0
@@ -130,19 +129,6 @@ spells g f = rw (settings-line g) (s_word (bytes "cat=") (category_spells g.cate
 pub settings-lines : Lawful render_settings settings_figures read_settings
 unfolding read_settings at settings_grammar word
 settings-lines = lawful render_settings settings_figures settings_grammar plain agrees spells refl
-
--- what code returned, as the answer that it stands for
-pub whole-settings : {r : ReadSettings} {g : Settings} {n : ℕ} → r ≡ ReadSettings.Whole g n → settings_answer r ≡ whole g n
-whole-settings q = ap settings_answer q
-
-pub unfinished-settings : {r : ReadSettings} → r ≡ ReadSettings.Unfinished → settings_answer r ≡ unfinished
-unfinished-settings q = ap settings_answer q
-
-pub wrong-settings : {r : ReadSettings} {n : ℕ} → r ≡ ReadSettings.Wrong n → settings_answer r ≡ wrong n
-wrong-settings q = ap settings_answer q
-
--- rules for `search` where code has read a line
-pub ruleset read-settings = (whole-settings, unfinished-settings, wrong-settings)
 
 -- P12: "empty bytes: 14"
 pub settings-none : read_code (read_settings []) ≡ 14

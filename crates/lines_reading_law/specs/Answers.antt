@@ -1,27 +1,16 @@
 -- What the two readers answer, by the paper's numbers.
-use Rattle.std.specs.Prelude.{ℕ, List}
+use Rattle.std.specs.Prelude.{ℕ, List, Result}
 use Rattle.terms.specs.declared.Event.{Event}
 use Rattle.terms.specs.declared.Settings.{Settings}
 use Rattle.terms.specs.declared.Refusal.TheVariants.{LineUnfinished, LineWrong}
 use Rattle.terms.specs.Refusals.{number_of}
+use Rattle.lines_text_law.specs.declared.LineError.{LineError}
+use Rattle.lines_text_law.specs.declared.Parsed.{Parsed}
 use Rattle.lines_text_law.specs.Grammar.{LineAnswer, whole, unfinished, wrong}
-use Rattle.lines_text_law.specs.Reading.{ReadAs}
+use Rattle.lines_text_law.specs.Reading.{answered, ReadAs}
 use Rattle.lines_text_law.specs.code.Pieces.{at}
-use Rattle.lines_reading_law.specs.declared.ReadEvent.{ReadEvent}
-use Rattle.lines_reading_law.specs.declared.ReadSettings.{ReadSettings}
 use Rattle.lines_reading_law.specs.Lines.{SettingsLine, EventLine}
 use Rattle.lines_reading_law.specs.Grammars.{settings_grammar, event_grammar}
-
--- the answers of each reader, in the form that is common to all readers
-abbrev pub event_answer : ReadEvent → LineAnswer Event
-event_answer (ReadEvent.Whole e n) = whole e n
-event_answer ReadEvent.Unfinished = unfinished
-event_answer (ReadEvent.Wrong n) = wrong n
-
-abbrev pub settings_answer : ReadSettings → LineAnswer Settings
-settings_answer (ReadSettings.Whole g n) = whole g n
-settings_answer ReadSettings.Unfinished = unfinished
-settings_answer (ReadSettings.Wrong n) = wrong n
 
 -- the paper's number of an answer: 14 unfinished, 15 wrong, 0 for a line
 abbrev pub read_code : {E : Type 0} → LineAnswer E → ℕ
@@ -36,11 +25,11 @@ count_of unfinished = 0
 count_of (wrong n) = n
 
 -- THE CONTRACTS of the two readers: the answer is the right one for the bytes
-abbrev pub EventRead : List ℕ → ReadEvent → Type 0
-EventRead bytes r = ReadAs EventLine bytes (event_answer r)
+abbrev pub EventRead : List ℕ → Result (Parsed Event) LineError → Type 0
+EventRead bytes r = ReadAs EventLine bytes (answered r)
 
-abbrev pub SettingsRead : List ℕ → ReadSettings → Type 0
-SettingsRead bytes r = ReadAs SettingsLine bytes (settings_answer r)
+abbrev pub SettingsRead : List ℕ → Result (Parsed Settings) LineError → Type 0
+SettingsRead bytes r = ReadAs SettingsLine bytes (answered r)
 
 -- the right answers, computed by the grammars
 unfoldable pub read_event : List ℕ → LineAnswer Event

@@ -4,24 +4,6 @@
 
 #![tactic(auto)]
 
-use terms::{Event, Settings};
-
-// What the reader of events answers: an event and how many bytes its line took, 14, or 15 with the place.
-#[derive(Clone, Copy)]
-pub enum ReadEvent {
-    Whole(Event, usize),
-    Unfinished,
-    Wrong(usize),
-}
-
-// What the reader of settings answers: settings and how many bytes their line took, 14, or 15 with the place.
-#[derive(Clone, Copy)]
-pub enum ReadSettings {
-    Whole(Settings, usize),
-    Unfinished,
-    Wrong(usize),
-}
-
 // The acts that carry one number.
 #[derive(Clone, Copy)]
 pub enum Single {

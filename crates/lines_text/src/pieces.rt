@@ -1,99 +1,74 @@
 // The pieces of a line are read here: a word, a number, the two together, and the last field.
-ghost use Rattle.std.specs.Prelude.{◌≡◌, drop};
-ghost use Rattle.lines_text_law.specs.code.Pieces.{word_on, number_on, field_on, last_on};
+ghost use Rattle.std.specs.Prelude.{◌≡◌, ◌<◌, length, drop, OnOk};
+ghost use Rattle.lines_text_law.specs.code.Pieces.{byte_on, word_on, number_on, field_on, last_on};
 
-use lines_text_law::{Found, Reached};
+use lines_text_law::{LineError, Parsed};
 
-pub fn word(s: &[u8], at: usize, w: &[u8]) -> Reached
-    ensures { result ≡ word_on w.now (drop at s.now) at }
+// The byte at a place.
+pub fn byte(s: &[u8], at: usize) -> Result<u8, LineError>
+    ensures value { result ≡ byte_on (drop at s.now) }
+    ensures within { OnOk result (at < length s.now) }
 {
-    let mut i = 0;
-    let mut p = at;
-    while i < w.len() {
-        if s.len() <= p {
-            return Reached::Short;
-        }
-        if s[p] != w[i] {
-            return Reached::Wrong(p);
-        }
-        i += 1;
-        p += 1;
-    }
-    Reached::To(p)
+    s.get(at).copied().ok_or(LineError::Unfinished)
 }
 
-fn wide(x: u8) -> u64
-    ensures { result ≡ x }
+// Reads a word, and answers the place after it.
+pub fn word(s: &[u8], at: usize, w: &[u8]) -> Result<usize, LineError>
+    ensures { result ≡ word_on w.now (drop at s.now) at }
 {
-    x as u64
+    let mut next = at;
+    for &b in w {
+        if byte(s, next)? != b {
+            return Err(LineError::Wrong(next));
+        }
+        next += 1;
+    }
+    Ok(next)
 }
 
 // Reads a numeral: 0, or a digit from 1 and up to eight more. What follows it is judged by the next word.
-pub fn number(s: &[u8], at: usize) -> Found
+pub fn number(s: &[u8], at: usize) -> Result<Parsed<u64>, LineError>
     ensures { result ≡ number_on (drop at s.now) at }
 {
-    if s.len() <= at {
-        return Found::Short;
+    let first = byte(s, at)?;
+    let mut next = at + 1;
+    if first == b'0' {
+        return Ok(Parsed { value: 0, next });
     }
-    let b = wide(s[at]);
-    if b == 48 {
-        return Found::Value {
-            value: 0,
-            next: at + 1,
-        };
+    if !first.is_ascii_digit() {
+        return Err(LineError::Wrong(at));
     }
-    if b < 48 {
-        return Found::Wrong(at);
-    }
-    if 58 <= b {
-        return Found::Wrong(at);
-    }
-    let mut v = b - 48;
-    let mut p = at + 1;
-    let mut left: usize = 8;
-    while 0 < left {
-        if s.len() <= p {
-            return Found::Value { value: v, next: p };
+    let mut value = u64::from(first - b'0');
+    let rest = &s[next..];
+    let most = rest.len().min(8);
+    for &d in &rest[..most] {
+        if !d.is_ascii_digit() {
+            return Ok(Parsed { value, next });
         }
-        let d = wide(s[p]);
-        if d < 48 {
-            return Found::Value { value: v, next: p };
-        }
-        if 58 <= d {
-            return Found::Value { value: v, next: p };
-        }
-        v = v * 10 + (d - 48);
-        p += 1;
-        left -= 1;
+        value = value * 10 + u64::from(d - b'0');
+        next += 1;
     }
-    Found::Value { value: v, next: p }
+    Ok(Parsed { value, next })
 }
 
 // Reads a word and the number after it.
-pub fn field(s: &[u8], at: usize, w: &[u8]) -> Found
+#[tactic(auto, unfolding(lines_text_law::specs::code::Pieces::field_on))]
+pub fn field(s: &[u8], at: usize, w: &[u8]) -> Result<Parsed<u64>, LineError>
     ensures { result ≡ field_on w.now s.now at }
 {
-    match word(s, at, w) {
-        Reached::To(n) => number(s, n),
-        Reached::Short => Found::Short,
-        Reached::Wrong(p) => Found::Wrong(p),
-    }
+    let next = word(s, at, w)?;
+    number(s, next)
 }
 
 // Reads a word, a number and the line's end.
-pub fn last(s: &[u8], at: usize, w: &[u8]) -> Found
+#[tactic(auto, unfolding(lines_text_law::specs::code::Pieces::last_on))]
+pub fn last(s: &[u8], at: usize, w: &[u8]) -> Result<Parsed<u64>, LineError>
     ensures { result ≡ last_on w.now s.now at }
 {
-    match field(s, at, w) {
-        Found::Value { value, next } => match word(s, next, b"\n") {
-            Reached::To(n) => Found::Value {
-                value: value,
-                next: n,
-            },
-            Reached::Short => Found::Short,
-            Reached::Wrong(p) => Found::Wrong(p),
-        },
-        Found::Short => Found::Short,
-        Found::Wrong(p) => Found::Wrong(p),
-    }
+    let read = field(s, at, w)?;
+    let next = word(s, read.next, b"\n")?;
+    Ok(Parsed {
+        value: read.value,
+        next,
+    })
 }

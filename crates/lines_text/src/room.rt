@@ -12,14 +12,7 @@ use terms::sizes;
 pub fn all_writable(numbers: &[u64]) -> bool
     ensures { result ≡ all_writable numbers.now }
 {
-    let mut i = 0;
-    while i < numbers.len() {
-        if sizes::DIGITS < numbers[i] {
-            return false;
-        }
-        i += 1;
-    }
-    true
+    numbers.iter().all(|&n| n <= sizes::DIGITS)
 }
 
 // How many digits a number has.
@@ -64,10 +57,10 @@ fn put_number(room: &mut [u8], at: usize, v: u64) -> usize
     let mut w = v;
     while 10 <= w {
         p -= 1;
-        room[p] = 48 + (w % 10) as u8;
-        w = w / 10;
+        room[p] = b'0' + (w % 10) as u8;
+        w /= 10;
     }
-    room[at] = 48 + w as u8;
+    room[at] = b'0' + w as u8;
     end
 }
 
@@ -86,10 +79,7 @@ fn put_piece(room: &mut [u8], from: Spot, b: u8, numbers: &[u64]) -> Spot
         };
     }
     room[at] = b;
-    Spot {
-        at: at + 1,
-        used: used,
-    }
+    Spot { at: at + 1, used }
 }
 
 // Puts a form, filled with the numbers that are not used yet, and answers the spot after it.
@@ -98,10 +88,8 @@ pub fn put_form(room: &mut [u8], from: Spot, form: &[u8], numbers: &[u64]) -> Sp
     ensures { PutFrom room.old from (fill form.now (drop from.used numbers.now)) (holes form.now) room.new result }
 {
     let mut spot = from;
-    let mut i = 0;
-    while i < form.len() {
-        spot = put_piece(room, spot, form[i], numbers);
-        i += 1;
+    for &b in form {
+        spot = put_piece(room, spot, b, numbers);
     }
     spot
 }

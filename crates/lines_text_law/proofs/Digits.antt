@@ -3,11 +3,12 @@ use Prim.Native.Nat.{ℕ, zero, suc, ◌+◌, ◌-◌, ◌*◌, ◌/◌, ◌%◌
 use native.Mathlib.Nat.{pow-suc, pow-le-pow_right}
 use native.Mathlib.Omega.{arith}
 use mathlib.Core.Path.{◌≡◌, refl, sym, ◌∙◌}
-use mathlib.Core.Bool.{true, false}
+use mathlib.Core.Bool.{Bool, true, false}
 use mathlib.Core.List.{List, [], ◌∷◌, ◌++◌, append_assoc}
 use lib.ListN.{length, length-append}
 use lib.Dec.{ltb, eqb}
-use borrow.Author.Tests.{ltb-true, ltb-false, lt-ltb, le-ltb, ne_eqb, eqb-true, eqb-false}
+use borrow.Author.Tests.{ltb-true, ltb-false, lt-ltb, le-ltb, lt-leb, le-leb, ne_eqb, eqb-true, eqb-false}
+use Rattle.std.specs.Char.{is_ascii_digit}
 use Rattle.terms.specs.Sizes.{written_most}
 use Rattle.terms.proofs.Logic.{cases}
 use Rattle.lines_text_law.specs.Numerals.{dec, numeral}
@@ -24,11 +25,28 @@ digit_low x a = rw (lt-ltb x 48 a)
 pub digit_high : (x : ℕ) → 58 ≤ x → digit x ≡ false
 digit_high x a = rw (le-ltb x 48 (omega arith), le-ltb x 58 a)
 
+-- three cases: x lies below the digits, among them, or above
+by_range : {P : Type 0} (x : ℕ) → (x < 48 → P) → (48 ≤ x → x < 58 → P) → (58 ≤ x → P) → P
+by_range x a b c =
+    cases (ltb x 48) (λ q. a (ltb-true x 48 q))
+    (λ q. cases (ltb x 58) (λ k. b (ltb-false x 48 q) (ltb-true x 58 k)) (λ k. c (ltb-false x 58 k)))
+
 pub digit-range : (x : ℕ) → digit x ≡ true → (48 ≤ x) × (x < 58)
 digit-range x e =
     cases (ltb x 48)
     (λ q. let z : true ≡ false = sym e ∙ digit_low x (ltb-true x 48 q) in let w : ◌≡◌ {A = ℕ} 0 1 = cc in omega arith)
     (λ q. (ltb-false x 48 q, ltb-true x 58 (rw q at e)))
+
+-- and what std's test says, where code let a byte pass or not
+std-digit : (x : ℕ) → is_ascii_digit x ≡ digit x
+std-digit x = by_range x (λ h. rw (lt-leb 48 x h, digit_low x h)) (λ h k. rw (le-leb 48 x h, le-leb x 57 (omega arith), digit-yes x h k))
+    (λ h. rw (le-leb 48 x (omega arith), lt-leb x 57 (omega arith), digit_high x h))
+
+pub digit_passed : (x : ℕ) (r : Bool) → r ≡ is_ascii_digit x → r ≡ true → digit x ≡ true
+digit_passed x r e t = sym (std-digit x) ∙ (sym e ∙ t)
+
+pub digit_refused : (x : ℕ) (r : Bool) → r ≡ is_ascii_digit x → r ≡ false → digit x ≡ false
+digit_refused x r e t = sym (std-digit x) ∙ (sym e ∙ t)
 
 -- ---- a numeral by its last digit
 

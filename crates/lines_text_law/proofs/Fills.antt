@@ -4,12 +4,13 @@ use native.Mathlib.Omega.{arith}
 use native.Mathlib.Nat.{add-zero}
 use native.Mathlib.Numerals.{add-one}
 use mathlib.Core.Path.{◌≡◌, refl, sym, ap, ◌∙◌}
-use mathlib.Core.Bool.{true, false}
+use mathlib.Core.Bool.{Bool, true, ◌&&◌}
+use Rattle.std.specs.List.{list_all}
 use mathlib.Core.List.{List, [], ◌∷◌, ◌++◌, append_assoc}
 use lib.ListN.{length, get_or, take, drop, set, length-append, drop_of_length-le}
 use lib.Seq.{drop-cons, drop-drop, get_or-drop}
 use lib.Dec.{eqb, leb}
-use borrow.Author.Tests.{eq-eqb, ne_eqb, le-leb, lt-leb, leb-true}
+use borrow.Author.Tests.{eq-eqb, ne_eqb, le-leb, leb-true}
 use Rattle.terms.specs.Sizes.{written_most}
 use Rattle.terms.proofs.Logic.{cases, split, join}
 use Rattle.lines_text_law.specs.Numerals.{numeral, all_writable}
@@ -44,19 +45,14 @@ unfolding all_writable
 writable_tested [] w = refl
 writable_tested (n ∷ ns) w = join (leb n written_most) (all_writable ns) (le-leb n written_most w.0) (writable_tested ns w.1)
 
--- the turns of the loop that tests the numbers
-module _ (ns : List ℕ) (i : ℕ) where
-  pub writable-end : length ns ≤ i → all_writable (drop i ns) ≡ true
-  unfolding all_writable
-  writable-end h = rw (drop_of_length-le ns h)
+-- the test of each number by itself
+abbrev pub writable : ℕ → Bool
+writable n = leb n written_most
 
-  pub writable-not : i < length ns → written_most < get_or ns i 0 → all_writable (drop i ns) ≡ false
-  unfolding all_writable
-  writable-not h k = rw (drop-cons ns i 0 h, lt-leb (get_or ns i 0) written_most k)
-
-  pub writable_turn : i < length ns → get_or ns i 0 ≤ written_most → all_writable (drop i ns) ≡ all_writable (drop (i + 1) ns)
-  unfolding all_writable
-  writable_turn h k = rw (drop-cons ns i 0 h, le-leb (get_or ns i 0) written_most k, add-one i)
+pub writable-all : (ns : List ℕ) → list_all writable ns ≡ all_writable ns
+unfolding all_writable
+writable-all [] = refl
+writable-all (n ∷ ns) = ap (λ (x : Bool). writable n && x) (writable-all ns)
 
 -- ---- forms
 

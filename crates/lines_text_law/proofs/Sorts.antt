@@ -1,13 +1,17 @@
 -- What holds of every sort of line that a plain grammar spells.
 use Prim.Native.Nat.{ℕ, ◌≤◌, ◌<◌}
 use native.Mathlib.Omega.{arith}
-use mathlib.Core.Path.{◌≡◌, refl, subst}
+use mathlib.Core.Path.{◌≡◌, refl, subst, ap, ◌∙◌}
 use mathlib.Core.List.{List, [], ◌++◌}
 use lib.ListN.{length, take, drop, length-take, take-append-drop}
 use lib.Seq.{take-take, take_all}
+use Rattle.std.specs.Prelude.{Result, Ok, Err}
 use Rattle.terms.specs.Numbers.{Writable}
+use Rattle.lines_text_law.specs.declared.LineError.{LineError}
+use Rattle.lines_text_law.specs.declared.LineError.TheVariants.{Unfinished, Wrong}
+use Rattle.lines_text_law.specs.declared.Parsed.{Parsed}
 use Rattle.lines_text_law.specs.Grammar.{Grammar, LineAnswer, whole, unfinished, wrong, look}
-use Rattle.lines_text_law.specs.Reading.{LineOf, Begins, Contains, Right, ReadAs}
+use Rattle.lines_text_law.specs.Reading.{failed, answered, LineOf, Begins, Contains, Right, ReadAs}
 use Rattle.lines_text_law.proofs.Grammars.{Spells, Plain, Agrees, agreed}
 use Rattle.lines_text_law.proofs.Rightness.{right, one, read_back, apart}
 use Rattle.lines_text_law.proofs.Longer.{right_longer}
@@ -58,6 +62,21 @@ not-whole p q = let z : ◌≡◌ {A = ℕ} 0 1 = cc in omega arith
 
 pub not-wrong : {E : Type 0} {o : LineAnswer E} {n : ℕ} → o ≡ wrong n → o ≡ unfinished → ⊥
 not-wrong p q = let z : ◌≡◌ {A = ℕ} 0 1 = cc in omega arith
+
+-- ---- what code returned, as the answer that it stands for
+
+module _ {E : Type 0} {r : Result (Parsed E) LineError} where
+  pub whole-read : {p : Parsed E} → r ≡ Ok p → answered r ≡ whole p.value p.next
+  whole-read q = ap answered q
+
+  pub unfinished-read : {e : LineError} → r ≡ Err e → e ≡ Unfinished → answered r ≡ unfinished
+  unfinished-read q k = ap answered q ∙ ap failed k
+
+  pub wrong-read : {e : LineError} {n : ℕ} → r ≡ Err e → e ≡ Wrong n → answered r ≡ wrong n
+  wrong-read q k = ap answered q ∙ ap failed k
+
+-- rules for `search` where code has read a line
+pub ruleset read-line = (whole-read, unfinished-read, wrong-read)
 
 -- ---- what follows for a reader
 

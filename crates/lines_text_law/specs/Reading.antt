@@ -1,7 +1,19 @@
 -- Document 01, "Session lines": what the right answer about some bytes is, once it is said which bytes are the line of which value.
-use Rattle.std.specs.Prelude.{ℕ, ◌≤◌, ◌<◌, ◌≡◌, List, ◌++◌, length, take}
+use Rattle.std.specs.Prelude.{ℕ, ◌≤◌, ◌<◌, ◌≡◌, List, ◌++◌, length, take, Result, Ok, Err}
 use Rattle.terms.specs.Numbers.{Writable}
+use Rattle.lines_text_law.specs.declared.LineError.{LineError}
+use Rattle.lines_text_law.specs.declared.LineError.TheVariants.{Unfinished, Wrong}
+use Rattle.lines_text_law.specs.declared.Parsed.{Parsed}
 use Rattle.lines_text_law.specs.Grammar.{LineAnswer, whole, unfinished, wrong}
+
+-- what code returns, as the answer that it stands for
+abbrev pub failed : {E : Type 0} → LineError → LineAnswer E
+failed Unfinished = unfinished
+failed (Wrong n) = wrong n
+
+abbrev pub answered : {E : Type 0} → Result (Parsed E) LineError → LineAnswer E
+answered (Ok p) = whole p.value p.next
+answered (Err e) = failed e
 
 -- which bytes are the line of which value: those that are written, provided that each number can be
 abbrev pub LineOf : {E : Type 0} → (E → List ℕ) → (E → List ℕ) → E → List ℕ → Type 0

@@ -4,20 +4,18 @@
 
 #![tactic(auto)]
 
-// What reading a word finds: the place after it, that the bytes end within it, or the place of the first byte that is wrong.
-#[derive(Clone, Copy)]
-pub enum Reached {
-    To(usize),
-    Short,
+// Why nothing was read: the bytes end within it, or the place of the first byte that is wrong.
+#[derive(Clone, Copy, Debug, PartialEq, Eq)]
+pub enum LineError {
+    Unfinished,
     Wrong(usize),
 }
 
-// What reading a number finds: its value and the place after it, that the bytes end within it, or the place of the first wrong byte.
+// A value that was read, and the place after it.
 #[derive(Clone, Copy)]
-pub enum Found {
-    Value { value: u64, next: usize },
-    Short,
-    Wrong(usize),
+pub struct Parsed<T> {
+    pub value: T,
+    pub next: usize,
 }
 
 // Where writing stands: the next place of the room, and how many numbers were used.

@@ -4,21 +4,20 @@ ghost use Rattle.lines_writing_law.specs.Writes.{WritesForm, Formed};
 
 use lines_text::room;
 use lines_text_law::Spot;
-use lines_writing_law::Wrote;
 use terms::{Refusal, sizes};
 
-pub fn write(head: &[u8], tail: &[u8], numbers: &[u64], line: &mut [u8]) -> Wrote
+pub fn write(head: &[u8], tail: &[u8], numbers: &[u64], line: &mut [u8]) -> Result<usize, Refusal>
     requires { Formed head.now tail.now numbers.now }
     ensures { WritesForm line.old (head.now ++ tail.now) numbers.now result line.new }
 {
     if line.len() < sizes::LINE {
-        return Wrote::Refused(Refusal::SmallLineRoom);
+        return Err(Refusal::SmallLineRoom);
     }
     if !room::all_writable(numbers) {
-        return Wrote::Refused(Refusal::NumberLong);
+        return Err(Refusal::NumberLong);
     }
     let start = Spot { at: 0, used: 0 };
     let middle = room::put_form(line, start, head, numbers);
     let end = room::put_form(line, middle, tail, numbers);
-    Wrote::Written(end.at)
+    Ok(end.at)
 }

@@ -13,11 +13,10 @@ ghost use Rattle.lines_reading_law.specs.Lines.{act_head, numbers_form, settings
 ghost use Rattle.lines_writing_law.specs.Lines.{order_figures};
 ghost use Rattle.lines_writing_law.specs.Writes.{Writes, WritesForm, Formed};
 
-use lines_writing_law::Wrote;
-use terms::{Act, Category, Entry, Event, Kind, Life, Settings, Side};
+use terms::{Act, Category, Entry, Event, Kind, Life, Refusal, Settings, Side};
 
 // Writes an order behind the head of its line, which names the side; the head is short and has a place for the time.
-fn write_order(head: &[u8], time: u64, o: Entry, room: &mut [u8]) -> Wrote
+fn write_order(head: &[u8], time: u64, o: Entry, room: &mut [u8]) -> Result<usize, Refusal>
     requires { (holes head.now ≡ 1) × (longest head.now ≤ 32) }
     ensures { WritesForm room.old (head.now ++ order_form o.kind o.life) (order_figures time o) result room.new }
 {
@@ -58,7 +57,7 @@ fn write_order(head: &[u8], time: u64, o: Entry, room: &mut [u8]) -> Wrote
 }
 
 // Writes the line of an act that is no order.
-fn act_line(tail: &[u8], numbers: &[u64], room: &mut [u8]) -> Wrote
+fn act_line(tail: &[u8], numbers: &[u64], room: &mut [u8]) -> Result<usize, Refusal>
     requires { Formed act_head tail.now numbers.now }
     ensures { WritesForm room.old (act_head ++ tail.now) numbers.now result room.new }
 {
@@ -66,7 +65,7 @@ fn act_line(tail: &[u8], numbers: &[u64], room: &mut [u8]) -> Wrote
 }
 
 // Writes the line of an event.
-pub fn write_event(event: Event, room: &mut [u8]) -> Wrote
+pub fn write_event(event: Event, room: &mut [u8]) -> Result<usize, Refusal>
     ensures { Writes room.old (render_event event) (event_figures event) result room.new }
 {
     let time = event.time;
@@ -99,7 +98,7 @@ pub fn write_event(event: Event, room: &mut [u8]) -> Wrote
 }
 
 // Writes the numbers of settings behind the head of their line, which names the category; the head is short and has no place for a number.
-fn write_numbers(head: &[u8], g: Settings, room: &mut [u8]) -> Wrote
+fn write_numbers(head: &[u8], g: Settings, room: &mut [u8]) -> Result<usize, Refusal>
     requires { (holes head.now ≡ 0) × (longest head.now ≤ 16) }
     ensures { WritesForm room.old (head.now ++ numbers_form) (settings_figures g) result room.new }
 {
@@ -113,7 +112,7 @@ fn write_numbers(head: &[u8], g: Settings, room: &mut [u8]) -> Wrote
 }
 
 // Writes the line of settings.
-pub fn write_settings(settings: Settings, room: &mut [u8]) -> Wrote
+pub fn write_settings(settings: Settings, room: &mut [u8]) -> Result<usize, Refusal>
     ensures { Writes room.old (render_settings settings) (settings_figures settings) result room.new }
 {
     let category = settings.category;

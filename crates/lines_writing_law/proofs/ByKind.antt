@@ -3,6 +3,7 @@ use Prim.Native.Nat.{ℕ}
 use mathlib.Core.Path.{◌≡◌}
 use mathlib.Core.List.{List, [], ◌∷◌, ◌++◌}
 use Rattle.std.specs.Option.{option_to_list}
+use Rattle.std.specs.Prelude.{Result}
 use Rattle.terms.specs.declared.Act.{Act}
 use Rattle.terms.specs.declared.Act.TheVariants.{Enter}
 use Rattle.terms.specs.declared.Category.{Category}
@@ -23,11 +24,10 @@ use Rattle.terms.specs.Carried.{limit_of}
 use Rattle.lines_text_law.specs.Text.{bytes}
 use Rattle.lines_text_law.specs.Forms.{holes}
 use Rattle.lines_reading_law.specs.Lines.{act_head, side_word, order_form, act_figures, event_form, event_figures, render_event, settings_form, settings_figures, render_settings}
-use Rattle.lines_writing_law.specs.declared.Wrote.{Wrote}
 use Rattle.lines_writing_law.specs.Lines.{order_figures, said_figures, said_head, report_form, report_figures, render_report, refused_figures, render_refused, bad_figures, render_bad}
 use Rattle.lines_writing_law.specs.Writes.{Writes, WritesForm}
 
-module _ {d d' : List ℕ} {r : Wrote} where
+module _ {d d' : List ℕ} {r : Result ℕ Refusal} where
   pub by_order : (head : List ℕ) (time : ℕ) (o : Entry) (kind : Kind) (life : Life) → o.kind ≡ kind → o.life ≡ life
       → WritesForm d (head ++ order_form kind life) (time ∷ o.lots ∷ option_to_list (limit_of kind)) r d'
       → WritesForm d (head ++ order_form o.kind o.life) (order_figures time o) r d'

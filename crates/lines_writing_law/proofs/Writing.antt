@@ -8,6 +8,7 @@ use mathlib.Core.List.{List, ◌++◌}
 use lib.ListN.{length, drop}
 use borrow.Author.Rules.{rules}
 use borrow.Author.Tests.{le-leb, lt-leb, not-true, not-false}
+use Rattle.std.specs.Prelude.{Ok, Err}
 use Rattle.terms.specs.declared.Refusal.TheVariants.{SmallLineRoom, NumberLong}
 use Rattle.terms.specs.Sizes.{line_room}
 use Rattle.terms.specs.Refusals.{first_failed}
@@ -18,25 +19,24 @@ use Rattle.lines_text_law.specs.declared.Spot.{Spot}
 use Rattle.lines_text_law.specs.code.Room.{Put, PutFrom, Fits}
 use Rattle.lines_text_law.proofs.Rooms.{then}
 use Rattle.lines_text_law.proofs.Fills.{fill-length, fill-append, tested_writable}
-use Rattle.lines_writing_law.specs.declared.Wrote.{Wrote}
 use Rattle.lines_writing_law.specs.Writes.{line_verdict, Writes, Formed}
 
 -- ---- the three ways to answer
 
 module _ (d line ns : List ℕ) where
-  pub refused-room : length d < line_room → Writes d line ns (Wrote.Refused SmallLineRoom) d
+  pub refused-room : length d < line_room → Writes d line ns (Err SmallLineRoom) d
   unfolding line_verdict first_failed
   refused-room h = record { answer = rw (lt-leb line_room (length d) h); laid = rw (lt-leb line_room (length d) h) }
 
-  pub refused-number : line_room ≤ length d → all_writable ns ≡ false → Writes d line ns (Wrote.Refused NumberLong) d
+  pub refused-number : line_room ≤ length d → all_writable ns ≡ false → Writes d line ns (Err NumberLong) d
   unfolding line_verdict first_failed
   refused-number h k = record { answer = rw (le-leb line_room (length d) h, k); laid = rw (le-leb line_room (length d) h, k) }
 
-  pub written : {d' : List ℕ} {r : ℕ} → line_room ≤ length d → all_writable ns ≡ true → Put d 0 line d' r → Writes d line ns (Wrote.Written r) d'
+  pub written : {d' : List ℕ} {r : ℕ} → line_room ≤ length d → all_writable ns ≡ true → Put d 0 line d' r → Writes d line ns (Ok r) d'
   unfolding line_verdict first_failed put
   written h k p =
       record {
-        answer = rw (le-leb line_room (length d) h, k) (ap Wrote.Written (p.next ∙ zero-add (length line)));
+        answer = rw (le-leb line_room (length d) h, k) (ap Ok (p.next ∙ zero-add (length line)));
         laid = rw (le-leb line_room (length d) h, k) p.laid;
       }
 

@@ -3,12 +3,3 @@
 // read back, two reports never share a line, and the lines of settings, events and reports fit a line room.
 
 #![tactic(auto)]
-
-use terms::Refusal;
-
-// What a writer answers: the line's length, or a refusal.
-#[derive(Clone, Copy)]
-pub enum Wrote {
-    Written(usize),
-    Refused(Refusal),
-}

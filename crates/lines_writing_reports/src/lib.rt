@@ -8,11 +8,10 @@ ghost use Rattle.lines_writing_law.specs.Lines.{said_head, report_figures, rende
 ghost use Rattle.lines_writing_law.specs.Writes.{Writes, WritesForm, Formed};
 
 use lines_writing::forms;
-use lines_writing_law::Wrote;
 use terms::{Refusal, Report, Said};
 
 // Writes a line that begins as every report line does.
-fn say(tail: &[u8], numbers: &[u64], room: &mut [u8]) -> Wrote
+fn say(tail: &[u8], numbers: &[u64], room: &mut [u8]) -> Result<usize, Refusal>
     requires { Formed said_head tail.now numbers.now }
     ensures { WritesForm room.old (said_head ++ tail.now) numbers.now result room.new }
 {
@@ -20,7 +19,7 @@ fn say(tail: &[u8], numbers: &[u64], room: &mut [u8]) -> Wrote
 }
 
 // Writes the line of a report.
-pub fn write_report(report: Report, room: &mut [u8]) -> Wrote
+pub fn write_report(report: Report, room: &mut [u8]) -> Result<usize, Refusal>
     ensures { Writes room.old (render_report report) (report_figures report) result room.new }
 {
     let time = report.time;
@@ -58,7 +57,7 @@ pub fn write_report(report: Report, room: &mut [u8]) -> Wrote
 }
 
 // Writes the line that the program prints for a refused event.
-pub fn write_refused(time: u64, refusal: Refusal, room: &mut [u8]) -> Wrote
+pub fn write_refused(time: u64, refusal: Refusal, room: &mut [u8]) -> Result<usize, Refusal>
     ensures { Writes room.old (render_refused time refusal) (refused_figures time refusal) result room.new }
 {
     let numbers = [time, u64::from(refusal)];
@@ -66,7 +65,7 @@ pub fn write_refused(time: u64, refusal: Refusal, room: &mut [u8]) -> Wrote
 }
 
 // Writes the line that the program prints for a bad line, or for refused settings.
-pub fn write_bad(refusal: Refusal, place: usize, room: &mut [u8]) -> Wrote
+pub fn write_bad(refusal: Refusal, place: usize, room: &mut [u8]) -> Result<usize, Refusal>
     ensures { Writes room.old (render_bad refusal place) (bad_figures refusal place) result room.new }
 {
     let numbers = [u64::from(refusal), place as u64];

@@ -2,12 +2,13 @@
 use Prim.Native.Nat.{ℕ}
 use mathlib.Core.Path.{◌≡◌, refl, sym, ap, ◌∙◌}
 use mathlib.Core.List.{List}
-use Rattle.terms.specs.declared.Event.{Event}
-use Rattle.terms.specs.declared.Settings.{Settings}
+use Rattle.std.specs.Prelude.{Result, Ok, Err}
+use Rattle.lines_text_law.specs.declared.LineError.{LineError}
+use Rattle.lines_text_law.specs.declared.LineError.TheVariants.{Unfinished, Wrong}
+use Rattle.lines_text_law.specs.declared.Parsed.{Parsed}
+use Rattle.lines_text_law.specs.Reading.{answered}
+use Rattle.lines_text_law.specs.code.Pieces.{parsed}
 use Rattle.lines_text_law.specs.Grammar.{LineAnswer, whole, unfinished, wrong}
-use Rattle.lines_reading_law.specs.declared.ReadEvent.{ReadEvent}
-use Rattle.lines_reading_law.specs.declared.ReadSettings.{ReadSettings}
-use Rattle.lines_reading_law.specs.Answers.{event_answer, settings_answer}
 use Rattle.lines_reading_law.proofs.EventLines.{event-lines}
 use Rattle.lines_reading_law.proofs.SettingsLines.{settings-lines}
 use Rattle.records_law.proofs.Told.{told-only}
@@ -41,36 +42,27 @@ apply_determined s e buys sells room buys₁ sells₁ room₁ buys₂ sells₂ r
     }
 
 -- a reader's answer as code returns it, from the answer of the definitions
-abbrev event_back : LineAnswer Event → ReadEvent
-event_back (whole e n) = ReadEvent.Whole e n
-event_back unfinished = ReadEvent.Unfinished
-event_back (wrong n) = ReadEvent.Wrong n
+abbrev returned : {E : Type 0} → LineAnswer E → Result (Parsed E) LineError
+returned (whole e n) = Ok (parsed e n)
+returned unfinished = Err Unfinished
+returned (wrong n) = Err (Wrong n)
 
-event-same : (r : ReadEvent) → event_back (event_answer r) ≡ r
-event-same (ReadEvent.Whole e n) = refl
-event-same ReadEvent.Unfinished = refl
-event-same (ReadEvent.Wrong n) = refl
+returned-same : {E : Type 0} (r : Result (Parsed E) LineError) → returned (answered r) ≡ r
+returned-same (Ok p) = refl
+returned-same (Err Unfinished) = refl
+returned-same (Err (Wrong n)) = refl
+
+answered-one : {E : Type 0} (r r' : Result (Parsed E) LineError) → answered r ≡ answered r' → r ≡ r'
+answered-one r r' q = sym (returned-same r) ∙ (ap returned q ∙ returned-same r')
 
 pub event_read_determined : EventReadDetermined
-event_read_determined bytes r r' a b =
-    sym (event-same r) ∙ (ap event_back (event-lines.only bytes (event_answer r) (event_answer r') a.right b.right) ∙ event-same r')
-
-pub walk_determined : WalkDetermined
-walk_determined bytes place r r' e f = sym (event-same r) ∙ (ap event_back (e ∙ sym f) ∙ event-same r')
-
-abbrev settings_back : LineAnswer Settings → ReadSettings
-settings_back (whole g n) = ReadSettings.Whole g n
-settings_back unfinished = ReadSettings.Unfinished
-settings_back (wrong n) = ReadSettings.Wrong n
-
-settings-same : (r : ReadSettings) → settings_back (settings_answer r) ≡ r
-settings-same (ReadSettings.Whole g n) = refl
-settings-same ReadSettings.Unfinished = refl
-settings-same (ReadSettings.Wrong n) = refl
+event_read_determined bytes r r' a b = answered-one r r' (event-lines.only bytes (answered r) (answered r') a.right b.right)
 
 pub settings_read_determined : SettingsReadDetermined
-settings_read_determined bytes r r' a b =
-    sym (settings-same r) ∙ (ap settings_back (settings-lines.only bytes (settings_answer r) (settings_answer r') a.right b.right) ∙ settings-same r')
+settings_read_determined bytes r r' a b = answered-one r r' (settings-lines.only bytes (answered r) (answered r') a.right b.right)
+
+pub walk_determined : WalkDetermined
+walk_determined bytes place r r' e f = answered-one r r' (e ∙ sym f)
 
 pub write_determined : WriteDetermined
 write_determined room line numbers room₁ room₂ r₁ r₂ a b = writes_one a b

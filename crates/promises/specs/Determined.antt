@@ -1,5 +1,6 @@
 -- DETERMINACY: a contract allows one result for one input. Two results of a call coincide, with every lent number.
-use Rattle.std.specs.Prelude.{ℕ, ◌≡◌, List, Option}
+use Rattle.std.specs.Prelude.{ℕ, ◌≡◌, List, Option, Result}
+use Rattle.terms.specs.declared.Refusal.{Refusal}
 use Rattle.terms.specs.declared.Settings.{Settings}
 use Rattle.terms.specs.declared.Event.{Event}
 use Rattle.terms.specs.declared.Report.{Report}
@@ -13,11 +14,11 @@ use Rattle.engine_law.specs.declared.Applied.{Applied}
 use Rattle.engine_law.specs.declared.Stood.{Stood}
 use Rattle.engine_law.specs.Calls.{AppliedAs, view_call}
 use Rattle.engine_law.specs.Standings.{standing_call}
-use Rattle.lines_reading_law.specs.declared.ReadEvent.{ReadEvent}
-use Rattle.lines_reading_law.specs.declared.ReadSettings.{ReadSettings}
-use Rattle.lines_reading_law.specs.Answers.{event_answer, EventRead, SettingsRead}
+use Rattle.lines_reading_law.specs.Answers.{EventRead, SettingsRead}
+use Rattle.lines_text_law.specs.declared.LineError.{LineError}
+use Rattle.lines_text_law.specs.declared.Parsed.{Parsed}
+use Rattle.lines_text_law.specs.Reading.{answered}
 use Rattle.records_law.specs.Back.{RecordRead}
-use Rattle.lines_writing_law.specs.declared.Wrote.{Wrote}
 use Rattle.lines_writing_law.specs.Writes.{Writes}
 use Rattle.feed_law.specs.declared.Run.{Run}
 use Rattle.feed_law.specs.declared.Taken.{Taken}
@@ -60,19 +61,19 @@ ApplyDetermined =
 
 -- `lines_reading::read_event` and `lines_reading::read_settings`
 abbrev pub EventReadDetermined : Type 0
-EventReadDetermined = (bytes : List ℕ) (r r' : ReadEvent) → EventRead bytes r → EventRead bytes r' → r ≡ r'
+EventReadDetermined = (bytes : List ℕ) (r r' : Result (Parsed Event) LineError) → EventRead bytes r → EventRead bytes r' → r ≡ r'
 
 abbrev pub SettingsReadDetermined : Type 0
-SettingsReadDetermined = (bytes : List ℕ) (r r' : ReadSettings) → SettingsRead bytes r → SettingsRead bytes r' → r ≡ r'
+SettingsReadDetermined = (bytes : List ℕ) (r r' : Result (Parsed Settings) LineError) → SettingsRead bytes r → SettingsRead bytes r' → r ≡ r'
 
 -- the walker's calls: `journal::step`, `line_at`, `event_at`
 abbrev pub WalkDetermined : Type 0
 WalkDetermined =
-    (bytes : List ℕ) (place : ℕ) (r r' : ReadEvent) → event_answer r ≡ read_at bytes place → event_answer r' ≡ read_at bytes place → r ≡ r'
+    (bytes : List ℕ) (place : ℕ) (r r' : Result (Parsed Event) LineError) → answered r ≡ read_at bytes place → answered r' ≡ read_at bytes place → r ≡ r'
 
 -- every writer of lines: the answer and each byte of the room
 abbrev pub WriteDetermined : Type 0
-WriteDetermined = (room line numbers room₁ room₂ : List ℕ) (r₁ r₂ : Wrote) → Writes room line numbers r₁ room₁ → Writes room line numbers r₂ room₂ → (r₁ ≡ r₂) × (room₁ ≡ room₂)
+WriteDetermined = (room line numbers room₁ room₂ : List ℕ) (r₁ r₂ : Result ℕ Refusal) → Writes room line numbers r₁ room₁ → Writes room line numbers r₂ room₂ → (r₁ ≡ r₂) × (room₁ ≡ room₂)
 
 -- `records::read_record`
 abbrev pub RecordReadDetermined : Type 0

@@ -1,7 +1,8 @@
 -- A RUN OF CALLS: an opening and any list of calls after it, each handed the session and the tables that the last one left. Of the opening
 -- only the contract of `state::opening::begin` is known, and of a call only that of `engine::apply`. The promises of this crate are stated
 -- for such runs.
-use Rattle.std.specs.Prelude.{ℕ, ◌+◌, ◌*◌, ◌/◌, ◌≤◌, ◌≡◌, Bool, true, false, cond, List, [], ◌∷◌, ◌++◌, length, take}
+use Rattle.std.specs.Prelude.{ℕ, ◌+◌, ◌*◌, ◌/◌, ◌≤◌, ◌≡◌, Bool, true, false, cond, List, [], ◌∷◌, ◌++◌, length, take, Result}
+use Rattle.terms.specs.declared.Refusal.{Refusal}
 use Rattle.terms.specs.declared.Settings.{Settings}
 use Rattle.terms.specs.declared.Band.{Band}
 use Rattle.terms.specs.declared.Deal.{Deal}
@@ -34,7 +35,6 @@ use Rattle.engine_law.specs.Outcome.{after, told}
 use Rattle.engine_law.specs.declared.Applied.{Applied}
 use Rattle.engine_law.specs.Answers.{answer_code, answer_count, Answer}
 use Rattle.engine_law.specs.Calls.{roomy, AppliedAs, event_at, view_call}
-use Rattle.lines_writing_law.specs.declared.Wrote.{Wrote}
 use Rattle.lines_writing_law.specs.Lines.{render_report, report_figures}
 use Rattle.lines_writing_law.specs.Writes.{wrote_code, Writes}
 use Rattle.promises.specs.ClockLine.{clock_at, plain, From}
@@ -216,7 +216,7 @@ CallsWritable = ForRuns (λ g es rs h. AllWritable rs)
 -- so `lines_writing_reports::write_report` writes its line into any room of a line's length, and answers 0
 abbrev pub CallsWritten : Type 0
 CallsWritten =
-    ForRuns (λ g es rs h. (before later : List Report) (x : Report) (room room' : List ℕ) (w : Wrote) → rs ≡ before ++ (x ∷ later) →
+    ForRuns (λ g es rs h. (before later : List Report) (x : Report) (room room' : List ℕ) (w : Result ℕ Refusal) → rs ≡ before ++ (x ∷ later) →
     line_room ≤ length room → Writes room (render_report x) (report_figures x) w room' → wrote_code w ≡ 0)
 
 -- a slab report comes only after a trade at an end of the initial band; before it the band was the initial one, and it reports the enhanced

@@ -16,8 +16,8 @@ ghost use Rattle.resume_law.specs.code.Replaying.{bare_from, LaidIf, Scratch, Al
 ghost use Rattle.resume_law.specs.Calls.{all_long, Scrubbed, ResumedBy, ResumedAs, ResumedLent, resumed_to, tables_long};
 
 use engine::apply;
-use lines_reading_law::ReadSettings;
 use resume_law::{BadLine, Resumed};
+use lines_text_law::LineError;
 use state::opening;
 use state_law::Session;
 use tables::{flat, lengths};
@@ -106,11 +106,11 @@ fn rebuild(
     ensures { ResumedBy (resumed saved.now) buys.old sells.old buys.new sells.new result }
 {
     match lines_reading::read_settings(saved) {
-        ReadSettings::Whole(settings, first) => from_settings(
-            settings, first, saved, buys, sells, bought, sold, room,
+        Ok(line) => from_settings(
+            line.value, line.next, saved, buys, sells, bought, sold, room,
         ),
-        ReadSettings::Unfinished => turned_down(Refusal::LineUnfinished, 0),
-        ReadSettings::Wrong(place) => turned_down(Refusal::LineWrong, place),
+        Err(LineError::Unfinished) => turned_down(Refusal::LineUnfinished, 0),
+        Err(LineError::Wrong(place)) => turned_down(Refusal::LineWrong, place),
     }
 }
 

@@ -12,8 +12,8 @@ ghost use Rattle.resume_law.specs.code.Replaying.{AppliedLong, line_for, line_re
 
 use engine::apply;
 use engine_law::{Answer, Applied};
-use lines_reading_law::ReadEvent;
 use resume_law::{BadLine, Comeback, Halt, Halted, LineReplayed, Replayed, SavedLine};
+use lines_text_law::LineError;
 use state::opening;
 use state_law::Session;
 use terms::{Event, Refusal};
@@ -84,9 +84,9 @@ fn replay_line(
     ensures { LineTold session bytes.now buys.old sells.old buys.new sells.new result }
 {
     match lines_reading::read_event(bytes) {
-        ReadEvent::Whole(event, used) => replay_event(session, event, used, buys, sells, room),
-        ReadEvent::Unfinished => line_replayed(Err(Halt::Unfinished), session),
-        ReadEvent::Wrong(place) => line_replayed(Err(Halt::Wrong(place)), session),
+        Ok(line) => replay_event(session, line.value, line.next, buys, sells, room),
+        Err(LineError::Unfinished) => line_replayed(Err(Halt::Unfinished), session),
+        Err(LineError::Wrong(place)) => line_replayed(Err(Halt::Wrong(place)), session),
     }
 }
 

@@ -9,8 +9,8 @@ ghost use Rattle.std.specs.Prelude.{◌≡◌};
 ghost use Rattle.engine_law.specs.Calls.{LongEnough};
 ghost use Rattle.resume_law.specs.Pieces.{back_to, unread_back, passed_to, passed_end, StartTold, StoodAs, PassedAs};
 
-use lines_reading_law::ReadEvent;
 use resume_law::{Back, BadLine, Comeback, Passed, Replayed};
+use lines_text_law::LineError;
 use state::opening;
 use state_law::Session;
 
@@ -90,11 +90,7 @@ fn stood(t: Replayed, before: usize) -> Passed
 fn is_start(bytes: &[u8]) -> bool
     ensures { StartTold bytes.now result }
 {
-    match lines_reading::read_event(bytes) {
-        ReadEvent::Whole(event, used) => false,
-        ReadEvent::Unfinished => true,
-        ReadEvent::Wrong(place) => false,
-    }
+    matches!(lines_reading::read_event(bytes), Err(LineError::Unfinished))
 }
 
 // Replays the lines of a piece, behind so many bytes of earlier ones.

@@ -20,8 +20,8 @@ ghost use Rattle.stream_back.specs.Filled.{stopped_at, coming_after, ComesOn, Re
 
 use descriptors::Got;
 use descriptors::live::Live;
-use lines_reading_law::ReadSettings;
 use resume_law::{Back, BadLine, Coming};
+use lines_text_law::LineError;
 use state::opening;
 use state_law::Session;
 use stream_law::Source;
@@ -256,13 +256,11 @@ fn from_front(
     ensures { BackBehind (Gives given.now from) (take end buf.old) buys.new sells.new result }
 {
     match lines_reading::read_settings(&buf[0..end]) {
-        ReadSettings::Whole(settings, first) => {
-            from_settings(
-                live, from, given, settings, first, end, buf, buys, sells, room,
-            )
-        }
-        ReadSettings::Unfinished => refused(Refusal::LineUnfinished, 0),
-        ReadSettings::Wrong(place) => refused(Refusal::LineWrong, place),
+        Ok(line) => from_settings(
+            live, from, given, line.value, line.next, end, buf, buys, sells, room,
+        ),
+        Err(LineError::Unfinished) => refused(Refusal::LineUnfinished, 0),
+        Err(LineError::Wrong(place)) => refused(Refusal::LineWrong, place),
     }
 }
 

@@ -1,9 +1,12 @@
--- The reader is handed the bytes from the place on, or none where the place is past the end: its answer is the answer at the place.
-use Rattle.journal.proofs.Places.{read_there, read_past}
+-- The bytes from the place on are read, or none where the place is past their end.
+use mathlib.Core.Path.{refl, ap, ◌∙◌}
+use denote.Ref.{Bor}
+use mathlib.Core.List.{List}
+use Rattle.std.proofs.Common.{ℕ}
+use Rattle.journal.proofs.Places.{rest_is, read_there}
 use Rattle.journal.proofs.event_at.Goals as goal
 
-pub returns-then-bytes-at : goal.returns-then-bytes-at
-returns-then-bytes-at c = search read_past
-
 pub returns : goal.returns
-returns c = search read_there
+returns c =
+    let rest = ap (λ (x : Bor (List ℕ)). x.now) c.unwrap_or.ensures ∙ rest_is _ _ c.get.result _ refl c.get.ensures.lookup in
+    read_there _ _ _ _ rest c.read_event.ensures

@@ -1,10 +1,10 @@
 -- By how the bytes are read.
-use Rattle.lines_reading_law.proofs.EventLines.{read-event}
+use Rattle.lines_text_law.proofs.Sorts.{read-line}
 use Rattle.resume_law.proofs.Standings.{start-whole, start-unfinished, start-wrong}
 use borrow.Author.Rules.{rules}
 use Rattle.resume_pieces.proofs.is_start.Goals as goal
 
-ruleset answers = (rules, read-event, start-whole, start-unfinished, start-wrong)
+ruleset answers = (rules, read-line, start-whole, start-unfinished, start-wrong)
 
 pub returns-in-Whole : goal.returns-in-Whole
 returns-in-Whole c = search answers

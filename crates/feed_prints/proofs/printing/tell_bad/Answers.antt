@@ -6,4 +6,4 @@ use Rattle.feed_prints.proofs.printing.tell_bad.Goals as goal
 
 pub returns : goal.returns
 unfolding bad_text
-returns c = writes_prints (search rules) c.write_bad.ensures _ c.length_of.ensures
+returns c = writes_prints (search rules) c.write_bad.ensures _ c.unwrap_or.ensures

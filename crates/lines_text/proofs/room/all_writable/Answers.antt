@@ -1,23 +1,12 @@
--- At each turn, the numbers left decide what all of them decide: that is what the loop keeps.
-use native.Mathlib.Omega.{arith}
-use mathlib.Core.Path.{◌∙◌, sym}
-use Rattle.lines_text_law.proofs.Fills.{writable-end, writable-not, writable_turn}
+-- The call goes through the numbers as the definition does.
+use mathlib.Core.Path.{◌∙◌}
+use Rattle.std.proofs.Common.{rules, tests}
+use Rattle.std.proofs.lemmas.Iterator.{YieldsList-from_slice}
+use Rattle.std.proofs.lemmas.Iterator.Search.{all_from_yields_List}
+use Rattle.lines_text_law.proofs.Fills.{writable, writable-all}
 use Rattle.lines_text.proofs.room.all_writable.Goals as goal
-
-pub returns-then-numbers-i-gt-DIGITS : goal.returns-then-numbers-i-gt-DIGITS
-returns-then-numbers-i-gt-DIGITS c =
-    let a = c.args in
-    let l = c.loop-i in
-    sym (l.invariant.1 ∙ writable-not a.numbers.now l.i (omega arith) (omega arith))
-
-pub loop-i-preserved : goal.loop-i-preserved
-loop-i-preserved c =
-    let a = c.args in
-    let l = c.loop-i in
-    (omega arith, l.invariant.1 ∙ writable_turn a.numbers.now l.i (omega arith) (omega arith))
 
 pub returns : goal.returns
 returns c =
-    let a = c.args in
-    let l = c.loop-i in
-    sym (l.invariant.1 ∙ writable-end a.numbers.now l.i (omega arith))
+    let ns = c.args.numbers.now in
+    all_from_yields_List writable _ _ _ c.all.ensures.ran (YieldsList-from_slice ns cc) (λ x b q k. search (rules, tests)) ∙ writable-all ns

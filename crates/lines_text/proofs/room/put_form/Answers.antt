@@ -8,8 +8,8 @@ ruleset answers = (rules, left-all, left-fits, left_turn, left-none)
 pub put_piece-spot-requires : goal.put_piece-spot-requires
 put_piece-spot-requires c = search answers
 
-pub loop-i-preserved : goal.loop-i-preserved
-loop-i-preserved c = search answers
+pub loop-b-preserved : goal.loop-b-preserved
+loop-b-preserved c = search answers
 
 pub returns : goal.returns
 returns c = search answers
