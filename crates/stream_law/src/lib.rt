@@ -89,10 +89,9 @@ pub struct Buffered {
     pub reading: Reading,
 }
 
-// How a day that is kept ended: its file could not be opened, or not be read; or it ran, and how that ended.
-#[derive(Clone, Copy)]
-pub enum Kept {
+// Why a day was not kept: its file could not be opened, or not be read.
+#[derive(Clone, Copy, Debug, PartialEq, Eq)]
+pub enum NotKept {
     NotOpened,
     NotRead,
-    Ran(Finish),
 }
