@@ -18,37 +18,6 @@ use Rattle.stream_law.specs.Sources.{Gives, Leads}
 use Rattle.stream_source.specs.declared.Read.{Read}
 use Rattle.stream_source.specs.Reads.{read_to, CopiedAs, StandsBy, ReadAs}
 
--- ---- a copy, byte by byte
-
--- the first i bytes were copied
-pub record Copied (given : List ℕ) (at i : ℕ) (buf₀ buf : List ℕ) : Type 0 where
-  pub same : length buf ≡ length buf₀
-  pub front : take i buf ≡ take i (drop at given)
-
-pub copied_start : (given : List ℕ) (at : ℕ) (buf : List ℕ) → Copied given at 0 buf buf
-copied_start given at buf = record { same = refl; front = refl }
-
-pub copied_on : {given : List ℕ} {at i v : ℕ} {buf₀ buf : List ℕ} → Copied given at i buf₀ buf → i < length buf → at + i < length given →
-    v ≡ get_or given (at + i) 0 → Copied given at (i + 1) buf₀ (set buf i v)
-copied_on {given} {at} {i} {v} {buf₀} {buf} c here there e =
-    let l : i < length (drop at given) = rw (length-drop at given) (omega arith) in
-    record {
-      same = length-set buf i v ∙ c.same;
-      front =
-          rw (add-one i)
-          (take-suc-set buf i v here
-          ∙ (λ j. c.front j ++ ((e ∙ sym (get_or-drop at given i 0)) j ∷ []))
-          ∙ sym (take-suc (drop at given) i 0 l));
-    }
-
-pub copied_all : {given : List ℕ} {at n i : ℕ} {buf₀ buf : List ℕ} → Copied given at i buf₀ buf → n ≡ min (length given - at) (length buf₀) → i ≡ n →
-    CopiedAs given at buf n
-copied_all {given} {at} {n} {i} {buf₀} {buf} c e h =
-    record {
-      count = e ∙ ap (min (length given - at)) (sym c.same);
-      front = subst (λ (k : ℕ). take k buf ≡ take k (drop at given)) h c.front;
-    }
-
 -- ---- what a copy is for a source
 
 module _ {given : List ℕ} {at : ℕ} {room' : List ℕ} {n : ℕ} (c : CopiedAs given at room' n) where
@@ -105,25 +74,3 @@ module _ {given : List ℕ} {at : ℕ} {room' : List ℕ} {n : ℕ} (c : CopiedA
         leads = record { behind = λ rest whole g. g };
         stands = none_left h z ∙ ap (λ (k : ℕ). drop k given) at-end;
       })
-
--- ---- by which source it is
-
-module _ {given room' : List ℕ} {from : Source} {r : Read} where
-  pub some-text : {at : ℕ} → from ≡ Source.Text at → ReadAs given (Source.Text at) room' r → ReadAs given from room' r
-  some-text e k = rw e k
-
-  pub some-broken : {at : ℕ} → from ≡ Source.Broken at → ReadAs given (Source.Broken at) room' r → ReadAs given from room' r
-  some-broken e k = rw e k
-
-  -- of a descriptor nothing is known of what it gives
-  pub some_live : {fd fd' : ℤ} {most : ℕ} {g : Result ℕ Failed} → from ≡ Source.Live fd → GotWithin most g → length room' ≡ most →
-      r ≡ read_to g (Source.Live fd') → ReadAs given from room' r
-  some_live {fd} {fd'} {most} {g} e h l q =
-      rw e
-      (subst (ReadAs given (Source.Live fd) room') (sym q)
-      (record { within = subst (λ (n : ℕ). GotWithin n g) (sym l) h; leads = record { behind = λ rest whole k. tt }; stands = stands g }))
-    where
-      stands : (x : Result ℕ Failed) → StandsBy given (Source.Live fd') x
-      stands (Ok zero) = tt
-      stands (Ok (suc n)) = tt
-      stands (Err e) = tt
