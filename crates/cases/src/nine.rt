@@ -16,10 +16,6 @@ pub struct Word {
 // Stands in the input for the greatest 64-bit number, which has one digit more.
 const GREATEST: u64 = 9_999_999_999_999_999_999;
 
-fn byte(b: u8) -> u64 {
-    b as u64
-}
-
 fn meant(x: u64) -> u64 {
     if x == GREATEST {
         return u64::MAX;
@@ -32,22 +28,20 @@ fn read(text: &[u8], from: usize) -> Word
     requires { from ≤ length text.now }
     ensures { (from ≤ result.next) × (result.next ≤ length text.now) }
 {
-    let mut at = from;
     let mut value: u64 = 0;
-    while at < text.len() {
-        let d = byte(text[at]);
-        at += 1;
+    for at in from..text.len() {
+        let d = u64::from(text[at]);
         if d < 48 {
             return Word {
-                value: value,
-                next: at,
+                value,
+                next: at + 1,
             };
         }
         value = value % 1_000_000_000_000_000_000 * 10 + (d - 48) % 10;
     }
     Word {
-        value: value,
-        next: at,
+        value,
+        next: text.len(),
     }
 }
 
@@ -67,7 +61,7 @@ pub fn nine(text: &[u8], from: usize) -> Line
         at += 1;
     }
     Line {
-        words: words,
+        words,
         next: at,
     }
 }

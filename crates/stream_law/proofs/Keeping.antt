@@ -80,7 +80,7 @@ module _ {expected : List ℕ} {gives : List ℕ → Bool → Type 0} {to cut : 
 -- ---- a bad line is told
 
 pub bad_told : {expected out out' : List ℕ} {to s : Sink} {q : Refusal} {place : ℕ} {n : ℕ} {r : Finish} → BadLaid q place out n out' →
-    SentAs expected to (shown_part (take (n - 0) out')) s → r ≡ finish_of expected s → BadTold expected to q place r
+    SentAs expected to (shown_part (take n out')) s → r ≡ finish_of expected s → BadTold expected to q place r
 bad_told {expected} {to = to} {s = s} p h e =
     record {
       told = record { sink = s; sent = subst (λ (x : List ℕ). SentAs expected to (shown_part x) s) (room-text p.printed) h; finish = e };
