@@ -138,7 +138,14 @@ fn next_piece(
         };
     }
     read_rest(
-        live, from, given, p.used, h.have, p.before, p.back.session, buf,
+        live,
+        from,
+        given,
+        p.used,
+        h.have,
+        p.before,
+        p.back.session,
+        buf,
     )
 }
 
