@@ -27,48 +27,32 @@ pub fn none() -> Count {
 
 // Says how a case ended, and counts it.
 pub fn tell(told: Ending, count: Count) -> Count {
-    let right = count.right;
-    let wrong = count.wrong;
-    let unread = count.unread;
+    let mut after = count;
     match told {
         Ending::Right => {
             io::write_all(1, b" right\n");
-            Count {
-                right: std::num::wrapping_add_u64(right, 1),
-                wrong: wrong,
-                unread: unread,
-            }
+            after.right = count.right.wrapping_add(1);
         }
         Ending::Wrong => {
             io::write_all(1, b" WRONG\n");
-            Count {
-                right: right,
-                wrong: std::num::wrapping_add_u64(wrong, 1),
-                unread: unread,
-            }
+            after.wrong = count.wrong.wrapping_add(1);
         }
         Ending::Unread => {
             io::write_all(1, b" UNREAD\n");
-            Count {
-                right: right,
-                wrong: wrong,
-                unread: std::num::wrapping_add_u64(unread, 1),
-            }
+            after.unread = count.unread.wrapping_add(1);
         }
     }
+    after
 }
 
 // Prints the last line: how many cases, as a program calls them, ended in each way.
 pub fn total(count: Count, cases: &[u8]) {
-    let right = count.right;
-    let wrong = count.wrong;
-    let unread = count.unread;
-    io::print_decimal(1, right);
+    io::print_decimal(1, count.right);
     io::write_all(1, b" ");
     io::write_all(1, cases);
     io::write_all(1, b" right, ");
-    io::print_decimal(1, wrong);
+    io::print_decimal(1, count.wrong);
     io::write_all(1, b" wrong, ");
-    io::print_decimal(1, unread);
+    io::print_decimal(1, count.unread);
     io::write_all(1, b" unread\n");
 }

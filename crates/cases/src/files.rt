@@ -1,17 +1,20 @@
 // The files of a case, by its name.
-ghost use Rattle.std.specs.Prelude.{◌+◌, ◌≤◌, length};
+ghost use Rattle.std.specs.Prelude.{◌+◌, ◌≤◌, ◌≡◌, length, IfSome};
 
+use descriptors::Failed;
 use descriptors::live::Live;
 
-// Puts an ending behind the first n bytes of a path.
-fn end_with(path: &mut [u8], n: usize, ending: &[u8])
-    requires { n + length ending.now ≤ length path.old }
+// Puts an ending behind the first n bytes of a path. Answers how many bytes it has then, if they fit.
+pub fn end_with(path: &mut [u8], n: usize, ending: &[u8]) -> Option<usize>
+    ensures ends { IfSome result (λ end. (end ≡ n + length ending.now) × (end ≤ length path.new)) }
+    ensures same { length path.new ≡ length path.old }
 {
-    let mut i: usize = 0;
-    while i < ending.len() {
-        path[n + i] = ending[i];
-        i += 1;
+    if path.len() < n || path.len() - n < ending.len() {
+        return None;
     }
+    let end = n + ending.len();
+    path[n..end].copy_from_slice(ending);
+    Some(end)
 }
 
 // Opens a file of a case: its name is the first n bytes of a path, followed by an ending.
@@ -21,14 +24,14 @@ pub fn open_file(
     path: &mut [u8],
     n: usize,
     ending: &[u8],
-) -> i32 {
-    if path.len() < n {
-        return -1;
+) -> Result<i32, Failed> {
+    let end = end_with(path, n, ending).ok_or(Failed)?;
+    live.open_read(rt, &path[..end])
+}
+
+// Closes a file that was opened.
+pub fn close(live: &mut Live, opened: Result<i32, Failed>) {
+    if let Ok(fd) = opened {
+        live.close(fd);
     }
-    if path.len() - n < ending.len() {
-        return -1;
-    }
-    let end = n + ending.len();
-    end_with(path, n, ending);
-    live.open_read(rt, &path[0..end])
 }

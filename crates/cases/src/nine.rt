@@ -17,10 +17,10 @@ pub struct Word {
 const GREATEST: u64 = 9_999_999_999_999_999_999;
 
 fn meant(x: u64) -> u64 {
-    match x {
-        GREATEST => u64::MAX,
-        _ => x,
+    if x == GREATEST {
+        return u64::MAX;
     }
+    x
 }
 
 // The number that begins at a place, up to a byte below the digit 0, such as a space; the next number begins behind that byte.
@@ -28,17 +28,21 @@ fn read(text: &[u8], from: usize) -> Word
     requires { from ≤ length text.now }
     ensures { (from ≤ result.next) × (result.next ≤ length text.now) }
 {
-    let mut at = from;
     let mut value: u64 = 0;
-    while at < text.len() {
+    for at in from..text.len() {
         let d = u64::from(text[at]);
-        at += 1;
         if d < 48 {
-            return Word { value, next: at };
+            return Word {
+                value,
+                next: at + 1,
+            };
         }
         value = value % 1_000_000_000_000_000_000 * 10 + (d - 48) % 10;
     }
-    Word { value, next: at }
+    Word {
+        value,
+        next: text.len(),
+    }
 }
 
 // The next nine numbers; those that are missing are 0.
@@ -56,5 +60,8 @@ pub fn nine(text: &[u8], from: usize) -> Line
     if at == from {
         at += 1;
     }
-    Line { words, next: at }
+    Line {
+        words,
+        next: at,
+    }
 }

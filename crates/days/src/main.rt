@@ -6,7 +6,7 @@
 use cases::counts::{Count, Ending};
 use cases::{counts, files};
 use descriptors::live::Live;
-use descriptors::{Load, args, reading};
+use descriptors::{Failed, LoadError, args, reading};
 use feed::lines;
 use stream_law::Finish;
 
@@ -16,41 +16,38 @@ const EXPECTED: usize = lines::TEXT * 4;
 // The room for a day's input; a longer one counts as unreadable.
 const INPUT: usize = 131_072;
 
-// Compares all that a day prints with all of an expected output.
-fn hold_to(live: &Live, given: &[u8], expected: i32, room: &mut [u8]) -> Finish {
-    match reading::read_whole(live, expected, room) {
-        Load::Whole(n) => stream::compare(given, &room[0..n]),
-        Load::TooLong => Finish::Unread,
-        Load::Failed => Finish::Unread,
-    }
-}
-
-// Reads a day's input, and goes on to its expected output.
-fn hold(live: &Live, input: i32, expected: i32, text: &mut [u8], room: &mut [u8]) -> Finish {
-    match reading::read_whole(live, input, text) {
-        Load::Whole(n) => hold_to(live, &text[0..n], expected, room),
-        Load::TooLong => Finish::Unread,
-        Load::Failed => Finish::Unread,
-    }
-}
-
-// Runs the day of two open files, with a room for each.
-fn run(live: &mut Live, input: i32, expected: i32) -> Finish {
-    let mut text = [0u8; INPUT];
-    let mut room = [0u8; EXPECTED];
-    let told = hold(live, input, expected, &mut text, &mut room);
-    live.close(input);
-    live.close(expected);
-    told
+// Reads a day's input and an expected output, and compares all that the day prints with all of that.
+fn hold(
+    live: &Live,
+    input: Result<i32, Failed>,
+    expected: Result<i32, Failed>,
+    text: &mut [u8],
+    room: &mut [u8],
+) -> Result<Finish, LoadError> {
+    let n = reading::read_whole(live, input?, text)?;
+    let m = reading::read_whole(live, expected?, room)?;
+    Ok(stream::compare(&text[..n], &room[..m]))
 }
 
 // How a day's case ended.
-fn ending(told: Finish) -> Ending {
+fn ending(told: Result<Finish, LoadError>) -> Ending {
     match told {
-        Finish::Same => Ending::Right,
-        Finish::Differs => Ending::Wrong,
-        Finish::Unread | Finish::Printed | Finish::Unsaved | Finish::Unwritten => Ending::Unread,
+        Ok(Finish::Same) => Ending::Right,
+        Ok(Finish::Differs) => Ending::Wrong,
+        Ok(Finish::Unread | Finish::Printed | Finish::Unsaved | Finish::Unwritten) | Err(_) => {
+            Ending::Unread
+        }
     }
+}
+
+// Runs the day of two files, with a room for each.
+fn run(live: &mut Live, input: Result<i32, Failed>, expected: Result<i32, Failed>) -> Ending {
+    let mut text = [0u8; INPUT];
+    let mut room = [0u8; EXPECTED];
+    let told = hold(live, input, expected, &mut text, &mut room);
+    files::close(live, input);
+    files::close(live, expected);
+    ending(told)
 }
 
 // Runs the day that an argument names, and prints a line that says how it ended.
@@ -60,18 +57,15 @@ fn day(rt: &HostRuntime, live: &mut Live, i: usize, count: Count) -> Count {
     let input = files::open_file(rt, live, &mut path, n, b".in");
     let expected = files::open_file(rt, live, &mut path, n, b".out");
     let told = run(live, input, expected);
-    io::write_all(1, &path[0..n]);
-    counts::tell(ending(told), count)
+    io::write_all(1, &path[..n]);
+    counts::tell(told, count)
 }
 
 fn main(rt: HostRuntime) {
     let mut live = Live::none();
-    let n = args::count(&rt);
     let mut count = counts::none();
-    let mut i: usize = 1;
-    while i < n {
+    for i in 1..args::count(&rt) {
         count = day(&rt, &mut live, i, count);
-        i += 1;
     }
     counts::total(count, b"days");
 }

@@ -11,140 +11,94 @@
 use cases::counts::{Count, Ending};
 use cases::{counts, files};
 use descriptors::live::Live;
-use descriptors::{Load, args, reading};
-use stream_law::{Finish, Kept};
+use descriptors::{Failed, LoadError, args, reading};
+use stream_law::{Finish, NotKept};
 
 // The room for each text; a longer one counts as unreadable.
 const TEXT: usize = 262_144;
 
+// How the comparison of a day that was kept came out; or one of the texts could not be read.
+type Told = Result<Result<Finish, NotKept>, LoadError>;
+
 // Keeps a day and compares all that is handed on with all of an expected log.
-fn compare(broken: bool, kept: &[u8], given: &[u8], expected: &[u8]) -> Kept {
+fn compare(broken: bool, kept: &[u8], given: &[u8], expected: &[u8]) -> Result<Finish, NotKept> {
     if broken {
         return stream_keep::compare_broken(kept, given, expected);
     }
     stream_keep::compare(kept, given, expected)
 }
 
-// Reads the expected log, and compares.
-fn hold_to(
-    live: &Live,
-    broken: bool,
-    kept: &[u8],
-    given: &[u8],
-    expected: i32,
-    room: &mut [u8],
-) -> Kept {
-    match reading::read_whole(live, expected, room) {
-        Load::Whole(n) => compare(broken, kept, given, &room[0..n]),
-        Load::TooLong => Kept::NotOpened,
-        Load::Failed => Kept::NotOpened,
-    }
-}
-
-// Reads the input, and goes on to the expected log.
-fn hold_behind(
-    live: &Live,
-    broken: bool,
-    kept: &[u8],
-    input: i32,
-    expected: i32,
-    text: &mut [u8],
-    room: &mut [u8],
-) -> Kept {
-    match reading::read_whole(live, input, text) {
-        Load::Whole(n) => hold_to(live, broken, kept, &text[0..n], expected, room),
-        Load::TooLong => Kept::NotOpened,
-        Load::Failed => Kept::NotOpened,
-    }
-}
-
-// Reads the file, and goes on to the input.
+// Reads the file, the input and the expected log, and compares.
 fn hold(
     live: &Live,
     broken: bool,
-    saved: i32,
-    input: i32,
-    expected: i32,
+    saved: Result<i32, Failed>,
+    input: Result<i32, Failed>,
+    expected: Result<i32, Failed>,
     file: &mut [u8],
     text: &mut [u8],
     room: &mut [u8],
-) -> Kept {
-    match reading::read_whole(live, saved, file) {
-        Load::Whole(n) => hold_behind(live, broken, &file[0..n], input, expected, text, room),
-        Load::TooLong => Kept::NotOpened,
-        Load::Failed => Kept::NotOpened,
-    }
+) -> Told {
+    let kept = reading::read_whole(live, saved?, file)?;
+    let given = reading::read_whole(live, input?, text)?;
+    let log = reading::read_whole(live, expected?, room)?;
+    Ok(compare(broken, &file[..kept], &text[..given], &room[..log]))
 }
 
-// Runs the case of three open files, with a room for each.
-fn run(live: &mut Live, broken: bool, saved: i32, input: i32, expected: i32) -> Kept {
+// Runs the case of three files, with a room for each.
+fn run(
+    live: &mut Live,
+    broken: bool,
+    saved: Result<i32, Failed>,
+    input: Result<i32, Failed>,
+    expected: Result<i32, Failed>,
+) -> Told {
     let mut file = [0u8; TEXT];
     let mut text = [0u8; TEXT];
     let mut room = [0u8; TEXT];
     let told = hold(
         live, broken, saved, input, expected, &mut file, &mut text, &mut room,
     );
-    live.close(saved);
-    live.close(input);
-    live.close(expected);
+    files::close(live, saved);
+    files::close(live, input);
+    files::close(live, expected);
     told
 }
 
-// How a day's comparison ended.
-fn compared(finish: Finish) -> Ending {
-    match finish {
-        Finish::Same => Ending::Right,
-        Finish::Differs => Ending::Wrong,
-        Finish::Unread | Finish::Printed | Finish::Unsaved | Finish::Unwritten => Ending::Unread,
-    }
-}
-
 // How a case ended: that the file could not be read is right just where a read of it fails.
-fn ending(broken: bool, told: Kept) -> Ending {
+fn ending(broken: bool, told: Told) -> Ending {
     match told {
-        Kept::NotOpened => Ending::Unread,
-        Kept::NotRead => unread(broken),
-        Kept::Ran(finish) => compared(finish),
+        Ok(Ok(Finish::Same)) => Ending::Right,
+        Ok(Ok(Finish::Differs)) => Ending::Wrong,
+        Ok(Err(NotKept::NotRead)) if broken => Ending::Right,
+        Ok(Err(NotKept::NotRead)) => Ending::Wrong,
+        _ => Ending::Unread,
     }
-}
-
-fn unread(broken: bool) -> Ending {
-    if broken {
-        return Ending::Right;
-    }
-    Ending::Wrong
 }
 
 // Whether a name says that a read of the file fails.
 fn is_broken(name: &[u8]) -> bool {
-    let word = b"broken-";
-    if name.len() < word.len() {
-        return false;
-    }
-    check::same(&name[0..word.len()], word)
+    name.starts_with(b"broken-")
 }
 
 // Runs the case that an argument names, and prints a line that says how it ended.
 fn case(rt: &HostRuntime, live: &mut Live, i: usize, count: Count) -> Count {
     let mut path = io::buffer();
     let n = args::arg(rt, i, &mut path);
-    let broken = is_broken(&path[0..n]);
+    let broken = is_broken(&path[..n]);
     let saved = files::open_file(rt, live, &mut path, n, b".day");
     let input = files::open_file(rt, live, &mut path, n, b".in");
     let expected = files::open_file(rt, live, &mut path, n, b".log");
     let told = run(live, broken, saved, input, expected);
-    io::write_all(1, &path[0..n]);
+    io::write_all(1, &path[..n]);
     counts::tell(ending(broken, told), count)
 }
 
 fn main(rt: HostRuntime) {
     let mut live = Live::none();
-    let n = args::count(&rt);
     let mut count = counts::none();
-    let mut i: usize = 1;
-    while i < n {
+    for i in 1..args::count(&rt) {
         count = case(&rt, &mut live, i, count);
-        i += 1;
     }
     counts::total(count, b"kept days");
 }

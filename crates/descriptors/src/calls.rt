@@ -1,8 +1,8 @@
 // What a call of the C library came to, and when it is made again.
-ghost use Rattle.std.specs.Prelude.{◌≡◌, length};
-ghost use Rattle.descriptors.specs.Outcomes.{passes, outcome_by, is_again};
+ghost use Rattle.std.specs.Prelude.{◌≡◌};
+ghost use Rattle.descriptors.specs.Outcomes.{passes, outcome_by, is_again, got_by, SettledAs};
 
-use crate::Outcome;
+use crate::{Failed, Unmoved};
 use std::thread;
 
 // A signal interrupted the call; the other side is not ready.
@@ -14,35 +14,45 @@ const NOT_READY: i32 = 11;
 fn passes(error: i32) -> bool
     ensures { result ≡ passes error }
 {
-    (error == INTERRUPTED) | (error == NOT_READY)
+    error == INTERRUPTED || error == NOT_READY
 }
 
-// What a call on some bytes came to, by what it answered and the error that it left.
-pub fn outcome(answer: isize, error: i32, bytes: &[u8]) -> Outcome
-    ensures { result ≡ outcome_by answer error (length bytes.now) }
+// What a call on so many bytes came to, by what it answered: how many it moved, or its error.
+fn outcome(answer: Result<usize, i32>, most: usize) -> Result<usize, Unmoved>
+    ensures { result ≡ outcome_by answer most }
 {
-    if answer >= 0 {
-        let n = io::count(answer, bytes);
-        return Outcome::Moved(n);
+    match answer {
+        Ok(count) => Ok(count.min(most)),
+        Err(error) if passes(error) => Err(Unmoved::Again),
+        Err(_) => Err(Unmoved::Failed),
     }
-    if passes(error) {
-        return Outcome::Again;
-    }
-    Outcome::Failed
 }
 
 // Whether a call is to be made again.
-pub fn is_again(outcome: Outcome) -> bool
+fn is_again(outcome: Result<usize, Unmoved>) -> bool
     ensures { result ≡ is_again outcome }
 {
-    match outcome {
-        Outcome::Moved(_) => false,
-        Outcome::Failed => false,
-        Outcome::Again => true,
-    }
+    matches!(outcome, Err(Unmoved::Again))
 }
 
-// Lets other programs run.
-pub fn pause() {
-    thread::yield_now();
+// Makes a call on so many bytes, and makes it again for as long as it is to be; other programs run between.
+pub fn settled<F: FnMut() -> Result<usize, i32>>(mut call: F, most: usize) -> Result<usize, Unmoved>
+    requires { F.IsAlwaysCallable call }
+    ensures { SettledAs most result }
+{
+    for _ in 0..u64::MAX {
+        let outcome = outcome(call(), most);
+        if !is_again(outcome) {
+            return outcome;
+        }
+        thread::yield_now();
+    }
+    Err(Unmoved::Failed)
+}
+
+// What is answered of a call: the count that it moved, or that it failed.
+pub fn got_of(outcome: Result<usize, Unmoved>) -> Result<usize, Failed>
+    ensures { result ≡ got_by outcome }
+{
+    outcome.map_err(|_| Failed)
 }

@@ -1,12 +1,13 @@
 // What a program has open: standard input and output, and the files that it opened, each by its descriptor.
-ghost use Rattle.std.specs.Prelude.{◌≡◌, ◌<◌, ◌^◌, pos, negsuc, ◌<ℤ◌, IfSome, IsErr, OnOk, OnErr};
+ghost use Rattle.std.specs.Prelude.{◌≡◌, ◌≤◌, ◌^◌, IfSome, IsOk, IsErr, OnOk, OnErr};
 ghost use Rattle.std.specs.IoError.{raw_os_error};
 ghost use Rattle.std.specs.Fd.{file_raw_fd};
 ghost use Rattle.descriptors.specs.Answered.{AnsweredAs};
 
+use crate::Failed;
 use std::cell::Cell;
 use std::fs::{File, OpenOptions};
-use std::io::{Error, Read, Result, Stdin, Stdout, Write};
+use std::io::{Error, Read, Stdin, Stdout, Write};
 use std::os::fd::AsRawFd;
 use std::str;
 
@@ -24,80 +25,38 @@ struct Standard {
     output: Stdout,
 }
 
-// What a call on some bytes answered: how many were moved, or -1; and the error that it left then.
-#[derive(Clone, Copy)]
-pub(crate) struct Answer {
-    pub(crate) number: isize,
-    pub(crate) error: i32,
-}
+// At most so many files are open at a time.
+const MOST_OPEN: usize = 3;
 
-// At most three files are open at a time. The number of the last error is kept, so that it can be told.
+// What is open. The number of the last error is kept, so that it can be told.
 #[derive(Drop)]
 pub struct Live {
     standard: Option<Standard>,
-    first: Option<File>,
-    second: Option<File>,
-    third: Option<File>,
+    files: [Option<File>; MOST_OPEN],
     error: Cell<i32>,
 }
 
 fn code_of(error: Error) -> i32
     ensures { IfSome (raw_os_error error) (λ code. result ≡ code) }
 {
-    match error.raw_os_error() {
-        Some(code) => code,
-        None => NOT_TAKEN,
-    }
+    error.raw_os_error().unwrap_or(NOT_TAKEN)
 }
 
-fn number_of(count: usize) -> isize
-    ensures { count < 2 ^ 63 → result ≡ pos count }
-{
-    match isize::try_from(count) {
-        Ok(number) => number,
-        Err(_) => isize::MAX,
-    }
-}
-
-// What std answered of a call on some bytes, as a number and an error: a failure is -1, and never none moved, which would be the end.
-fn answer_of(moved: Result<usize>) -> Answer
-    ensures { AnsweredAs moved result }
-{
-    match moved {
-        Ok(count) => Answer {
-            number: number_of(count),
-            error: 0,
-        },
-        Err(error) => Answer {
-            number: -1,
-            error: code_of(error),
-        },
-    }
-}
-
-fn not_open<T>() -> Result<T>
+fn not_open<T>() -> Result<T, Error>
     ensures { IsErr result }
 {
     Err(Error::from_raw_os_error(NOT_OPEN))
 }
 
-// The file, if it is that of a descriptor.
-fn found(file: &Option<File>, fd: i32) -> Option<&File>
+// The file of a slot, if it is that of a descriptor.
+fn found(slot: &Option<File>, fd: i32) -> Option<&File>
     ensures { IfSome result (λ f. file_raw_fd f.now ≡ fd) }
 {
-    match file {
-        Some(open) => {
-            if open.as_raw_fd() == fd {
-                return Some(open);
-            }
-            None
-        }
-        None => None,
-    }
+    slot.as_ref().filter(|file| file.as_raw_fd() == fd)
 }
 
 // Opens the file that a path names, which is UTF-8 text.
-fn open_by(rt: &HostRuntime, path: &[u8], how: &OpenOptions) -> Result<File> {
+fn open_by(rt: &HostRuntime, path: &[u8], how: &OpenOptions) -> Result<File, Error> {
     match str::from_utf8(path) {
         Ok(name) => how.open(rt, name),
         Err(_) => Err(Error::from_raw_os_error(NOT_TAKEN)),
@@ -108,9 +67,7 @@ impl Live {
     fn with(standard: Option<Standard>) -> Live {
         Live {
             standard,
-            first: None,
-            second: None,
-            third: None,
+            files: [None, None, None],
             error: Cell::new(0),
         }
     }
@@ -139,170 +96,129 @@ impl Live {
     fn file(&self, fd: i32) -> Option<&File>
         ensures { IfSome result (λ f. file_raw_fd f.now ≡ fd) }
     {
-        if let Some(file) = found(&self.first, fd) {
-            return Some(file);
-        }
-        if let Some(file) = found(&self.second, fd) {
-            return Some(file);
-        }
-        found(&self.third, fd)
+        self.files.iter().find_map(|slot| found(slot, fd))
     }
 
-    fn read_standard(&self, fd: i32, buf: &mut [u8]) -> Result<usize> {
+    // Standard input and output, where they are open and the descriptor is the one that is asked for.
+    fn standard_at(&self, fd: i32, asked: i32) -> Result<Standard, Error> {
         match self.standard {
-            Some(open) => {
-                if fd != crate::INPUT {
-                    return not_open();
-                }
-                let mut input = open.input;
-                input.read(buf)
-            }
-            None => not_open(),
-        }
-    }
-
-    fn write_standard(&self, fd: i32, bytes: &[u8]) -> Result<usize> {
-        match self.standard {
-            Some(open) => {
-                if fd != crate::OUTPUT {
-                    return not_open();
-                }
-                let mut output = open.output;
-                output.write(bytes)
-            }
-            None => not_open(),
+            Some(open) if fd == asked => Ok(open),
+            _ => not_open(),
         }
     }
 
     // A file that was opened may have the number of a standard stream that was closed.
-    fn read_any(&self, fd: i32, buf: &mut [u8]) -> Result<usize> {
+    fn read_any(&self, fd: i32, buf: &mut [u8]) -> Result<usize, Error> {
         match self.file(fd) {
-            Some(file) => {
-                let mut reader = file;
-                reader.read(buf)
-            }
-            None => self.read_standard(fd, buf),
+            Some(mut file) => file.read(buf),
+            None => self.standard_at(fd, crate::INPUT)?.input.read(buf),
         }
     }
 
-    fn write_any(&self, fd: i32, bytes: &[u8]) -> Result<usize> {
+    fn write_any(&self, fd: i32, bytes: &[u8]) -> Result<usize, Error> {
         match self.file(fd) {
-            Some(file) => {
-                let mut writer = file;
-                writer.write(bytes)
-            }
-            None => self.write_standard(fd, bytes),
+            Some(mut file) => file.write(bytes),
+            None => self.standard_at(fd, crate::OUTPUT)?.output.write(bytes),
         }
     }
 
-    // What a call answered; the error of one that failed is kept.
-    fn counted(&self, moved: Result<usize>) -> Answer
+    // Keeps the number of the error of a call that failed.
+    fn kept(&self, error: Error) -> i32
+        ensures { IfSome (raw_os_error error) (λ code. result ≡ code) }
+    {
+        let code = code_of(error);
+        self.error.set(code);
+        code
+    }
+
+    // What a call answered; the error of one that failed is kept, and it is never none moved, which would be the end.
+    fn counted(&self, moved: Result<usize, Error>) -> Result<usize, i32>
         ensures { AnsweredAs moved result }
     {
-        let answer = answer_of(moved);
-        if answer.number < 0 {
-            self.error.set(answer.error);
-        }
-        answer
+        moved.map_err(|error| self.kept(error))
     }
 
     // Reads once.
-    pub(crate) fn read(&self, fd: i32, buf: &mut [u8]) -> Answer {
-        let moved = self.read_any(fd, buf);
-        self.counted(moved)
+    pub(crate) fn read(&self, fd: i32, buf: &mut [u8]) -> Result<usize, i32> {
+        self.counted(self.read_any(fd, buf))
     }
 
     // Writes once.
-    pub(crate) fn write(&self, fd: i32, bytes: &[u8]) -> Answer {
-        let moved = self.write_any(fd, bytes);
-        self.counted(moved)
+    pub(crate) fn write(&self, fd: i32, bytes: &[u8]) -> Result<usize, i32> {
+        self.counted(self.write_any(fd, bytes))
     }
 
     // ---- files
 
-    // Keeps the error of a call that failed, and answers -1.
-    fn failed(&self, code: i32) -> i32
-        ensures { result ≡ negsuc 0 }
-    {
-        self.error.set(code);
-        -1
+    // Keeps the error of a call on a file that failed.
+    fn failed(&self, error: Error) -> Failed {
+        self.kept(error);
+        Failed
     }
 
-    // 0 where a file has done what it was asked, else -1.
-    fn status(&self, done: Result<()>) -> i32
-        ensures done { OnOk done (result ≡ pos 0) }
-        ensures failed { OnErr done (result ≡ negsuc 0) }
+    // Whether a file has done what it was asked.
+    fn status(&self, done: Result<(), Error>) -> Result<(), Failed>
+        ensures done { OnOk done (IsOk result) }
+        ensures failed { OnErr done (IsErr result) }
     {
-        match done {
-            Ok(()) => 0,
-            Err(error) => self.failed(code_of(error)),
-        }
+        done.map_err(|error| self.failed(error))
     }
 
-    // Waits until all that was handed to a file has reached the disk. Answers 0, or -1.
-    pub fn settle(&self, fd: i32) -> i32 {
-        let done = match self.file(fd) {
+    // Waits until all that was handed to a file has reached the disk.
+    pub fn settle(&self, fd: i32) -> Result<(), Failed> {
+        self.status(match self.file(fd) {
             Some(file) => file.sync_data(),
             None => not_open(),
-        };
-        self.status(done)
+        })
     }
 
-    fn shorten(&self, fd: i32, length: u64) -> Result<()> {
+    fn shorten(&self, fd: i32, count: u64) -> Result<(), Error>
+        ensures { 2 ^ 63 ≤ count → IsErr result }
+    {
         match self.file(fd) {
-            Some(file) => file.set_len(length),
+            Some(file) => file.set_len(count),
             None => not_open(),
         }
     }
 
-    // Cuts a file to its first bytes. Answers 0, or -1, as where their number is negative.
-    pub fn cut(&self, fd: i32, length: i64) -> i32
-        ensures { length <ℤ pos 0 → result ≡ negsuc 0 }
+    // Cuts a file to its first bytes; it fails where they are more than the C library takes.
+    pub fn cut(&self, fd: i32, count: usize) -> Result<(), Failed>
+        ensures { 2 ^ 63 ≤ count → IsErr result }
     {
-        match u64::try_from(length) {
-            Ok(count) => self.status(self.shorten(fd, count)),
-            Err(_) => self.failed(NOT_TAKEN),
-        }
+        self.status(self.shorten(fd, count as u64))
     }
 
-    // Takes in a file that was opened. Answers its descriptor, or -1.
-    fn take_in(&mut self, opened: Result<File>) -> i32
-        ensures { OnErr opened (result ≡ negsuc 0) }
+    // Takes in a file that was opened. Answers its descriptor.
+    fn take_in(&mut self, opened: Result<File, Error>) -> Result<i32, Failed>
+        ensures { OnErr opened (IsErr result) }
     {
-        match opened {
-            Ok(file) => {
-                let fd = file.as_raw_fd();
-                if self.first.is_none() {
-                    self.first = Some(file);
-                } else if self.second.is_none() {
-                    self.second = Some(file);
-                } else if self.third.is_none() {
-                    self.third = Some(file);
-                } else {
-                    return self.failed(TOO_MANY);
-                }
-                fd
+        let file = opened.map_err(|error| self.failed(error))?;
+        let fd = file.as_raw_fd();
+        for slot in &mut self.files {
+            if slot.is_none() {
+                *slot = Some(file);
+                return Ok(fd);
             }
-            Err(error) => self.failed(code_of(error)),
         }
+        Err(self.failed(Error::from_raw_os_error(TOO_MANY)))
     }
 
-    // Opens the file that a path names, to read it. Answers a descriptor, or -1.
-    pub fn open_read(&mut self, rt: &HostRuntime, path: &[u8]) -> i32 {
+    // Opens the file that a path names, to read it. Answers its descriptor.
+    pub fn open_read(&mut self, rt: &HostRuntime, path: &[u8]) -> Result<i32, Failed> {
         let mut how = OpenOptions::new();
         how.read(true);
         self.take_in(open_by(rt, path, &how))
     }
 
     // Opens it to append to it.
-    pub fn open_append(&mut self, rt: &HostRuntime, path: &[u8]) -> i32 {
+    pub fn open_append(&mut self, rt: &HostRuntime, path: &[u8]) -> Result<i32, Failed> {
         let mut how = OpenOptions::new();
         how.append(true);
         self.take_in(open_by(rt, path, &how))
     }
 
     // Makes it, where the name is not taken, to write to it.
-    pub fn create(&mut self, rt: &HostRuntime, path: &[u8]) -> i32 {
+    pub fn create(&mut self, rt: &HostRuntime, path: &[u8]) -> Result<i32, Failed> {
         let mut how = OpenOptions::new();
         how.write(true).create_new(true);
         self.take_in(open_by(rt, path, &how))
@@ -310,12 +226,11 @@ impl Live {
 
     // Closes a file.
     pub fn close(&mut self, fd: i32) {
-        if found(&self.first, fd).is_some() {
-            self.first = None;
-        } else if found(&self.second, fd).is_some() {
-            self.second = None;
-        } else if found(&self.third, fd).is_some() {
-            self.third = None;
+        for slot in &mut self.files {
+            if found(slot, fd).is_some() {
+                *slot = None;
+                return;
+            }
         }
     }
 }

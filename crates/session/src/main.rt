@@ -7,7 +7,7 @@
 use descriptors::args;
 use descriptors::live::Live;
 use std::io::Error;
-use stream_law::{Finish, Kept};
+use stream_law::{Finish, NotKept};
 
 // Says what failed and why, in one line; the number behind the reason is left out.
 fn say(rt: &HostRuntime, what: &str, why: &str) {
@@ -30,9 +30,7 @@ fn fail(rt: &HostRuntime, live: &Live, what: &str) {
 // Says how a run ended, where it failed.
 fn tell(rt: &HostRuntime, live: &Live, finish: Finish) {
     match finish {
-        Finish::Printed => {}
-        Finish::Same => {}
-        Finish::Differs => {}
+        Finish::Printed | Finish::Same | Finish::Differs => {}
         Finish::Unread => fail(rt, live, "session: standard input cannot be read"),
         Finish::Unsaved => fail(rt, live, "session: the file cannot be written"),
         Finish::Unwritten => fail(rt, live, "session: standard output cannot be written"),
@@ -42,37 +40,21 @@ fn tell(rt: &HostRuntime, live: &Live, finish: Finish) {
 // A day that is kept in the file that a path names.
 fn keep(rt: &HostRuntime, live: &mut Live, path: &[u8]) {
     match stream_keep::keep(rt, live, descriptors::INPUT, path) {
-        Kept::NotOpened => fail(rt, live, "session: the file cannot be opened"),
-        Kept::NotRead => fail(rt, live, "session: the file cannot be read"),
-        Kept::Ran(finish) => tell(rt, live, finish),
+        Ok(finish) => tell(rt, live, finish),
+        Err(NotKept::NotOpened) => fail(rt, live, "session: the file cannot be opened"),
+        Err(NotKept::NotRead) => fail(rt, live, "session: the file cannot be read"),
     }
-}
-
-// Whether some bytes are the word `--resume`.
-fn is_resume(word: &[u8]) -> bool {
-    let asked = b"--resume";
-    if word.len() != asked.len() {
-        return false;
-    }
-    let mut i: usize = 0;
-    while i < asked.len() {
-        if word[i] != asked[i] {
-            return false;
-        }
-        i += 1;
-    }
-    true
 }
 
 // The file that the arguments name, `--resume FILE`.
 fn keep_named(rt: &HostRuntime, live: &mut Live) -> bool {
     let mut word = [0u8; 4096];
     let n = args::arg(rt, 1, &mut word);
-    if !is_resume(&word[0..n]) {
+    if &word[..n] != b"--resume" {
         return false;
     }
     let m = args::arg(rt, 2, &mut word);
-    keep(rt, live, &word[0..m]);
+    keep(rt, live, &word[..m]);
     true
 }
 
@@ -84,10 +66,8 @@ fn main(rt: HostRuntime) {
         tell(&rt, &live, finish);
         return;
     }
-    if given == 3 {
-        if keep_named(&rt, &mut live) {
-            return;
-        }
+    if given == 3 && keep_named(&rt, &mut live) {
+        return;
     }
     let _ = eprintln!(rt; "session: the arguments are none, or --resume FILE");
 }

@@ -7,7 +7,8 @@ use mathlib.Core.List.{List, []}
 use lib.ListN.{length, take, drop, length-drop}
 use mir.Syntax.{w64}
 use mir.Val.{Fits}
-use Rattle.descriptors.specs.declared.Got.{Got}
+use Rattle.std.specs.Prelude.{Result, Ok, Err}
+use Rattle.descriptors.specs.declared.Failed.{Failed}
 use Rattle.descriptors.proofs.Parts.{got-within}
 use Rattle.feed_law.specs.Turns.{Says}
 use Rattle.stream_law.specs.declared.Source.{Source}
@@ -20,7 +21,7 @@ use Rattle.stream_law.proofs.Hearing.{hears-none, hears-some, off_done, off-fail
 use Rattle.stream_source.specs.declared.Read.{Read}
 use Rattle.stream_source.specs.Reads.{ReadBehind}
 
-module _ {given : List ℕ} {from : Source} {have n : ℕ} {buf buf₁ : List ℕ} {x : Read} (b : ReadBehind given from have buf buf₁ x) (some : x.got ≡ Got.Bytes n) where
+module _ {given : List ℕ} {from : Source} {have n : ℕ} {buf buf₁ : List ℕ} {x : Read} (b : ReadBehind given from have buf buf₁ x) (some : x.got ≡ Ok n) where
   -- the n bytes that came end within the buffer
   pub end-within : have + n ≤ length buf₁
   end-within = let h = b.room in let l = got-within b.got some in let s = b.kept.same in omega arith
@@ -30,7 +31,7 @@ module _ {given : List ℕ} {from : Source} {have n : ℕ} {buf buf₁ : List �
 
 module _ {says : Says ℕ} {expected given buys sells : List ℕ} {h r : Buffered} {from : Source} {buf buf₁ : List ℕ} {x : Read}
     (b : ReadBehind given from h.have buf buf₁ x) where
-  pub came-some : {n : ℕ} {buf' buys' sells' : List ℕ} → x.got ≡ Got.Bytes n → (n ≡ 0 → ⊥) →
+  pub came-some : {n : ℕ} {buf' buys' sells' : List ℕ} → x.got ≡ Ok n → (n ≡ 0 → ⊥) →
       TakesIn says expected h.run buf₁ (h.have + n) buys sells h.to buf' buys' sells' r →
       HearsOn says expected given 1 h from buf buys sells buf' buys' sells' r x.from
   came-some {n} e z k =
@@ -41,15 +42,15 @@ module _ {says : Says ℕ} {expected given buys sells : List ℕ} {h r : Buffere
       let f = b.room in
       hears-some b.kept n (omega arith) (omega arith) leads k
 
-  pub came-none : {n : ℕ} → x.got ≡ Got.Bytes n → n ≡ 0 → r ≡ held_as h.run h.have h.to Reading.Done →
+  pub came-none : {n : ℕ} → x.got ≡ Ok n → n ≡ 0 → r ≡ held_as h.run h.have h.to Reading.Done →
       HearsOn says expected given 1 h from buf buys sells buf₁ buys sells r x.from
   came-none e z q =
-      let g : x.got ≡ Got.Bytes 0 = e ∙ ap Got.Bytes z in
+      let g : x.got ≡ Ok 0 = e ∙ ap Ok z in
       let end : Gives given x.from [] true = rw g at b.stands in
       let leads : Leads given from [] x.from = rw g at b.leads in
       hears-none b.kept off_done b.room leads (ended refl end) q
 
-  pub came-failed : x.got ≡ Got.Failed → r ≡ held_as h.run h.have h.to Reading.Failed →
+  pub came-failed : {e : Failed} → x.got ≡ Err e → r ≡ held_as h.run h.have h.to Reading.Failed →
       HearsOn says expected given 1 h from buf buys sells buf₁ buys sells r x.from
   came-failed g q =
       let end : Gives given x.from [] false = rw g at b.stands in

@@ -14,7 +14,6 @@ ghost use Rattle.resume_law.specs.Pieces.{too_many};
 ghost use Rattle.stream_law.specs.Sources.{Gives};
 ghost use Rattle.stream_law.specs.Streams.{says_of, holding, is_on, held_as, held_on, Hears, HearsOn, is_done, EndedAs, ThroughAs, FreshThrough, Compares, PrintedAs};
 
-use descriptors::Got;
 use descriptors::live::Live;
 use feed_law::Run;
 use stream_law::{Buffered, Finish, Mode, Reading, Sink, Source};
@@ -33,10 +32,10 @@ fn held(run: Run, have: usize, to: Sink, reading: Reading) -> Buffered
     ensures { result ≡ held_as run have to reading }
 {
     Buffered {
-        run: run,
-        have: have,
-        to: to,
-        reading: reading,
+        run,
+        have,
+        to,
+        reading,
     }
 }
 
@@ -56,35 +55,21 @@ fn read_on(
     ensures { HearsOn (says_of mode) expected.now given.now 1 last.held last.from buf.old buys.old sells.old buf.new buys.new sells.new result.held result.from }
 {
     let h = last.held;
-    let run = h.run;
-    let have = h.have;
-    let to = h.to;
-    let source = last.from;
-    let read = stream_source::read_behind(live, source, given, have, buf);
-    let got = read.got;
+    let read = stream_source::read_behind(live, last.from, given, h.have, buf);
     let from = read.from;
-    match got {
-        Got::Failed => {
-            let off = held(run, have, to, Reading::Failed);
-            Heard {
-                held: off,
-                from: from,
-            }
-        }
-        Got::Bytes(n) => {
-            if n == 0 {
-                let off = held(run, have, to, Reading::Done);
-                return Heard {
-                    held: off,
-                    from: from,
-                };
-            }
-            let end = have + n;
-            let on = stream_feed::take_in(live, mode, to, expected, run, buf, end, buys, sells);
-            Heard {
-                held: on,
-                from: from,
-            }
+    match read.got {
+        Err(_) => Heard {
+            held: held(h.run, h.have, h.to, Reading::Failed),
+            from,
+        },
+        Ok(0) => Heard {
+            held: held(h.run, h.have, h.to, Reading::Done),
+            from,
+        },
+        Ok(n) => {
+            let end = h.have + n;
+            let on = stream_feed::take_in(live, mode, h.to, expected, h.run, buf, end, buys, sells);
+            Heard { held: on, from }
         }
     }
 }
@@ -92,11 +77,7 @@ fn read_on(
 fn is_on(reading: Reading) -> bool
     ensures { result ≡ is_on reading }
 {
-    match reading {
-        Reading::On => true,
-        Reading::Done => false,
-        Reading::Failed => false,
-    }
+    matches!(reading, Reading::On)
 }
 
 // Reads to the end of the input or of the run, or until something fails.
@@ -116,20 +97,15 @@ fn read_all(
     requires line_room_in_bounds { line_room < length buf.old }
     ensures { Hears (says_of mode) expected.now given.now too_many (holding run buys.old sells.old []) from to buf.new buys.new sells.new result.held result.from }
 {
-    let first = held(run, 0, to, Reading::On);
     let mut h = Heard {
-        held: first,
-        from: from,
+        held: held(run, 0, to, Reading::On),
+        from,
     };
-    let mut turns = u64::MAX;
-    while turns > 0 {
+    for _turn in 0..u64::MAX {
         h = read_on(live, mode, expected, given, h, buf, buys, sells);
-        let now = h.held;
-        let reading = now.reading;
-        if !is_on(reading) {
+        if !is_on(h.held.reading) {
             return h;
         }
-        turns -= 1;
     }
     h
 }
@@ -139,11 +115,7 @@ fn read_all(
 fn is_done(reading: Reading) -> bool
     ensures { result ≡ is_done reading }
 {
-    match reading {
-        Reading::On => false,
-        Reading::Done => true,
-        Reading::Failed => false,
-    }
+    matches!(reading, Reading::Done)
 }
 
 // The end of a run, by what is kept of it: not all could be read, or the end is told behind all that was.
@@ -160,14 +132,11 @@ fn end_run(
     requires have_in_bounds { h.have ≤ length buf.now }
     ensures { EndedAs (says_of mode) expected.now (held_on buf.now buys.old sells.old h) h result }
 {
-    let run = h.run;
-    let have = h.have;
-    let to = h.to;
-    let reading = h.reading;
-    if !is_done(reading) {
+    if !is_done(h.reading) {
         return Finish::Unread;
     }
-    let last = stream_feed::ending(live, mode, to, expected, run, &buf[0..have], buys, sells);
+    let rest = &buf[..h.have];
+    let last = stream_feed::ending(live, mode, h.to, expected, h.run, rest, buys, sells);
     stream_sink::finish(last, expected)
 }
 
@@ -189,8 +158,7 @@ fn run_all(
     ensures { ThroughAs (says_of mode) expected.now (Gives given.now from) (holding run buys.old sells.old []) to result }
 {
     let heard = read_all(live, from, given, mode, to, expected, run, buf, buys, sells);
-    let h = heard.held;
-    end_run(live, mode, expected, h, buf, buys, sells)
+    end_run(live, mode, expected, heard.held, buf, buys, sells)
 }
 
 // Takes all lines of a source from where a run stands, with the tables that are lent.
@@ -221,32 +189,17 @@ fn through(live: &Live, from: Source, given: &[u8], to: Sink, expected: &[u8]) -
     let mut buys = [0u64; lengths::TABLE];
     let mut sells = [0u64; lengths::TABLE];
     let run = feed::start();
+    let mode = Mode::Bare;
     go_on(
-        live,
-        from,
-        given,
-        Mode::Bare,
-        to,
-        expected,
-        run,
-        &mut buys,
-        &mut sells,
+        live, from, given, mode, to, expected, run, &mut buys, &mut sells,
     )
 }
 
-// Prints what the program says to a descriptor's bytes; no text is given, and none is expected.
-fn print_live(live: &Live, fd: i32, none: &[u8]) -> Finish
-    ensures { PrintedAs result }
-{
-    through(live, Source::Live(fd), none, Sink::Print, none)
-}
-
-// Prints on standard output what the program says to a descriptor's bytes.
+// Prints on standard output what the program says to a descriptor's bytes; no text is given, and none is expected.
 pub fn print(live: &Live, fd: i32) -> Finish
     ensures { PrintedAs result }
 {
-    let none = [0u8; 1];
-    print_live(live, fd, &none[0..0])
+    through(live, Source::Live(fd), &[], Sink::Print, &[])
 }
 
 // Holds what the program says to a text against an expected output.

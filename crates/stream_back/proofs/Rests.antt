@@ -11,7 +11,8 @@ use mir.Syntax.{w64}
 use mir.Val.{Fits}
 use Rattle.std.specs.Prelude.{Ok}
 use Rattle.terms.specs.Sizes.{line_room}
-use Rattle.descriptors.specs.declared.Got.{Got}
+use Rattle.std.specs.Prelude.{Result, Ok, Err}
+use Rattle.descriptors.specs.declared.Failed.{Failed}
 use Rattle.descriptors.specs.Counted.{GotWithin}
 use Rattle.state_law.specs.declared.Session.{Session}
 use Rattle.state_law.specs.Opening.{fixed_session}
@@ -73,13 +74,13 @@ module _ (given : List ℕ) (from from' : Source) (before : ℕ) (s : Session) (
             };
       }
 
-  by_got : (g : Got) → GotWithin (length buf - left) g → Leads given from (take (came_of g) (drop left buf)) from' → StandsBy given from' g →
+  by_got : (g : Result ℕ Failed) → GotWithin (length buf - left) g → Leads given from (take (came_of g) (drop left buf)) from' → StandsBy given from' g →
       Rest (coming_after g left before s)
-  by_got (Got.Bytes zero) h p t = ends_as (λ buys sells. start-ends before s buys sells start (leads-end true p t) refl)
-  by_got (Got.Bytes (suc n)) h p t =
+  by_got (Ok zero) h p t = ends_as (λ buys sells. start-ends before s buys sells start (leads-end true p t) refl)
+  by_got (Ok (suc n)) h p t =
       let z : suc n ≡ 0 → ⊥ = λ z. omega (arith, z) in
       rw (ne_eqb (suc n) 0 z) (goes_as (suc n) z h p)
-  by_got Got.Failed h p t = ends_as (λ buys sells. unread_from _ buys sells (leads-end false p t) refl)
+  by_got (Err e) h p t = ends_as (λ buys sells. unread_from _ buys sells (leads-end false p t) refl)
 
 -- what is left is moved to the front, and a read is made behind it
 pub rest_read : {given : List ℕ} {from : Source} {before : ℕ} {s : Session} {used have : ℕ} {buf buf₁ buf₂ : List ℕ} {read : Read} {h : Coming} →
@@ -96,18 +97,18 @@ rest-within b = b.within
 
 -- ---- the arms of `after_read`
 
-module _ (g : Got) (left before : ℕ) (s : Session) (r : Coming) where
-  pub read_failed : g ≡ Got.Failed → r ≡ stopped_at before s false → r ≡ coming_after g left before s
+module _ (g : Result ℕ Failed) (left before : ℕ) (s : Session) (r : Coming) where
+  pub read_failed : {f : Failed} → g ≡ Err f → r ≡ stopped_at before s false → r ≡ coming_after g left before s
   read_failed e q = rw e q
 
-  module _ (n : ℕ) (e : g ≡ Got.Bytes n) where
+  module _ (n : ℕ) (e : g ≡ Ok n) where
     pub read_none : n ≡ 0 → r ≡ stopped_at before s true → r ≡ coming_after g left before s
     read_none z q = rw (e, eq-eqb n 0 z) q
 
     pub read_some : (n ≡ 0 → ⊥) → r ≡ coming_to (left + n) before s → r ≡ coming_after g left before s
     read_some z q = rw (e, ne_eqb n 0 z) q
 
-pub read_fits : (left n : ℕ) (g : Got) → EndsWithin left g → g ≡ Got.Bytes n → Fits w64 (left + n)
+pub read_fits : (left n : ℕ) (g : Result ℕ Failed) → EndsWithin left g → g ≡ Ok n → Fits w64 (left + n)
 read_fits left n g h e = record { fits = h.ends n e }
 
 -- ---- what is answered, by its parts
@@ -132,23 +133,23 @@ module _ {given : List ℕ} {from : Source} {buf : List ℕ} {read : Read} (k : 
   pub filled_as : {buys' sells' : List ℕ} {r : Back} → StartsAs (Gives given read.from) read.got buf buys' sells' r → BackAs (Gives given from) buys' sells' r
   filled_as {buys'} {sells'} {r} q = go read.got refl
     where
-      go : (x : Got) → read.got ≡ x → BackAs (Gives given from) buys' sells' r
-      go (Got.Bytes n) e = behind_as (take n buf) (k.leads n e).behind (q.some n e)
-      go Got.Failed e = let f = k.failed e in unread_as f.bytes buys' sells' f.gives (q.failed e)
+      go : (x : Result ℕ Failed) → read.got ≡ x → BackAs (Gives given from) buys' sells' r
+      go (Ok n) e = behind_as (take n buf) (k.leads n e).behind (q.some n e)
+      go (Err f) e = let w = k.failed f e in unread_as w.bytes buys' sells' w.gives (q.failed f e)
 
-pub ended_at : {given : List ℕ} {from : Source} {g : Got} {end room : ℕ} → EndedBy given from g room → g ≡ Got.Bytes end → Ended given from end room
+pub ended_at : {given : List ℕ} {from : Source} {g : Result ℕ Failed} {end room : ℕ} → EndedBy given from g room → g ≡ Ok end → Ended given from end room
 ended_at k e = k.some _ e
 
-module _ {gives : List ℕ → Bool → Type 0} {g : Got} {buf buys' sells' : List ℕ} {r : Back} where
-  pub filled_none : g ≡ Got.Failed → r ≡ unread_back → StartsAs gives g buf buys' sells' r
-  filled_none e q = record { failed = λ _. q; some = λ end h. absurd (let z : ◌≡◌ {A = ℕ} 0 1 = cc in omega arith) }
+module _ {gives : List ℕ → Bool → Type 0} {g : Result ℕ Failed} {buf buys' sells' : List ℕ} {r : Back} where
+  pub filled_none : {f : Failed} → g ≡ Err f → r ≡ unread_back → StartsAs gives g buf buys' sells' r
+  filled_none e q = record { failed = λ _ _. q; some = λ end h. absurd (let z : ◌≡◌ {A = ℕ} 0 1 = cc in omega arith) }
 
-  pub filled-some : (end : ℕ) → g ≡ Got.Bytes end → BackBehind gives (take end buf) buys' sells' r → StartsAs gives g buf buys' sells' r
+  pub filled-some : (end : ℕ) → g ≡ Ok end → BackBehind gives (take end buf) buys' sells' r → StartsAs gives g buf buys' sells' r
   filled-some end e k =
       record {
-        failed = λ h. absurd (let z : ◌≡◌ {A = ℕ} 0 1 = cc in omega arith);
+        failed = λ _ h. absurd (let z : ◌≡◌ {A = ℕ} 0 1 = cc in omega arith);
         some = λ n h. subst (λ (x : ℕ). BackBehind gives (take x buf) buys' sells' r) (same h) k;
       }
     where
-      same : {n : ℕ} → g ≡ Got.Bytes n → end ≡ n
+      same : {n : ℕ} → g ≡ Ok n → end ≡ n
       same h = cc

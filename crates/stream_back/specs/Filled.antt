@@ -1,7 +1,7 @@
 -- What the reads of a file come to: the first one, and each behind the bytes that are kept.
-use Rattle.std.specs.Prelude.{ℕ, ◌+◌, ◌≤◌, ◌<◌, ◌≡◌, Bool, true, false, cond, List, [], eqb, length, take, Ok}
+use Rattle.std.specs.Prelude.{ℕ, ◌+◌, ◌≤◌, ◌<◌, ◌≡◌, Bool, true, false, cond, List, [], eqb, length, take, Ok, Result, Err}
 use Rattle.terms.specs.declared.Settings.{Settings}
-use Rattle.descriptors.specs.declared.Got.{Got}
+use Rattle.descriptors.specs.declared.Failed.{Failed}
 use Rattle.lines_text_law.specs.Grammar.{whole}
 use Rattle.lines_reading_law.specs.Answers.{read_settings}
 use Rattle.state_law.specs.declared.Session.{Session}
@@ -17,9 +17,9 @@ abbrev pub stopped_at : ℕ → Session → Bool → Coming
 stopped_at before s read = coming_end (record { answer = Ok before; session = s; read = read })
 
 -- a read of no bytes is the end of the file, where those that are kept are dropped; a read that failed is not
-abbrev pub coming_after : Got → ℕ → ℕ → Session → Coming
-coming_after (Got.Bytes n) left before s = cond (eqb n 0) (stopped_at before s true) (coming_to (left + n) before s)
-coming_after Got.Failed left before s = stopped_at before s false
+abbrev pub coming_after : Result ℕ Failed → ℕ → ℕ → Session → Coming
+coming_after (Ok n) left before s = cond (eqb n 0) (stopped_at before s true) (coming_to (left + n) before s)
+coming_after (Err e) left before s = stopped_at before s false
 
 abbrev pub piece_to : Coming → Source → Piece
 piece_to coming from = record { coming = coming; from = from }
@@ -53,14 +53,14 @@ pub record RestAs (given : List ℕ) (from : Source) (before : ℕ) (s : Session
 pub record Ended (given : List ℕ) (from : Source) (end room : ℕ) : Type 0 where
   pub ended : end < room → Gives given from [] true
 
-pub record EndedBy (given : List ℕ) (from : Source) (g : Got) (room : ℕ) : Type 0 where
-  pub some : (end : ℕ) → g ≡ Got.Bytes end → Ended given from end room
+pub record EndedBy (given : List ℕ) (from : Source) (g : Result ℕ Failed) (room : ℕ) : Type 0 where
+  pub some : (end : ℕ) → g ≡ Ok end → Ended given from end room
 
 -- THE CONTRACT of `from_settings`: what comes back is that of a file that begins with these bytes, where they begin with the settings' line
 pub record OpensAs (gives : List ℕ → Bool → Type 0) (g : Settings) (first : ℕ) (bytes buys' sells' : List ℕ) (r : Back) : Type 0 where
   pub opens : read_settings bytes ≡ whole g first → BackBehind gives bytes buys' sells' r
 
 -- THE CONTRACT of `from_filled`: what comes back is that of a file that begins with the bytes that were read; or a read failed
-pub record StartsAs (gives : List ℕ → Bool → Type 0) (g : Got) (buf buys' sells' : List ℕ) (r : Back) : Type 0 where
-  pub failed : g ≡ Got.Failed → r ≡ unread_back
-  pub some : (end : ℕ) → g ≡ Got.Bytes end → BackBehind gives (take end buf) buys' sells' r
+pub record StartsAs (gives : List ℕ → Bool → Type 0) (g : Result ℕ Failed) (buf buys' sells' : List ℕ) (r : Back) : Type 0 where
+  pub failed : (e : Failed) → g ≡ Err e → r ≡ unread_back
+  pub some : (end : ℕ) → g ≡ Ok end → BackBehind gives (take end buf) buys' sells' r

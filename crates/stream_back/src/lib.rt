@@ -18,7 +18,7 @@ ghost use Rattle.stream_law.specs.Sources.{Gives};
 ghost use Rattle.stream_source.specs.Reads.{EndsWithin};
 ghost use Rattle.stream_back.specs.Filled.{stopped_at, coming_after, ComesOn, RestAs, OpensAs, Ended, EndedBy, StartsAs};
 
-use descriptors::Got;
+use descriptors::Failed;
 use descriptors::live::Live;
 use resume_law::{Back, BadLine, Coming};
 use lines_text_law::LineError;
@@ -47,8 +47,8 @@ fn coming_to(have: usize, before: usize, session: Session) -> Coming
     ensures { result ≡ coming_to have before session }
 {
     Coming {
-        have: have,
-        before: before,
+        have,
+        before,
         back: resume_pieces::back_to(Ok(before), session),
         more: true,
     }
@@ -60,7 +60,7 @@ fn coming_end(back: Back) -> Coming
     Coming {
         have: 0,
         before: 0,
-        back: back,
+        back,
         more: false,
     }
 }
@@ -71,25 +71,20 @@ fn stopped(before: usize, session: Session, read: bool) -> Coming
 {
     coming_end(Back {
         answer: Ok(before),
-        session: session,
-        read: read,
+        session,
+        read,
     })
 }
 
 // What a read behind so many bytes that are kept comes to: at the end of the file these are dropped, and a read that failed is not its end.
-fn after_read(got: Got, left: usize, before: usize, session: Session) -> Coming
+fn after_read(got: Result<usize, Failed>, left: usize, before: usize, session: Session) -> Coming
     requires { EndsWithin left got }
     ensures { result ≡ coming_after got left before session }
 {
     match got {
-        Got::Failed => stopped(before, session, false),
-        Got::Bytes(n) => {
-            if n == 0 {
-                return stopped(before, session, true);
-            }
-            let have = left + n;
-            coming_to(have, before, session)
-        }
+        Err(_) => stopped(before, session, false),
+        Ok(0) => stopped(before, session, true),
+        Ok(n) => coming_to(left + n, before, session),
     }
 }
 
@@ -111,11 +106,9 @@ fn read_rest(
     stream_feed::to_front(buf, used, have);
     let left = have - used;
     let read = stream_source::read_behind(live, from, given, left, buf);
-    let got = read.got;
-    let next = read.from;
     Piece {
-        coming: after_read(got, left, before, session),
-        from: next,
+        coming: after_read(read.got, left, before, session),
+        from: read.from,
     }
 }
 
@@ -136,23 +129,24 @@ fn next_piece(
     requires have_in_bounds { (h.have ≤ length buf.old) × (line_room < length buf.old) }
     ensures { ComesOn given.now from h buf.old buys.old sells.old buf.new buys.new sells.new result }
 {
-    let have = h.have;
-    let before = h.before;
-    let last = h.back;
-    let session = last.session;
-    let p = resume_pieces::take_piece(&buf[0..have], before, session, buys, sells, room);
-    let used = p.used;
-    let taken = p.before;
-    let came = p.back;
-    let more = p.more;
-    if !more {
+    let bytes = &buf[..h.have];
+    let p = resume_pieces::take_piece(bytes, h.before, h.back.session, buys, sells, room);
+    if !p.more {
         return Piece {
-            coming: coming_end(came),
-            from: from,
+            coming: coming_end(p.back),
+            from,
         };
     }
-    let now = came.session;
-    read_rest(live, from, given, used, have, taken, now, buf)
+    read_rest(
+        live,
+        from,
+        given,
+        p.used,
+        h.have,
+        p.before,
+        p.back.session,
+        buf,
+    )
 }
 
 // Takes piece after piece, each behind the unfinished line of the last.
@@ -172,16 +166,13 @@ fn take_pieces(
 {
     let mut source = from;
     let mut h = first;
-    let mut turns = u64::MAX;
-    while turns > 0 {
+    for _turn in 0..u64::MAX {
         let piece = next_piece(live, source, given, h, buf, buys, sells, room);
         source = piece.from;
         h = piece.coming;
-        let more = h.more;
-        if !more {
+        if !h.more {
             return h.back;
         }
-        turns -= 1;
     }
     resume_pieces::unread()
 }
@@ -206,8 +197,7 @@ fn from_opening(
     ensures { BackFrom (Gives given.now from) (standing first session buys.old sells.old (drop first (take end buf.old))) buys.new sells.new result }
 {
     stream_feed::to_front(buf, first, end);
-    let have = end - first;
-    let h = coming_to(have, first, session);
+    let h = coming_to(end - first, first, session);
     take_pieces(live, from, given, h, buf, buys, sells, room)
 }
 
@@ -267,7 +257,7 @@ fn from_front(
 // Goes on with the first bytes of the file, more than a settings line can have, where they could be read.
 fn from_filled(
     live: &Live,
-    got: Got,
+    got: Result<usize, Failed>,
     from: Source,
     given: &[u8],
     buf: &mut [u8],
@@ -280,8 +270,8 @@ fn from_filled(
     ensures { StartsAs (Gives given.now from) got buf.old buys.new sells.new result }
 {
     match got {
-        Got::Failed => resume_pieces::unread(),
-        Got::Bytes(end) => from_front(live, from, given, end, buf, buys, sells, room),
+        Err(_) => resume_pieces::unread(),
+        Ok(end) => from_front(live, from, given, end, buf, buys, sells, room),
     }
 }
 
@@ -299,9 +289,7 @@ fn from_start(
     ensures { BackAs (Gives given.now from) buys.new sells.new result }
 {
     let read = stream_source::fill(live, from, given, buf);
-    let got = read.got;
-    let next = read.from;
-    from_filled(live, got, next, given, buf, buys, sells, room)
+    from_filled(live, read.got, read.from, given, buf, buys, sells, room)
 }
 
 // Brings back the day of a file that is open, from its first byte on.

@@ -6,12 +6,11 @@
 
 #![tactic(auto)]
 
-ghost use Rattle.std.specs.Prelude.{◌≤◌, ◌≡◌, cond, length, drop};
+ghost use Rattle.std.specs.Prelude.{◌≤◌, ◌≡◌, length, drop};
 ghost use Rattle.terms.specs.Sizes.{line_room};
 ghost use Rattle.feed_law.specs.Texts.{text_most};
 ghost use Rattle.feed_law.specs.Turns.{printing};
-ghost use Rattle.stream_law.specs.declared.Reading.{Reading};
-ghost use Rattle.stream_law.specs.Sinks.{SentAs, is_open};
+ghost use Rattle.stream_law.specs.Sinks.{SentAs};
 ghost use Rattle.engine_law.specs.Calls.{LongTables, LongEnough};
 ghost use Rattle.stream_law.specs.Streams.{says_of, is_full, more_after, holding, HandsOn, OverAs, reading_after, ToFront, TakesIn, end_by, EndsAs};
 
@@ -32,18 +31,13 @@ const OUT: usize = lines::TEXT * 2;
 fn is_full(stop: Stop) -> bool
     ensures { result ≡ is_full stop }
 {
-    match stop {
-        Stop::Waits => false,
-        Stop::Full => true,
-        Stop::Over => false,
-        Stop::Refused(_) => false,
-    }
+    matches!(stop, Stop::Full)
 }
 
 fn has_more(stop: Stop, to: Sink) -> bool
     ensures { result ≡ more_after stop to }
 {
-    is_full(stop) & stream_sink::is_open(to)
+    is_full(stop) && stream_sink::is_open(to)
 }
 
 // Calls feed once, in lent rooms, and sends on what it prints.
@@ -63,17 +57,12 @@ fn hand_in(
     ensures { HandsOn printing expected.now (holding run buys.old sells.old bytes.now) to buys.new sells.new result }
 {
     let t = lines::take_lines(run, bytes, buys, sells, room, out);
-    let after = t.run;
-    let used = t.used;
-    let wrote = t.wrote;
-    let stop = t.stop;
-    let sent = stream_sink::send(live, to, expected, &out[0..wrote]);
-    let more = has_more(stop, sent);
+    let sent = stream_sink::send(live, to, expected, &out[..t.wrote]);
     Handed {
-        run: after,
-        used: used,
+        run: t.run,
+        used: t.used,
         to: sent,
-        more: more,
+        more: has_more(t.stop, sent),
     }
 }
 
@@ -152,18 +141,11 @@ fn hand_over(
     let mut at: usize = 0;
     while at < bytes.len() {
         let h = hand_next(live, mode, sink, expected, now, bytes, at, buys, sells);
-        let used = h.used;
-        let more = h.more;
         now = h.run;
         sink = h.to;
-        at += used;
-        if !more {
-            return Handed {
-                run: now,
-                used: at,
-                to: sink,
-                more: false,
-            };
+        at += h.used;
+        if !h.more {
+            break;
         }
     }
     Handed {
@@ -181,21 +163,7 @@ pub fn to_front(buf: &mut [u8], start: usize, end: usize)
     requires { (start ≤ end) × (end ≤ length buf.old) }
     ensures { ToFront buf.old start end buf.new }
 {
-    let n = end - start;
-    let mut i: usize = 0;
-    while i < n {
-        buf[i] = buf[start + i];
-        i += 1;
-    }
-}
-
-fn reading_to(to: Sink) -> Reading
-    ensures { result ≡ cond (is_open to) Reading.On Reading.Done }
-{
-    if stream_sink::is_open(to) {
-        return Reading::On;
-    }
-    Reading::Done
+    buf.copy_within(start..end, 0);
 }
 
 // Whether to read on: not where the run is over or the sink is shut.
@@ -203,9 +171,8 @@ fn reading_after(stage: Stage, to: Sink) -> Reading
     ensures { result ≡ reading_after stage to }
 {
     match stage {
-        Stage::Awaiting => reading_to(to),
-        Stage::Trading => reading_to(to),
-        Stage::Over => Reading::Done,
+        Stage::Awaiting | Stage::Trading if stream_sink::is_open(to) => Reading::On,
+        _ => Reading::Done,
     }
 }
 
@@ -225,19 +192,13 @@ pub fn take_in(
     requires end_in_bounds { end ≤ length buf.old }
     ensures { TakesIn (says_of mode) expected.now run buf.old end buys.old sells.old to buf.new buys.new sells.new result }
 {
-    let h = hand_over(live, mode, to, expected, run, &buf[0..end], buys, sells);
-    let used = h.used;
-    let after = h.run;
-    let sink = h.to;
-    let stage = after.stage;
-    to_front(buf, used, end);
-    let reading = reading_after(stage, sink);
-    let left = end - used;
+    let h = hand_over(live, mode, to, expected, run, &buf[..end], buys, sells);
+    to_front(buf, h.used, end);
     Buffered {
-        run: after,
-        have: left,
-        to: sink,
-        reading: reading,
+        run: h.run,
+        have: end - h.used,
+        to: h.to,
+        reading: reading_after(h.run.stage, h.to),
     }
 }
 
@@ -267,7 +228,7 @@ fn end_with(
     ensures { SentAs expected.now to ((says_of mode).end stage (length rest.now)) result }
 {
     let n = printing::tell_end(stage, rest.len(), out);
-    send_end(live, mode, to, expected, &out[0..n])
+    send_end(live, mode, to, expected, &out[..n])
 }
 
 fn tell_end(live: &Live, mode: Mode, to: Sink, expected: &[u8], stage: Stage, rest: &[u8]) -> Sink
@@ -292,9 +253,5 @@ pub fn ending(
     ensures { EndsAs (says_of mode) expected.now (holding run buys.old sells.old rest.now) to result }
 {
     let h = hand_over(live, mode, to, expected, run, rest, buys, sells);
-    let used = h.used;
-    let after = h.run;
-    let stage = after.stage;
-    let sink = h.to;
-    tell_end(live, mode, sink, expected, stage, &rest[used..])
+    tell_end(live, mode, h.to, expected, h.run.stage, &rest[h.used..])
 }

@@ -13,17 +13,18 @@ ghost use Rattle.std.specs.Prelude.{◌≤◌, ◌≡◌, [], length};
 ghost use Rattle.terms.specs.Sizes.{line_room};
 ghost use Rattle.engine_law.specs.Calls.{LongTables, LongEnough};
 ghost use Rattle.resume_law.specs.Pieces.{is_unbegun};
-ghost use Rattle.stream_law.specs.declared.Sink.{Sink};
+ghost use Rattle.descriptors.specs.declared.Failed.{Failed};
 ghost use Rattle.stream_law.specs.Sources.{Gives};
 ghost use Rattle.stream_law.specs.Streams.{holding};
-ghost use Rattle.stream_law.specs.Keeping.{OnAs, trading_run, RefusedAs, BadLaid, BadTold, BegunAs, KeptAs, are_open, Any, OpenedAs, OpensAs, LogCompared, BrokenCompared};
+ghost use Rattle.stream_law.specs.Keeping.{OnAs, trading_run, RefusedAs, BadLaid, BadTold, BegunAs, KeptAs, OpenedAs, OpensAs, LogCompared, BrokenCompared};
 
+use descriptors::Failed;
 use descriptors::live::Live;
 use feed_law::{Run, Stage};
 use feed_prints::printing;
 use resume_law::Back;
 use state_law::Session;
-use stream_law::{Finish, Kept, Mode, Sink, Source};
+use stream_law::{Finish, Mode, NotKept, Sink, Source};
 use tables::lengths;
 use terms::{Refusal, sizes};
 
@@ -95,7 +96,7 @@ fn tell_in(
     ensures { BadTold expected.now to refusal place result }
 {
     let n = bad_line(refusal, place, out);
-    let shown = stream_sink::show(live, to, expected, &out[0..n]);
+    let shown = stream_sink::show(live, to, expected, &out[..n]);
     stream_sink::finish(shown, expected)
 }
 
@@ -156,11 +157,9 @@ fn begin(
     requires { LongTables buys.old sells.old }
     ensures { BegunAs expected.now (Gives given.now input) to back buys.old sells.old result }
 {
-    let answer = back.answer;
-    let session = back.session;
-    match answer {
+    match back.answer {
         Ok(count) => {
-            let run = trading(session);
+            let run = trading(back.session);
             go_on(
                 live, input, given, file, to, expected, count, run, buys, sells,
             )
@@ -193,17 +192,17 @@ fn keep_from(
     buys: &mut [u64],
     sells: &mut [u64],
     room: &mut [u64],
-) -> Kept
+) -> Result<Finish, NotKept>
     requires { LongEnough buys.old sells.old room.old }
     ensures { KeptAs expected.now (Gives kept.now saved) (Gives given.now input) to result }
 {
     let back = stream_back::come_back(live, saved, kept, buys, sells, room);
-    let read = back.read;
-    if !read {
-        return Kept::NotRead;
+    if !back.read {
+        return Err(NotKept::NotRead);
     }
-    let ran = begin(live, input, given, file, to, expected, back, buys, sells);
-    Kept::Ran(ran)
+    Ok(begin(
+        live, input, given, file, to, expected, back, buys, sells,
+    ))
 }
 
 // The same, with tables and a room of its own.
@@ -216,7 +215,7 @@ fn keep_open(
     file: i32,
     to: Sink,
     expected: &[u8],
-) -> Kept
+) -> Result<Finish, NotKept>
     ensures { KeptAs expected.now (Gives kept.now saved) (Gives given.now input) to result }
 {
     let mut buys = [0u64; lengths::TABLE];
@@ -229,64 +228,56 @@ fn keep_open(
 
 // ---- the file
 
-// Whether the file could be opened, to be read and to be appended to.
-fn are_open(saved: i32, file: i32) -> bool
-    ensures { result ≡ are_open saved file }
+// Keeps the day of a file that was opened to be read and to be appended to, if both could be; no text is lent, and none is expected.
+fn keep_both(
+    live: &Live,
+    input: i32,
+    saved: Result<i32, Failed>,
+    file: Result<i32, Failed>,
+) -> Result<Finish, NotKept>
+    ensures { OpenedAs saved file result }
 {
-    (saved >= 0) & (file >= 0)
+    let (Ok(saved), Ok(file)) = (saved, file) else {
+        return Err(NotKept::NotOpened);
+    };
+    let (saved, input) = (Source::Live(saved), Source::Live(input));
+    keep_open(live, saved, &[], input, &[], file, Sink::Print, &[])
 }
 
-// Keeps the day of a file that is open; no text is lent, and none is expected.
-fn keep_live(live: &Live, input: i32, saved: i32, file: i32, none: &[u8]) -> Kept
-    ensures { KeptAs none.now Any Any Sink.Print result }
-{
-    keep_open(
-        live,
-        Source::Live(saved),
-        none,
-        Source::Live(input),
-        none,
-        file,
-        Sink::Print,
-        none,
-    )
+// Closes a file that was opened.
+fn close(live: &mut Live, opened: Result<i32, Failed>) {
+    if let Ok(fd) = opened {
+        live.close(fd);
+    }
 }
 
-// Keeps the day of a file that is open to be read and to be appended to, and closes both.
-fn keep_both(live: &mut Live, input: i32, saved: i32, file: i32) -> Kept
-    ensures { KeptAs [] Any Any Sink.Print result }
+// Keeps the day of a file that was opened twice or could not be; then what was opened is closed, which leaves the error that is told.
+fn keep_opened(
+    live: &mut Live,
+    input: i32,
+    saved: Result<i32, Failed>,
+    file: Result<i32, Failed>,
+) -> Result<Finish, NotKept>
+    ensures { OpenedAs saved file result }
 {
-    let none = [0u8; 1];
-    let kept = keep_live(live, input, saved, file, &none[0..0]);
-    live.close(saved);
-    live.close(file);
+    let kept = keep_both(live, input, saved, file);
+    close(live, saved);
+    close(live, file);
     kept
 }
 
-// The same, of a file that was opened twice or could not be; then what was opened is closed, which leaves the error that is told.
-fn keep_opened(live: &mut Live, input: i32, saved: i32, file: i32) -> Kept
-    ensures { OpenedAs saved file result }
-{
-    if !are_open(saved, file) {
-        live.close(saved);
-        live.close(file);
-        return Kept::NotOpened;
-    }
-    keep_both(live, input, saved, file)
-}
-
-// Makes the file that a path names where it is missing, and opens it to read it. Answers a descriptor, or -1.
-fn open_or_make(rt: &HostRuntime, live: &mut Live, path: &[u8]) -> i32 {
+// Makes the file that a path names where it is missing, and opens it to read it. Answers its descriptor.
+fn open_or_make(rt: &HostRuntime, live: &mut Live, path: &[u8]) -> Result<i32, Failed> {
     let made = live.create(rt, path);
-    live.close(made);
+    close(live, made);
     live.open_read(rt, path)
 }
 
 // ---- a whole day, from its file on
 
 // Keeps the day of the file that a path names: brings it back, and goes on with the lines of a descriptor.
-pub fn keep(rt: &HostRuntime, live: &mut Live, input: i32, path: &[u8]) -> Kept
-    ensures { OpensAs result }
+pub fn keep(rt: &HostRuntime, live: &mut Live, input: i32, path: &[u8]) -> Result<Finish, NotKept>
+    ensures { OpensAs Failed result }
 {
     let saved = open_or_make(rt, live, path);
     let file = live.open_append(rt, path);
@@ -295,7 +286,7 @@ pub fn keep(rt: &HostRuntime, live: &mut Live, input: i32, path: &[u8]) -> Kept
 
 // Holds all that keeping a day would hand on, to its file and to the output, against an expected log, for a file and an input that are lent as
 // texts; nothing is written.
-pub fn compare(kept: &[u8], given: &[u8], expected: &[u8]) -> Kept
+pub fn compare(kept: &[u8], given: &[u8], expected: &[u8]) -> Result<Finish, NotKept>
     ensures { LogCompared kept.now given.now expected.now result }
 {
     let live = Live::none();
@@ -312,7 +303,7 @@ pub fn compare(kept: &[u8], given: &[u8], expected: &[u8]) -> Kept
 }
 
 // The same, where a read of the file fails behind the text.
-pub fn compare_broken(kept: &[u8], given: &[u8], expected: &[u8]) -> Kept
+pub fn compare_broken(kept: &[u8], given: &[u8], expected: &[u8]) -> Result<Finish, NotKept>
     ensures { BrokenCompared kept.now given.now expected.now result }
 {
     let live = Live::none();

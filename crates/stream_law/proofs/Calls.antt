@@ -40,7 +40,7 @@ more_if s to e o = rw (e, o)
 
 module _ {run : Run} {buys sells room bytes out : List ℕ} (long : LongEnough buys sells room) (wide : text_most ≤ length out) {expected : List ℕ} {to s : Sink}
     {buys' sells' room' out' : List ℕ} {t : Taken} {more : Bool} (b : TakenBy fed_of run buys sells room bytes out buys' sells' room' out' t)
-    (h : SentAs expected to (take (t.wrote - 0) out') s) (m : more ≡ more_after t.stop s) where
+    (h : SentAs expected to (take t.wrote out') s) (m : more ≡ more_after t.stop s) where
   abbrev lent : Lent
   lent = lent_of run.session buys sells room
 

@@ -60,6 +60,6 @@ module _ {expected : List ℕ} (text : List ℕ) {to r : Sink} {mode : Mode} whe
   end_keeping e s = rw e s
 
 pub ended-sent : {expected : List ℕ} (mode : Mode) {to r : Sink} {stage : Stage} {rest : ℕ} {out out' : List ℕ} {n : ℕ} → EndTold stage rest out n out' →
-    SentAs expected to (end_by mode (take (n - 0) out')) r → SentAs expected to ((says_of mode).end stage rest) r
+    SentAs expected to (end_by mode (take n out')) r → SentAs expected to ((says_of mode).end stage rest) r
 ended-sent {expected} mode {to} {r} {stage} {rest} p s =
     subst (λ (x : List ℕ). SentAs expected to x r) (ap (end_by mode) (room-text p.printed) ∙ end_by_lem mode stage rest) s

@@ -65,10 +65,8 @@ goes_read says expected to run buys sells buf buf' have n e =
 -- ---- what was printed, and the rooms
 
 -- the text that was printed stands at the start of the output room
-pub room-text : {out text out' : List ℕ} {n : ℕ} → Prints out text n out' → take (n - 0) out' ≡ text
-room-text {out} {text} {out'} {n} p =
-    let z : n - 0 ≡ n = omega arith in
-    ap (λ (m : ℕ). take m out') z ∙ (λ i. take (p.count i) (p.laid i)) ∙ take-append_seam text (drop (length text) out)
+pub room-text : {out text out' : List ℕ} {n : ℕ} → Prints out text n out' → take n out' ≡ text
+room-text {out} {text} {out'} {n} p = (λ i. take (p.count i) (p.laid i)) ∙ take-append_seam text (drop (length text) out)
 
 -- rooms of zeros are long enough
 zeros-length : (n : ℕ) → length (zeros n) ≡ n

@@ -95,12 +95,10 @@ on_if Stage.Trading to e = (open_if (is_open to) e, λ p. let z : ◌≡◌ {A =
 on_if Stage.Over to e = absurd (let z : ◌≡◌ {A = ℕ} 0 1 = cc in omega arith)
 
 pub takes_in : {says : Says ℕ} {expected buf : List ℕ} {end : ℕ} {to : Sink} {run : Run} {buys sells buf' buys' sells' : List ℕ} {h : Handed} {reading : Reading} →
-    end ≤ length buf → length buf' ≡ length buf → OverAs says expected (holding run buys sells (take (end - 0) buf)) to buys' sells' h →
+    end ≤ length buf → length buf' ≡ length buf → OverAs says expected (holding run buys sells (take end buf)) to buys' sells' h →
     ToFront buf h.used end buf' → reading ≡ reading_after h.run.stage h.to →
     TakesIn says expected run buf end buys sells to buf' buys' sells' (record { run = h.run; have = end - h.used; to = h.to; reading = reading })
 takes_in {says} {expected} {buf} {end} {to} {run} {buys} {sells} {buf'} {buys'} {sells'} {h} {reading} there same k moved e =
-    let z : end - 0 ≡ end = omega arith in
-    let k' : OverAs says expected (holding run buys sells (take end buf)) to buys' sells' h = rw z at k in
     record {
       room =
           record {
@@ -108,12 +106,12 @@ takes_in {says} {expected} {buf} {end} {to} {run} {buys} {sells} {buf'} {buys'} 
             short =
                 λ on.
                 let o = on_if h.run.stage h.to (sym e ∙ on) in
-                let l = (k'.lines o.0).short o.1 in
+                let l = (k.lines o.0).short o.1 in
                 let m = length-drop h.used (take end buf) ∙ ap (λ (n : ℕ). n - h.used) (length-take-le end buf there) in
                 omega arith;
           };
       goes =
           subst (λ (x : List ℕ). Goes says expected (holding run buys sells (take end buf)) to [] (holding h.run buys' sells' x) h.to)
-          (sym moved.front) k'.goes;
+          (sym moved.front) k.goes;
       reading = e;
     }

@@ -6,10 +6,7 @@ use mathlib.Core.List.{List, [], ◌∷◌, ◌++◌, append_assoc, append-nil}
 use lib.ListN.{length, take}
 use lib.IntN.{ℤ}
 use borrow.Author.Tests.{not-true, not-false}
-use mir.Syntax.{w32}
-use mir.Val.{of_z, to_z, SFits}
-use mir.Facts.{to_z-of_z}
-use Rattle.std.specs.Prelude.{Ok, Err}
+use Rattle.std.specs.Prelude.{Ok, Err, Result}
 use Rattle.terms.specs.declared.Refusal.{Refusal}
 use Rattle.tables.specs.Tables.{decode}
 use Rattle.state_law.specs.Opening.{fixed_session}
@@ -31,7 +28,7 @@ use Rattle.resume_law.specs.Pieces.BackOf.{not_read, too_long, all_read, bad_met
 use Rattle.promises.specs.Printed.{Holding}
 use Rattle.stream_law.specs.declared.Sink.{Sink}
 use Rattle.stream_law.specs.declared.Finish.{Finish}
-use Rattle.stream_law.specs.declared.Kept.{Kept}
+use Rattle.stream_law.specs.declared.NotKept.{NotKept}
 use Rattle.stream_law.specs.Sinks.{SentAs, CutAs, is_open, finish_of, saved_part, shown_part}
 use Rattle.stream_law.specs.Streams.{logging, holding, ThroughAs}
 use Rattle.stream_law.specs.Keeping.{Part, save, show, handing, saves_of, shows_of, log_of, LogsTell, GoesOnFrom, OnAs, trading_run, no_day, RefusedAs, BadLaid, BadTold, KeepsAs, BegunAs, KeptAs, are_open, Any, OpenedAs, OpensAs}
@@ -84,7 +81,7 @@ module _ {expected : List ℕ} {gives : List ℕ → Bool → Type 0} {to cut : 
 -- ---- a bad line is told
 
 pub bad_told : {expected out out' : List ℕ} {to s : Sink} {q : Refusal} {place : ℕ} {n : ℕ} {r : Finish} → BadLaid q place out n out' →
-    SentAs expected to (shown_part (take (n - 0) out')) s → r ≡ finish_of expected s → BadTold expected to q place r
+    SentAs expected to (shown_part (take n out')) s → r ≡ finish_of expected s → BadTold expected to q place r
 bad_told {expected} {to = to} {s = s} p h e =
     record {
       told = record { sink = s; sent = subst (λ (x : List ℕ). SentAs expected to (shown_part x) s) (room-text p.printed) h; finish = e };
@@ -131,25 +128,25 @@ module _ (expected : List ℕ) {saves : List ℕ → Bool → Type 0} (gives : L
         keeps-day (resumed bytes) (resumed bytes).answer refl b
         (subst (λ (c : Comeback). KeepsAs expected gives to c (day_in back.session buys sells) f) b.answer k.keeps)
 
-    pub kept-ran : not back.read ≡ false → BegunAs expected gives to back buys sells f → KeptAs expected saves gives to (Kept.Ran f)
+    pub kept-ran : not back.read ≡ false → BegunAs expected gives to back buys sells f → KeptAs expected saves gives to (Ok f)
     kept-ran read k = go a.comes
       where
-        was_read : back.read ≡ false → KeptAs expected saves gives to (Kept.Ran f)
+        was_read : back.read ≡ false → KeptAs expected saves gives to (Ok f)
         was_read e = absurd (false≢true (sym e ∙ not-false back.read read))
 
-        go : BackOf saves length resumed buys sells back → KeptAs expected saves gives to (Kept.Ran f)
+        go : BackOf saves length resumed buys sells back → KeptAs expected saves gives to (Ok f)
         go (not_read bytes g e) = was_read e
         go (too_long bytes whole g l e) = was_read e
         go (all_read bytes g e b) = ran bytes f g refl (keeps bytes b k)
         go (bad_met bytes whole g t e b) = told bytes whole f g (ap tells_bad (sym b.answer) ∙ t) refl (keeps bytes b k)
 
-  pub kept-unread : not back.read ≡ true → KeptAs expected saves gives to Kept.NotRead
+  pub kept-unread : not back.read ≡ true → KeptAs expected saves gives to (Err NotKept.NotRead)
   kept-unread read = go a.comes
     where
-      not-all : back.read ≡ true → KeptAs expected saves gives to Kept.NotRead
+      not-all : back.read ≡ true → KeptAs expected saves gives to (Err NotKept.NotRead)
       not-all e = absurd (true≢false (sym e ∙ not-true back.read read))
 
-      go : BackOf saves length resumed buys sells back → KeptAs expected saves gives to Kept.NotRead
+      go : BackOf saves length resumed buys sells back → KeptAs expected saves gives to (Err NotKept.NotRead)
       go (not_read bytes g e) = unread bytes g refl
       go (too_long bytes whole g l e) = long bytes whole g l refl
       go (all_read bytes g e b) = not-all e
@@ -157,19 +154,16 @@ module _ (expected : List ℕ) {saves : List ℕ → Bool → Type 0} (gives : L
 
 -- ---- the file is opened
 
--- a signed number is handed on as it is read back from its bits
-abbrev read : ℤ → ℤ
-read z = to_z w32 (of_z w32 z)
+module _ {E : Type 0} {saved file : Result ℤ E} {r : Result Finish NotKept} where
+  -- either opening failed
+  pub opened_unsaved : {e : E} → saved ≡ Err e → r ≡ Err NotKept.NotOpened → OpenedAs saved file r
+  opened_unsaved s h = record { kept = rw s h }
 
-module _ {saved file : ℤ} {wide : Bool} (f : SFits w32 saved) (g : SFits w32 file) (e : wide ≡ are_open (read saved) (read file)) where
-  as_told : (b : Bool) → wide ≡ b → are_open saved file ≡ b
-  as_told b h = sym (e ∙ λ i. are_open (to_z-of_z f i) (to_z-of_z g i)) ∙ h
+  pub opened_unfiled : {fd : ℤ} {e : E} → saved ≡ Ok fd → file ≡ Err e → r ≡ Err NotKept.NotOpened → OpenedAs saved file r
+  opened_unfiled s f h = record { kept = rw (s, f) h }
 
-  pub opened-not : {r : Kept} → not wide ≡ true → r ≡ Kept.NotOpened → OpenedAs saved file r
-  opened-not n h = record { kept = rw (as_told false (not-true wide n)) h }
+  pub opened_both : {fd fd' : ℤ} → saved ≡ Ok fd → file ≡ Ok fd' → KeptAs [] Any Any Sink.Print r → OpenedAs saved file r
+  opened_both s f h = record { kept = rw (s, f) h }
 
-  pub opened_both : {r : Kept} → not wide ≡ false → KeptAs [] Any Any Sink.Print r → OpenedAs saved file r
-  opened_both n h = record { kept = rw (as_told true (not-false wide n)) h }
-
-pub opens_as : {saved file : ℤ} {r : Kept} → OpenedAs saved file r → OpensAs r
-opens_as {saved} {file} h = record { saved = saved; file = file; opened = h }
+  pub opens_as : OpenedAs saved file r → OpensAs E r
+  opens_as h = record { saved = saved; file = file; opened = h }

@@ -36,7 +36,7 @@ logging-quiet = record { line = refl; end = λ n. refl }
 
 module _ {run : Run} {buys sells room bytes out : List ℕ} {expected : List ℕ} {to r : Sink} {buys' sells' room' out' : List ℕ} {t : Turned} {more : Bool}
     (b : TurnLong run buys sells room bytes out buys' sells' room' out' t)
-    (h : SentAs expected to (logging.line (take (t.saves - 0) bytes) (take (t.wrote - 0) out')) r) (m : more ≡ still_going t.used r) where
+    (h : SentAs expected to (logging.line (take t.saves bytes) (take t.wrote out')) r) (m : more ≡ still_going t.used r) where
   abbrev held : Lent
   held = lent_of run.session buys sells room
 
@@ -55,8 +55,8 @@ module _ {run : Run} {buys sells room bytes out : List ℕ} {expected : List ℕ
       (turn_same run.stage held (roomy-long b.long) bytes).long k.stage (ap (λ (l : Lent). l.session) k.world)
       (ap (λ (l : Lent). l.buys) k.world) (ap (λ (l : Lent). l.sells) k.world) (ap (λ (n : ℕ). drop n bytes) k.used)
 
-  saved_is : take (t.saves - 0) bytes ≡ take u.saves bytes
-  saved_is = let z : t.saves - 0 ≡ t.saves = omega arith in ap (λ (n : ℕ). take n bytes) (z ∙ k.saves)
+  saved_is : take t.saves bytes ≡ take u.saves bytes
+  saved_is = ap (λ (n : ℕ). take n bytes) k.saves
 
   line-goes : Goes logging expected (holding run buys sells bytes) to [] left r
   line-goes =

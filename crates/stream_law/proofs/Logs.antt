@@ -21,7 +21,8 @@ use Rattle.resume_law.specs.Pieces.{is_unbegun, tells_bad, too_many}
 use Rattle.stream_law.specs.declared.Source.{Source}
 use Rattle.stream_law.specs.declared.Sink.{Sink}
 use Rattle.stream_law.specs.declared.Finish.{Finish}
-use Rattle.stream_law.specs.declared.Kept.{Kept}
+use Rattle.std.specs.Prelude.{Result, Ok, Err}
+use Rattle.stream_law.specs.declared.NotKept.{NotKept}
 use Rattle.stream_law.specs.Sources.{Gives}
 use Rattle.stream_law.specs.Sinks.{matched_by, SentAs, CutAs, settled, shown_part, finish_of}
 use Rattle.stream_law.specs.Streams.{logging, Finished, Tells}
@@ -80,14 +81,14 @@ module _ (given expected : List ℕ) (short : length given < too_many) where
         go false k = finish-tells expected (shown_part (bad_text e.refusal e.place)) f k
 
 -- the bytes of a file that is lent are those that came back
-module _ (kept given expected : List ℕ) (r : Kept) (few : length kept < too_many) (short : length given < too_many) where
+module _ (kept given expected : List ℕ) (r : Result Finish NotKept) (few : length kept < too_many) (short : length given < too_many) where
   abbrev Right : Type 0
   Right = KeptTells (kept_log (resumed kept).answer (resumed kept).day given expected) expected r
 
-  right : (bytes : List ℕ) (f : Finish) → bytes ≡ kept → r ≡ Kept.Ran f →
+  right : (bytes : List ℕ) (f : Finish) → bytes ≡ kept → r ≡ Ok f →
       KeepsAs expected (Gives given (Source.Text 0)) (Sink.Match 0) (resumed bytes).answer (resumed bytes).day f → Right
   right bytes f e q k =
-      subst (λ (x : Kept). KeptTells (kept_log (resumed kept).answer (resumed kept).day given expected) expected x) (sym q)
+      subst (λ (x : Result Finish NotKept). KeptTells (kept_log (resumed kept).answer (resumed kept).day given expected) expected x) (sym q)
       (subst (λ (x : List ℕ). Tells (kept_log (resumed x).answer (resumed x).day given expected) expected f) e
       (keeps-tells given expected short f (resumed bytes).answer (resumed bytes).day k))
 
@@ -106,7 +107,7 @@ module _ (kept given expected : List ℕ) (r : Kept) (few : length kept < too_ma
   broken-tells (told bytes true f g t e k) = absurd g
   broken-tells (told bytes false f g t e k) = bad_line (subst (λ (x : List ℕ). tells_bad (resumed x).answer ≡ true) g t) (right bytes f g e k)
 
-module _ {kept given expected : List ℕ} {r : Kept} where
+module _ {kept given expected : List ℕ} {r : Result Finish NotKept} where
   pub log_compared : KeptAs expected (Gives kept (Source.Text 0)) (Gives given (Source.Text 0)) (Sink.Match 0) r → LogCompared kept given expected r
   log_compared k = record { tells = λ few short. text-tells kept given expected r few short k }
 

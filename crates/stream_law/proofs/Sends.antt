@@ -8,12 +8,12 @@ use mathlib.Core.List.{List, [], ◌∷◌, ◌++◌, append-nil}
 use lib.ListN.{length, get_or, take, drop, length-append}
 use lib.Seq.{drop-drop, drop-length, length-take-le}
 use lib.Dec.{eqb}
-use lib.IntN.{ℤ}
+use Rattle.std.specs.Prelude.{Result, Ok, Err}
 use borrow.Author.Tests.{eqb-true, eqb-false, le-leb, lt-leb}
 use Rattle.stream_law.specs.declared.Sink.{Sink}
 use Rattle.stream_law.specs.declared.Finish.{Finish}
 use Rattle.stream_law.specs.declared.Place.{Place}
-use Rattle.stream_law.specs.Sinks.{begins, matched_by, matched, Takes, StepsBy, StandsAs, SentAs, is_open, is_zero, kept_by, mark_of, mark_by, save_mark, show_mark, settled, saved_part, shown_part, passed, ShortAs, CutAs, compared_by, finish_of}
+use Rattle.stream_law.specs.Sinks.{begins, matched_by, matched, Takes, StepsBy, StandsAs, SentAs, is_open, kept_by, mark_of, mark_by, save_mark, show_mark, settled, saved_part, shown_part, passed, ShortAs, CutAs, compared_by, finish_of}
 use Rattle.stream_law.specs.Streams.{Tells, Finished, PrintedAs}
 use Rattle.stream_law.proofs.Beginnings.{begins_is, begins_self, begins-append, begins-take}
 
@@ -45,18 +45,15 @@ module _ (next : ℕ → Sink) where
   steps_shut : (to r : Sink) → to ≡ r → is_open r ≡ false → StepsBy next to r
   steps_shut to r e h = subst (λ (s : Sink). StepsBy next s r) (sym e) (stays r h)
 
-kept_takes : (status : ℤ) → Takes (kept_by status)
-kept_takes status = go (is_zero status)
-  where
-    go : (b : Bool) → Takes (cond b Sink.Print Sink.Unsaved)
-    go true = tt
-    go false = tt
+kept_takes : {T E : Type 0} (status : Result T E) → Takes (kept_by status)
+kept_takes (Ok done) = tt
+kept_takes (Err failed) = tt
 
 module _ (expected text : List ℕ) (to r : Sink) where
   pub sent_print : to ≡ Sink.Print → Takes r → SentAs expected to text r
   sent_print e h = record { stands = steps_print (λ at. matched expected at text) to r e h }
 
-  pub sent-kept : (status : ℤ) → to ≡ Sink.Print → r ≡ kept_by status → SentAs expected to text r
+  pub sent-kept : {T E : Type 0} (status : Result T E) → to ≡ Sink.Print → r ≡ kept_by status → SentAs expected to text r
   sent-kept status e h = sent_print e (subst Takes (sym h) (kept_takes status))
 
   pub sent_match : {at : ℕ} → to ≡ Sink.Match at → r ≡ matched expected at text → SentAs expected to text r
@@ -66,7 +63,7 @@ module _ (expected text : List ℕ) (to r : Sink) where
   sent-shut e h = record { stands = steps_shut (λ at. matched expected at text) to r e h }
 
 module _ (expected : List ℕ) (n : ℕ) (to r : Sink) where
-  pub short-kept : (status : ℤ) → to ≡ Sink.Print → r ≡ kept_by status → ShortAs expected to n r
+  pub short-kept : {T E : Type 0} (status : Result T E) → to ≡ Sink.Print → r ≡ kept_by status → ShortAs expected to n r
   short-kept status e h = record { stands = steps_print (λ at. passed expected at n) to r e (subst Takes (sym h) (kept_takes status)) }
 
   pub short_match : {at : ℕ} → to ≡ Sink.Match at → r ≡ passed expected at n → ShortAs expected to n r

@@ -71,11 +71,9 @@ module _ {says : Says ℕ} {expected : List ℕ} {h : Buffered} {r : Finish} {do
   pub ended-unread : {b : Holding} → not done ≡ true → r ≡ Finish.Unread → EndedAs says expected b h r
   ended-unread n e = broken (sym told ∙ not-true done n) e
 
-  pub ended-sent : (buf : List ℕ) {buys sells : List ℕ} {last : Sink} → not done ≡ false → EndsAs says expected (holding h.run buys sells (take (h.have - 0) buf)) h.to last → r ≡ finish_of expected last →
+  pub ended-sent : (buf : List ℕ) {buys sells : List ℕ} {last : Sink} → not done ≡ false → EndsAs says expected (holding h.run buys sells (take h.have buf)) h.to last → r ≡ finish_of expected last →
       EndedAs says expected (held_on buf buys sells h) h r
-  ended-sent buf {last = last} n e q =
-      let z : h.have - 0 ≡ h.have = omega arith in
-      sent last (sym told ∙ not-false done n) (rw z at e).sent q
+  ended-sent buf {last = last} n e q = sent last (sym told ∙ not-false done n) e.sent q
 
 -- ---- a whole run
 

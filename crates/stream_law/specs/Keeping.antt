@@ -1,7 +1,6 @@
 -- A DAY THAT IS KEPT IN A FILE. Document 02, item 4: "The app saves each accepted event as its line, after the settings line, before showing
 -- any report."
-use Rattle.std.specs.Prelude.{ℕ, ◌≤◌, ◌<◌, ◌≡◌, Bool, true, false, cond, ◌&&◌, List, [], ◌∷◌, ◌++◌, length, take, ℤ, Ok, Err}
-use Rattle.std.specs.Int.Signed.{non_neg}
+use Rattle.std.specs.Prelude.{ℕ, ◌≤◌, ◌<◌, ◌≡◌, Bool, true, false, cond, ◌&&◌, List, [], ◌∷◌, ◌++◌, length, take, ℤ, Ok, Err, Result, is_ok}
 use Rattle.terms.specs.declared.Refusal.{Refusal}
 use Rattle.state_law.specs.declared.Session.{Session}
 use Rattle.state_law.specs.Opening.{fixed_session}
@@ -21,7 +20,7 @@ use Rattle.resume_law.specs.Pieces.{is_unbegun, tells_bad, too_many}
 use Rattle.promises.specs.Printed.{Holding, day_on}
 use Rattle.stream_law.specs.declared.Sink.{Sink}
 use Rattle.stream_law.specs.declared.Finish.{Finish}
-use Rattle.stream_law.specs.declared.Kept.{Kept}
+use Rattle.stream_law.specs.declared.NotKept.{NotKept}
 use Rattle.stream_law.specs.Sinks.{CutAs, is_open, finish_of, settled, saved_part, shown_part}
 use Rattle.stream_law.specs.Streams.{logging, ThroughAs, Finished, Tells}
 
@@ -117,12 +116,12 @@ pub record BegunAs (expected : List ℕ) (gives : List ℕ → Bool → Type 0) 
 
 -- THE CONTRACT of a day whose file is open, by what the reads of the file and those of the input give: one of the file failed, or it has too
 -- many bytes; or the program did what the file's bytes come back as, and where those were not all, they have a bad line
-pub data KeptAs (expected : List ℕ) (saves gives : List ℕ → Bool → Type 0) (to : Sink) (r : Kept) : Type 0 where
-  unread : (bytes : List ℕ) → saves bytes false → r ≡ Kept.NotRead → KeptAs expected saves gives to r
-  long : (bytes : List ℕ) (whole : Bool) → saves bytes whole → too_many ≤ length bytes → r ≡ Kept.NotRead → KeptAs expected saves gives to r
-  ran : (bytes : List ℕ) (f : Finish) → saves bytes true → r ≡ Kept.Ran f → KeepsAs expected gives to (resumed bytes).answer (resumed bytes).day f →
+pub data KeptAs (expected : List ℕ) (saves gives : List ℕ → Bool → Type 0) (to : Sink) (r : Result Finish NotKept) : Type 0 where
+  unread : (bytes : List ℕ) → saves bytes false → r ≡ Err NotKept.NotRead → KeptAs expected saves gives to r
+  long : (bytes : List ℕ) (whole : Bool) → saves bytes whole → too_many ≤ length bytes → r ≡ Err NotKept.NotRead → KeptAs expected saves gives to r
+  ran : (bytes : List ℕ) (f : Finish) → saves bytes true → r ≡ Ok f → KeepsAs expected gives to (resumed bytes).answer (resumed bytes).day f →
       KeptAs expected saves gives to r
-  told : (bytes : List ℕ) (whole : Bool) (f : Finish) → saves bytes whole → tells_bad (resumed bytes).answer ≡ true → r ≡ Kept.Ran f →
+  told : (bytes : List ℕ) (whole : Bool) (f : Finish) → saves bytes whole → tells_bad (resumed bytes).answer ≡ true → r ≡ Ok f →
       KeepsAs expected gives to (resumed bytes).answer (resumed bytes).day f → KeptAs expected saves gives to r
 
 -- ---- a comparison, with a file and an input that are lent as texts
@@ -138,45 +137,44 @@ kept_log (Ok n) d given expected = log_behind n Stage.Trading d given expected
 kept_log (Err b) d given expected =
     cond (is_unbegun b.refusal) (log_behind 0 Stage.Awaiting no_day given expected) (shown_part (bad_text b.refusal b.place))
 
-abbrev pub KeptTells : List ℕ → List ℕ → Kept → Type 0
-KeptTells text expected Kept.NotOpened = ⊥
-KeptTells text expected Kept.NotRead = ⊥
-KeptTells text expected (Kept.Ran f) = Tells text expected f
+abbrev pub KeptTells : List ℕ → List ℕ → Result Finish NotKept → Type 0
+KeptTells text expected (Ok f) = Tells text expected f
+KeptTells text expected (Err e) = ⊥
 
 -- THE CONTRACT of `compare`: the answer is right for the log of the two texts
-pub record LogCompared (kept given expected : List ℕ) (r : Kept) : Type 0 where
+pub record LogCompared (kept given expected : List ℕ) (r : Result Finish NotKept) : Type 0 where
   pub tells : length kept < too_many → length given < too_many → KeptTells (kept_log (resumed kept).answer (resumed kept).day given expected) expected r
 
 -- the file could not be read; or it has a bad line, and the answer is right for what is told of that
-pub data BrokenTells (kept given expected : List ℕ) (r : Kept) : Type 0 where
-  not_read : r ≡ Kept.NotRead → BrokenTells kept given expected r
+pub data BrokenTells (kept given expected : List ℕ) (r : Result Finish NotKept) : Type 0 where
+  not_read : r ≡ Err NotKept.NotRead → BrokenTells kept given expected r
   bad_line : tells_bad (resumed kept).answer ≡ true → KeptTells (kept_log (resumed kept).answer (resumed kept).day given expected) expected r →
       BrokenTells kept given expected r
 
 -- THE CONTRACT of `compare_broken`
-pub record BrokenCompared (kept given expected : List ℕ) (r : Kept) : Type 0 where
+pub record BrokenCompared (kept given expected : List ℕ) (r : Result Finish NotKept) : Type 0 where
   pub tells : length kept < too_many → length given < too_many → BrokenTells kept given expected r
 
 -- ---- the file is opened, to be read and to be appended to
 
--- the number of an open descriptor is not negative
-abbrev pub are_open : ℤ → ℤ → Bool
-are_open saved file = non_neg saved && non_neg file
+-- both openings gave a descriptor
+abbrev pub are_open : {E : Type 0} → Result ℤ E → Result ℤ E → Bool
+are_open saved file = is_ok saved && is_ok file
 
 -- a descriptor gives some bytes or other
 abbrev pub Any : List ℕ → Bool → Type 0
 Any bytes whole = Unit {0}
 
-abbrev pub KeptBy : Bool → Kept → Type 0
+abbrev pub KeptBy : Bool → Result Finish NotKept → Type 0
 KeptBy true r = KeptAs [] Any Any Sink.Print r
-KeptBy false r = r ≡ Kept.NotOpened
+KeptBy false r = r ≡ Err NotKept.NotOpened
 
 -- THE CONTRACT of `keep_opened`: the day is kept just where both could be opened
-pub record OpenedAs (saved file : ℤ) (r : Kept) : Type 0 where
+pub record OpenedAs {E : Type 0} (saved file : Result ℤ E) (r : Result Finish NotKept) : Type 0 where
   pub kept : KeptBy (are_open saved file) r
 
--- THE CONTRACT of `keep`: there are descriptors, those that the file was opened as
-pub record OpensAs (r : Kept) : Type 0 where
-  pub saved : ℤ
-  pub file : ℤ
+-- THE CONTRACT of `keep`: there are the descriptors that the file was opened as, or errors of the type E in their place
+pub record OpensAs (E : Type 0) (r : Result Finish NotKept) : Type 0 where
+  pub saved : Result ℤ E
+  pub file : Result ℤ E
   pub opened : OpenedAs saved file r

@@ -1,5 +1,5 @@
 -- What is saved and printed, and where it goes: to a day's file and to standard output, or held against an expected text.
-use Rattle.std.specs.Prelude.{ℕ, ◌+◌, ◌≤◌, ◌<◌, ◌≡◌, Bool, true, false, cond, List, [], ◌∷◌, ◌++◌, length, take, drop, eqb, leb, ℤ, pos, negsuc}
+use Rattle.std.specs.Prelude.{ℕ, ◌+◌, ◌≤◌, ◌<◌, ◌≡◌, Bool, true, false, cond, List, [], ◌∷◌, ◌++◌, length, take, drop, eqb, leb, ℤ, pos, Result, Ok, Err}
 use Rattle.stream_law.specs.declared.Sink.{Sink}
 use Rattle.stream_law.specs.declared.Finish.{Finish}
 use Rattle.stream_law.specs.declared.Place.{Place}
@@ -52,24 +52,12 @@ is_open Sink.Differs = false
 is_open Sink.Unsaved = false
 is_open Sink.Lost = false
 
--- ---- what the C library's numbers say
+-- ---- what a call comes to
 
--- a call that answers 0 has done what it was asked
-abbrev pub is_zero : ℤ → Bool
-is_zero (pos n) = eqb n 0
-is_zero (negsuc n) = false
-
--- so the file took what was saved, is cut, or is on the disk; or that failed
-abbrev pub kept_by : ℤ → Sink
-kept_by status = cond (is_zero status) Sink.Print Sink.Unsaved
-
--- the most bytes that a file can be cut to
-abbrev pub length_most : ℕ
-length_most = 9223372036854775807
-
--- a number of bytes as the C library takes it; a larger one is -1, at which it fails
-abbrev pub length_of : ℕ → ℤ
-length_of n = cond (leb n length_most) (pos n) (negsuc 0)
+-- the file took what was saved, is cut, or is on the disk; or that failed
+abbrev pub kept_by : {T E : Type 0} → Result T E → Sink
+kept_by (Ok done) = Sink.Print
+kept_by (Err failed) = Sink.Unsaved
 
 -- the descriptor of a place, and how a sink stands that could not hand it its bytes
 abbrev pub descriptor_of : Place → ℤ

@@ -11,6 +11,7 @@ use feed_law::Run;
 
 // Where a run's bytes come from: a descriptor; or a text that is lent, of which so many bytes were read, and behind which is the end of the
 // input, or a read that fails.
+// No Option or Result: each variant is a place that bytes come from, and `Gives` says of each by its name what comes.
 #[derive(Clone, Copy)]
 pub enum Source {
     Live(i32),
@@ -20,6 +21,7 @@ pub enum Source {
 
 // Where a run's bytes go, and how they fared: all that was handed went to the file and to standard output; or is held against an expected
 // text, and is its first so many bytes; or is not what was expected; or some could not be saved, or not be printed.
+// No Result: a sink that is shut is handed on as one that is open is, and `StepsBy` says of each by its name how it stands then.
 #[derive(Clone, Copy)]
 pub enum Sink {
     Print,
@@ -30,6 +32,7 @@ pub enum Sink {
 }
 
 // Where bytes are handed to: the file of a day, by its descriptor; or standard output.
+// No Option: each variant is a place, and `mark_of`, `descriptor_of` and `failed_at` speak of each by its name.
 #[derive(Clone, Copy)]
 pub enum Place {
     File(i32),
@@ -56,6 +59,7 @@ pub enum Finish {
 }
 
 // Whether a day is kept: only printed; or kept in the file of a descriptor, so that each line is saved before its text is shown.
+// No Option: `says_of` and `end_by` say of each mode by its name what is handed on, and neither is a descriptor that is missing.
 #[derive(Clone, Copy)]
 pub enum Mode {
     Bare,
@@ -89,10 +93,9 @@ pub struct Buffered {
     pub reading: Reading,
 }
 
-// How a day that is kept ended: its file could not be opened, or not be read; or it ran, and how that ended.
-#[derive(Clone, Copy)]
-pub enum Kept {
+// Why a day was not kept: its file could not be opened, or not be read.
+#[derive(Clone, Copy, Debug, PartialEq, Eq)]
+pub enum NotKept {
     NotOpened,
     NotRead,
-    Ran(Finish),
 }

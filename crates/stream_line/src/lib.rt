@@ -22,7 +22,7 @@ use tables::lengths;
 fn goes_on(used: usize, to: Sink) -> bool
     ensures { result ≡ still_going used to }
 {
-    (used != 0) & stream_sink::is_open(to)
+    used != 0 && stream_sink::is_open(to)
 }
 
 // Saves what is to be saved of a line, and only then shows its text: never the other way round.
@@ -74,17 +74,13 @@ fn keep_in(
     ensures { HandsOn logging expected.now (holding run buys.old sells.old bytes.now) to buys.new sells.new result }
 {
     let t = turn_long(run, bytes, buys, sells, room, out);
-    let after = t.run;
-    let used = t.used;
-    let saves = t.saves;
-    let wrote = t.wrote;
-    let shown = save_then_show(live, to, expected, file, &bytes[0..saves], &out[0..wrote]);
-    let more = goes_on(used, shown);
+    let saved = &bytes[..t.saves];
+    let shown = save_then_show(live, to, expected, file, saved, &out[..t.wrote]);
     Handed {
-        run: after,
-        used: used,
+        run: t.run,
+        used: t.used,
         to: shown,
-        more: more,
+        more: goes_on(t.used, shown),
     }
 }
 

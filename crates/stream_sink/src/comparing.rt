@@ -4,31 +4,14 @@ ghost use Rattle.stream_law.specs.Sinks.{begins, matched, passed};
 
 use stream_law::Sink;
 
-// Whether some bytes are the first bytes of others.
-fn begins(bytes: &[u8], all: &[u8]) -> bool
-    ensures { result ≡ begins bytes.now all.now }
-{
-    if all.len() < bytes.len() {
-        return false;
-    }
-    let mut i: usize = 0;
-    while i < bytes.len() {
-        if bytes[i] != all[i] {
-            return false;
-        }
-        i += 1;
-    }
-    true
-}
-
 // Whether some bytes come next in an expected text.
 fn is_next(expected: &[u8], at: usize, bytes: &[u8]) -> bool
     ensures { result ≡ begins bytes.now (drop at expected.now) }
 {
     if expected.len() < at {
-        return bytes.len() == 0;
+        return bytes.is_empty();
     }
-    begins(bytes, &expected[at..])
+    expected[at..].starts_with(bytes)
 }
 
 // Holds some bytes against an expected text.
@@ -36,8 +19,7 @@ pub fn hold(expected: &[u8], at: usize, bytes: &[u8]) -> Sink
     ensures { result ≡ matched expected.now at bytes.now }
 {
     if is_next(expected, at, bytes) {
-        let next = at + bytes.len();
-        return Sink::Match(next);
+        return Sink::Match(at + bytes.len());
     }
     Sink::Differs
 }
@@ -46,18 +28,14 @@ pub fn hold(expected: &[u8], at: usize, bytes: &[u8]) -> Sink
 pub fn hold_byte(expected: &[u8], at: usize, byte: u8) -> Sink
     ensures { result ≡ matched expected.now at (byte ∷ []) }
 {
-    let one = [byte];
-    hold(expected, at, &one)
+    hold(expected, at, &[byte])
 }
 
 // How many bytes of an expected text are left to meet.
 fn left(expected: &[u8], at: usize) -> usize
     ensures { result ≡ length (drop at expected.now) }
 {
-    if expected.len() < at {
-        return 0;
-    }
-    expected.len() - at
+    expected.len().saturating_sub(at)
 }
 
 // Passes over as many bytes of an expected text.
@@ -65,8 +43,7 @@ pub fn pass(expected: &[u8], at: usize, count: usize) -> Sink
     ensures { result ≡ passed expected.now at count }
 {
     if count <= left(expected, at) {
-        let next = at + count;
-        return Sink::Match(next);
+        return Sink::Match(at + count);
     }
     Sink::Differs
 }

@@ -1,25 +1,23 @@
 // The file of a day: bytes are saved in it, and it is cut; each with a wait until that has reached the disk.
 ghost use Rattle.std.specs.Prelude.{◌≡◌};
-ghost use Rattle.stream_law.specs.Sinks.{SentAs, kept_by, length_of, settled, saved_part, ShortAs, CutAs};
+ghost use Rattle.stream_law.specs.Sinks.{SentAs, kept_by, settled, saved_part, ShortAs, CutAs};
 
 use crate::{comparing, handing};
+use descriptors::Failed;
 use descriptors::live::Live;
 use stream_law::{Place, Sink};
-
-// The most bytes that a file can be cut to.
-const MOST: usize = 9223372036854775807;
 
 // The mark of a wait for the disk.
 const DISK: u8 = b'|';
 
-// How the sink stands by what a call of the C library answered: 0 where it has done what it was asked.
-fn kept(status: i32) -> Sink
+// How the sink stands by whether the file has done what it was asked.
+fn kept(status: Result<(), Failed>) -> Sink
     ensures { result ≡ kept_by status }
 {
-    if status == 0 {
-        return Sink::Print;
+    match status {
+        Ok(()) => Sink::Print,
+        Err(_) => Sink::Unsaved,
     }
-    Sink::Unsaved
 }
 
 // Waits until all that was handed to the file has reached the disk; a comparison holds the mark of that.
@@ -29,9 +27,7 @@ fn settle(live: &Live, to: Sink, expected: &[u8], file: i32) -> Sink
     match to {
         Sink::Print => kept(live.settle(file)),
         Sink::Match(at) => comparing::hold_byte(expected, at, DISK),
-        Sink::Differs => Sink::Differs,
-        Sink::Unsaved => Sink::Unsaved,
-        Sink::Lost => Sink::Lost,
+        shut => shut,
     }
 }
 
@@ -39,21 +35,11 @@ fn settle(live: &Live, to: Sink, expected: &[u8], file: i32) -> Sink
 pub fn save(live: &Live, to: Sink, expected: &[u8], file: i32, bytes: &[u8]) -> Sink
     ensures { SentAs expected.now to (saved_part bytes.now) result }
 {
-    if bytes.len() == 0 {
+    if bytes.is_empty() {
         return to;
     }
     let handed = handing::hand(live, to, expected, Place::File(file), bytes);
     settle(live, handed, expected, file)
-}
-
-// A number of bytes as the C library takes it; a larger one is -1, at which it fails.
-fn length_of(count: usize) -> i64
-    ensures { result ≡ length_of count }
-{
-    if MOST < count {
-        return -1;
-    }
-    count as i64
 }
 
 // Cuts the file to its first bytes; a comparison passes over as many bytes.
@@ -61,11 +47,9 @@ fn shorten(live: &Live, to: Sink, expected: &[u8], file: i32, count: usize) -> S
     ensures { ShortAs expected.now to count result }
 {
     match to {
-        Sink::Print => kept(live.cut(file, length_of(count))),
+        Sink::Print => kept(live.cut(file, count)),
         Sink::Match(at) => comparing::pass(expected, at, count),
-        Sink::Differs => Sink::Differs,
-        Sink::Unsaved => Sink::Unsaved,
-        Sink::Lost => Sink::Lost,
+        shut => shut,
     }
 }
 

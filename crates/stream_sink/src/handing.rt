@@ -37,12 +37,11 @@ fn took(place: Place, taken: usize) -> Wrote
     ensures { result ≡ took_by place taken }
 {
     if taken == 0 {
-        let to = failed(place);
-        return Wrote { to: to, taken: 0 };
+        return none(failed(place));
     }
     Wrote {
         to: Sink::Print,
-        taken: taken,
+        taken,
     }
 }
 
@@ -50,9 +49,8 @@ fn took(place: Place, taken: usize) -> Wrote
 fn held(expected: &[u8], at: usize, bytes: &[u8]) -> Wrote
     ensures { result ≡ held_by (matched expected.now at bytes.now) (length bytes.now) }
 {
-    let to = comparing::hold(expected, at, bytes);
     Wrote {
-        to: to,
+        to: comparing::hold(expected, at, bytes),
         taken: bytes.len(),
     }
 }
@@ -61,7 +59,7 @@ fn held(expected: &[u8], at: usize, bytes: &[u8]) -> Wrote
 fn none(to: Sink) -> Wrote
     ensures { result ≡ held_by to 0 }
 {
-    Wrote { to: to, taken: 0 }
+    Wrote { to, taken: 0 }
 }
 
 // Hands on the first bytes: as many as one write takes.
@@ -71,9 +69,7 @@ fn write_once(live: &Live, to: Sink, expected: &[u8], place: Place, bytes: &[u8]
     match to {
         Sink::Print => took(place, writing::write_some(live, descriptor(place), bytes)),
         Sink::Match(at) => held(expected, at, bytes),
-        Sink::Differs => none(Sink::Differs),
-        Sink::Unsaved => none(Sink::Unsaved), // what could not be saved is not shown
-        Sink::Lost => none(Sink::Lost),
+        shut => none(shut), // what could not be saved is not shown
     }
 }
 
@@ -85,12 +81,11 @@ pub fn write_all(live: &Live, to: Sink, expected: &[u8], place: Place, bytes: &[
     let mut at: usize = 0;
     while at < bytes.len() {
         let wrote = write_once(live, sink, expected, place, &bytes[at..]);
-        let taken = wrote.taken;
         sink = wrote.to;
         if !is_open(sink) {
             return sink;
         }
-        at += taken;
+        at += wrote.taken;
     }
     sink
 }
@@ -110,11 +105,8 @@ fn mark(to: Sink, expected: &[u8], place: Place) -> Sink
     ensures { result ≡ mark_by expected.now place to }
 {
     match to {
-        Sink::Print => Sink::Print,
         Sink::Match(at) => comparing::hold_byte(expected, at, mark_of(place)),
-        Sink::Differs => Sink::Differs,
-        Sink::Unsaved => Sink::Unsaved,
-        Sink::Lost => Sink::Lost,
+        other => other,
     }
 }
 

@@ -11,8 +11,8 @@ mod comparing;
 pub mod files;
 mod handing;
 
-ghost use Rattle.std.specs.Prelude.{◌≡◌, length, eqb};
-ghost use Rattle.stream_law.specs.Sinks.{SentAs, is_open, shown_part, compared_by, finish_of};
+ghost use Rattle.std.specs.Prelude.{◌≡◌};
+ghost use Rattle.stream_law.specs.Sinks.{SentAs, is_open, shown_part, finish_of};
 
 use descriptors::live::Live;
 use stream_law::{Finish, Place, Sink};
@@ -30,7 +30,7 @@ pub fn send(live: &Live, to: Sink, expected: &[u8], bytes: &[u8]) -> Sink
 pub fn show(live: &Live, to: Sink, expected: &[u8], bytes: &[u8]) -> Sink
     ensures { SentAs expected.now to (shown_part bytes.now) result }
 {
-    if bytes.len() == 0 {
+    if bytes.is_empty() {
         return to;
     }
     handing::hand(live, to, expected, Place::Output, bytes)
@@ -42,30 +42,7 @@ pub fn show(live: &Live, to: Sink, expected: &[u8], bytes: &[u8]) -> Sink
 pub fn is_open(to: Sink) -> bool
     ensures { result ≡ is_open to }
 {
-    match to {
-        Sink::Print => true,
-        Sink::Match(_) => true,
-        Sink::Differs => false,
-        Sink::Unsaved => false,
-        Sink::Lost => false,
-    }
-}
-
-// Whether all of an expected text was met.
-fn is_done(expected: &[u8], at: usize) -> bool
-    ensures { result ≡ eqb at (length expected.now) }
-{
-    at == expected.len()
-}
-
-// The end of a comparison.
-fn compared(same: bool) -> Finish
-    ensures { result ≡ compared_by same }
-{
-    if same {
-        return Finish::Same;
-    }
-    Finish::Differs
+    matches!(to, Sink::Print | Sink::Match(_))
 }
 
 // The end of a run that sends no more.
@@ -74,8 +51,8 @@ pub fn finish(to: Sink, expected: &[u8]) -> Finish
 {
     match to {
         Sink::Print => Finish::Printed,
-        Sink::Match(at) => compared(is_done(expected, at)),
-        Sink::Differs => Finish::Differs,
+        Sink::Match(at) if at == expected.len() => Finish::Same,
+        Sink::Match(_) | Sink::Differs => Finish::Differs,
         Sink::Unsaved => Finish::Unsaved,
         Sink::Lost => Finish::Unwritten,
     }

@@ -10,43 +10,13 @@ use lib.Seq.{take-suc, take-suc-set, drop-drop, get_or-drop}
 use lib.IntN.{ℤ}
 use mir.Syntax.{w64}
 use mir.Val.{Fits}
-use Rattle.descriptors.specs.declared.Got.{Got}
+use Rattle.std.specs.Prelude.{Result, Ok, Err}
+use Rattle.descriptors.specs.declared.Failed.{Failed}
 use Rattle.descriptors.specs.Counted.{GotWithin}
 use Rattle.stream_law.specs.declared.Source.{Source}
 use Rattle.stream_law.specs.Sources.{Gives, Leads}
 use Rattle.stream_source.specs.declared.Read.{Read}
 use Rattle.stream_source.specs.Reads.{read_to, CopiedAs, StandsBy, ReadAs}
-
--- ---- a copy, byte by byte
-
--- the first i bytes were copied
-pub record Copied (given : List ℕ) (at i : ℕ) (buf₀ buf : List ℕ) : Type 0 where
-  pub same : length buf ≡ length buf₀
-  pub front : take i buf ≡ take i (drop at given)
-
-pub copied_start : (given : List ℕ) (at : ℕ) (buf : List ℕ) → Copied given at 0 buf buf
-copied_start given at buf = record { same = refl; front = refl }
-
-pub copied_on : {given : List ℕ} {at i v : ℕ} {buf₀ buf : List ℕ} → Copied given at i buf₀ buf → i < length buf → at + i < length given →
-    v ≡ get_or given (at + i) 0 → Copied given at (i + 1) buf₀ (set buf i v)
-copied_on {given} {at} {i} {v} {buf₀} {buf} c here there e =
-    let l : i < length (drop at given) = rw (length-drop at given) (omega arith) in
-    record {
-      same = length-set buf i v ∙ c.same;
-      front =
-          rw (add-one i)
-          (take-suc-set buf i v here
-          ∙ (λ j. c.front j ++ ((e ∙ sym (get_or-drop at given i 0)) j ∷ []))
-          ∙ sym (take-suc (drop at given) i 0 l));
-    }
-
-pub copied_all : {given : List ℕ} {at n i : ℕ} {buf₀ buf : List ℕ} → Copied given at i buf₀ buf → n ≡ min (length given - at) (length buf₀) → i ≡ n →
-    CopiedAs given at buf n
-copied_all {given} {at} {n} {i} {buf₀} {buf} c e h =
-    record {
-      count = e ∙ ap (min (length given - at)) (sym c.same);
-      front = subst (λ (k : ℕ). take k buf ≡ take k (drop at given)) h c.front;
-    }
 
 -- ---- what a copy is for a source
 
@@ -79,50 +49,28 @@ module _ {given : List ℕ} {at : ℕ} {room' : List ℕ} {n : ℕ} (c : CopiedA
   none_left : 0 < length room' → n ≡ 0 → [] ≡ drop (at + n) given
   none_left h z = sym (drop_of_length-le given {i = at + n} (let k = c.count in omega arith))
 
-  text-stands : (m : ℕ) → n ≡ m → 0 < length room' → StandsBy given (Source.Text (at + n)) (Got.Bytes m)
+  text-stands : (m : ℕ) → n ≡ m → 0 < length room' → StandsBy given (Source.Text (at + n)) (Ok m)
   text-stands zero e h = none_left h e
   text-stands (suc m) e h = tt
 
-  broken-stands : (m : ℕ) → n ≡ m → (n ≡ 0 → ⊥) → StandsBy given (Source.Broken (at + n)) (Got.Bytes m)
+  broken-stands : (m : ℕ) → n ≡ m → (n ≡ 0 → ⊥) → StandsBy given (Source.Broken (at + n)) (Ok m)
   broken-stands zero e h = absurd (h e)
   broken-stands (suc m) e h = tt
 
-  pub text_read : {r : Read} → 0 < length room' → r ≡ read_to (Got.Bytes n) (Source.Text (at + n)) → ReadAs given (Source.Text at) room' r
+  pub text_read : {r : Read} → 0 < length room' → r ≡ read_to (Ok n) (Source.Text (at + n)) → ReadAs given (Source.Text at) room' r
   text_read {r} h e =
       subst (ReadAs given (Source.Text at) room') (sym e) (record { within = within; leads = text-leads; stands = text-stands n refl h })
 
-  pub broken_read : {r : Read} → (n ≡ 0 → ⊥) → r ≡ read_to (Got.Bytes n) (Source.Broken (at + n)) → ReadAs given (Source.Broken at) room' r
+  pub broken_read : {r : Read} → (n ≡ 0 → ⊥) → r ≡ read_to (Ok n) (Source.Broken (at + n)) → ReadAs given (Source.Broken at) room' r
   broken_read {r} h e =
       subst (ReadAs given (Source.Broken at) room') (sym e) (record { within = within; leads = broken-leads; stands = broken-stands n refl h })
 
-  pub broken-end : {r : Read} → 0 < length room' → n ≡ 0 → r ≡ read_to Got.Failed (Source.Broken at) → ReadAs given (Source.Broken at) room' r
-  broken-end {r} h z e =
+  pub broken-end : {r : Read} {e : Failed} → 0 < length room' → n ≡ 0 → r ≡ read_to (Err e) (Source.Broken at) → ReadAs given (Source.Broken at) room' r
+  broken-end {r} h z q =
       let at-end : at + n ≡ at = omega arith in
-      subst (ReadAs given (Source.Broken at) room') (sym e)
+      subst (ReadAs given (Source.Broken at) room') (sym q)
       (record {
         within = tt;
         leads = record { behind = λ rest whole g. g };
         stands = none_left h z ∙ ap (λ (k : ℕ). drop k given) at-end;
       })
-
--- ---- by which source it is
-
-module _ {given room' : List ℕ} {from : Source} {r : Read} where
-  pub some-text : {at : ℕ} → from ≡ Source.Text at → ReadAs given (Source.Text at) room' r → ReadAs given from room' r
-  some-text e k = rw e k
-
-  pub some-broken : {at : ℕ} → from ≡ Source.Broken at → ReadAs given (Source.Broken at) room' r → ReadAs given from room' r
-  some-broken e k = rw e k
-
-  -- of a descriptor nothing is known of what it gives
-  pub some_live : {fd fd' : ℤ} {most : ℕ} {g : Got} → from ≡ Source.Live fd → GotWithin most g → length room' ≡ most →
-      r ≡ read_to g (Source.Live fd') → ReadAs given from room' r
-  some_live {fd} {fd'} {most} {g} e h l q =
-      rw e
-      (subst (ReadAs given (Source.Live fd) room') (sym q)
-      (record { within = subst (λ (n : ℕ). GotWithin n g) (sym l) h; leads = record { behind = λ rest whole k. tt }; stands = stands g }))
-    where
-      stands : (x : Got) → StandsBy given (Source.Live fd') x
-      stands (Got.Bytes zero) = tt
-      stands (Got.Bytes (suc n)) = tt
-      stands Got.Failed = tt

@@ -6,60 +6,37 @@
 
 #![tactic(auto)]
 
-ghost use Rattle.std.specs.Prelude.{◌<◌, ◌-◌, min, ◌≡◌, length};
+ghost use Rattle.std.specs.Prelude.{◌<◌, length};
 ghost use Rattle.stream_law.specs.declared.Source.{Source};
-ghost use Rattle.stream_source.specs.Reads.{read_to, CopiedAs, ReadAs, ReadBehind, FilledAs};
+ghost use Rattle.stream_source.specs.Reads.{CopiedAs, ReadAs, ReadBehind, FilledAs};
 
 use descriptors::live::Live;
-use descriptors::{Got, reading};
+use descriptors::{Failed, reading};
 use stream_law::Source;
 
 // What a read came to, and where the source stands then.
 #[derive(Clone, Copy)]
 pub struct Read {
-    pub got: Got,
+    pub got: Result<usize, Failed>,
     pub from: Source,
 }
 
 // ---- a text that is lent
 
-// How many bytes of a text are to be copied: those behind its first ones, as many as fit in a room.
-fn to_copy(given: &[u8], at: usize, room: usize) -> usize
-    ensures { result ≡ min (length given.now - at) room }
-{
-    if given.len() < at {
-        return 0;
-    }
-    let left = given.len() - at;
-    if left < room {
-        return left;
-    }
-    room
-}
-
 // Copies the next bytes of a text into a buffer, as many as there are and fit. Answers how many.
 fn copy(given: &[u8], at: usize, buf: &mut [u8]) -> usize
     ensures { CopiedAs given.now at buf.new result }
 {
-    let n = to_copy(given, at, buf.len());
-    let mut i: usize = 0;
-    while i < n {
-        buf[i] = given[at + i];
-        i += 1;
+    if given.len() < at {
+        return 0;
     }
+    let left = &given[at..];
+    let n = left.len().min(buf.len());
+    buf[..n].copy_from_slice(&left[..n]);
     n
 }
 
 // ---- reads
-
-fn read_to(got: Got, from: Source) -> Read
-    ensures { result ≡ read_to got from }
-{
-    Read {
-        got: got,
-        from: from,
-    }
-}
 
 // Reads the next bytes of a text; behind the last is the end.
 fn read_text(given: &[u8], at: usize, buf: &mut [u8]) -> Read
@@ -67,8 +44,10 @@ fn read_text(given: &[u8], at: usize, buf: &mut [u8]) -> Read
     ensures { ReadAs given.now (Source.Text at) buf.new result }
 {
     let n = copy(given, at, buf);
-    let next = at + n;
-    read_to(Got::Bytes(n), Source::Text(next))
+    Read {
+        got: Ok(n),
+        from: Source::Text(at + n),
+    }
 }
 
 // The same, where a read behind the last byte fails.
@@ -78,10 +57,15 @@ fn read_broken(given: &[u8], at: usize, buf: &mut [u8]) -> Read
 {
     let n = copy(given, at, buf);
     if n == 0 {
-        return read_to(Got::Failed, Source::Broken(at));
+        return Read {
+            got: Err(Failed),
+            from: Source::Broken(at),
+        };
     }
-    let next = at + n;
-    read_to(Got::Bytes(n), Source::Broken(next))
+    Read {
+        got: Ok(n),
+        from: Source::Broken(at + n),
+    }
 }
 
 // Reads once.
@@ -90,7 +74,10 @@ fn read_some(live: &Live, from: Source, given: &[u8], buf: &mut [u8]) -> Read
     ensures { ReadAs given.now from buf.new result }
 {
     match from {
-        Source::Live(fd) => read_to(reading::read_some(live, fd, buf), Source::Live(fd)),
+        Source::Live(fd) => Read {
+            got: reading::read_some(live, fd, buf),
+            from,
+        },
         Source::Text(at) => read_text(given, at, buf),
         Source::Broken(at) => read_broken(given, at, buf),
     }
@@ -112,17 +99,15 @@ pub fn fill(live: &Live, from: Source, given: &[u8], buf: &mut [u8]) -> Read
     let mut source = from;
     while at < buf.len() {
         let read = read_behind(live, source, given, at, buf);
-        let got = read.got;
         source = read.from;
-        match got {
-            Got::Failed => return read_to(Got::Failed, source),
-            Got::Bytes(n) => {
-                if n == 0 {
-                    return read_to(Got::Bytes(at), source);
-                }
-                at += n;
-            }
+        match read.got {
+            Err(_) => return read,
+            Ok(0) => break,
+            Ok(n) => at += n,
         }
     }
-    read_to(Got::Bytes(at), source)
+    Read {
+        got: Ok(at),
+        from: source,
+    }
 }

@@ -6,5 +6,5 @@ use Rattle.stream_back.proofs.from_filled.Goals as goal
 
 ruleset answers = (rules, got-within, ended_at, filled_none, filled-some)
 
-pub returns-in-Bytes : goal.returns-in-Bytes
-returns-in-Bytes c = search answers
+pub returns-in-Ok : goal.returns-in-Ok
+returns-in-Ok c = search answers

@@ -5,8 +5,8 @@ use Rattle.stream_back.proofs.next_piece.Goals as goal
 
 ruleset answers = (rules, piece-within, piece-left, piece-ends, piece-goes)
 
-pub returns-then-not-more : goal.returns-then-not-more
-returns-then-not-more c = search answers
+pub returns-then-not-p : goal.returns-then-not-p
+returns-then-not-p c = search answers
 
 pub returns : goal.returns
 returns c = search answers

@@ -8,11 +8,11 @@ ruleset answers = (rules, handing-start, handing-end, handing-fits, handing-on, 
 pub loop-at-init : goal.loop-at-init
 loop-at-init c = search answers
 
-pub returns-then-not-more : goal.returns-then-not-more
-returns-then-not-more c = search answers
+pub returns-then-not-h : goal.returns-then-not-h
+returns-then-not-h c = search answers
 
 pub loop-at-preserved : goal.loop-at-preserved
 loop-at-preserved c = search answers
 
-pub returns : goal.returns
-returns c = search answers
+pub returns-after-loop-at : goal.returns-after-loop-at
+returns-after-loop-at c = search answers

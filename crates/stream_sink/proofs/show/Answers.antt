@@ -5,5 +5,5 @@ use Rattle.stream_sink.proofs.show.Goals as goal
 
 ruleset answers = (rules, shown_none, shown_some)
 
-pub returns-then-bytes-eq0 : goal.returns-then-bytes-eq0
-returns-then-bytes-eq0 c = search answers
+pub returns-then-is_empty : goal.returns-then-is_empty
+returns-then-is_empty c = search answers

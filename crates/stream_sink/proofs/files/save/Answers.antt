@@ -5,8 +5,8 @@ use Rattle.stream_sink.proofs.files.save.Goals as goal
 
 ruleset answers = (rules, saved-none, saved-some)
 
-pub returns-then-bytes-eq0 : goal.returns-then-bytes-eq0
-returns-then-bytes-eq0 c = search answers
+pub returns-then-is_empty : goal.returns-then-is_empty
+returns-then-is_empty c = search answers
 
 pub returns : goal.returns
 returns c = search answers

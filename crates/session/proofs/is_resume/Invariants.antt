@@ -1,9 +1,0 @@
--- The bytes are compared one by one.
-use Prim.Native.Nat.{◌≤◌, ◌-◌}
-use Rattle.session.proofs.is_resume.Given as goal
-
-abbrev pub invariant-loop-i : goal.invariant-loop-i
-invariant-loop-i l = l.i ≤ 8
-
-abbrev pub decreases-loop-i : goal.decreases-loop-i
-decreases-loop-i l = 8 - l.i
