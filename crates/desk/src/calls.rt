@@ -149,6 +149,7 @@ fn view_length<'a>(side: Side, s: Session, buys: &'a [u64], sells: &'a [u64]) ->
 }
 
 // The length of the view of the named side, 1 buy or 2 sell: it starts at number 0 of that side's table.
+#[tactic(auto, unfolding(desk_law::specs::Calls::view_on))]
 pub fn kakoludar_view<'a>(side: u64, session: &[u64], buys: &'a [u64], sells: &'a [u64]) -> u64
     ensures { result ≡ view_on side session.now buys.now sells.now }
 {
