@@ -87,11 +87,11 @@ fn stood(t: Replayed, before: usize) -> Passed
 fn is_start(bytes: &[u8]) -> bool
     ensures { StartTold bytes.now result }
 {
-    // `matches!` and `_` do not close at the returns of `false`: a proof can only name the place if the code does.
+    // `matches!` does not close at `returns-in_default`: no name there says that the error is the other one.
     match lines_reading::read_event(bytes) {
         Ok(_) => false,
         Err(LineError::Unfinished) => true,
-        Err(LineError::Wrong(place)) => false,
+        Err(LineError::Wrong(_)) => false,
     }
 }
 
