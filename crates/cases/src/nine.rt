@@ -60,8 +60,5 @@ pub fn nine(text: &[u8], from: usize) -> Line
     if at == from {
         at += 1;
     }
-    Line {
-        words,
-        next: at,
-    }
+    Line { words, next: at }
 }

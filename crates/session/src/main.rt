@@ -50,7 +50,7 @@ fn keep(rt: &HostRuntime, live: &mut Live, path: &[u8]) {
 fn keep_named(rt: &HostRuntime, live: &mut Live) -> bool {
     let mut word = [0u8; 4096];
     let n = args::arg(rt, 1, &mut word);
-    if &word[..n] != b"--resume" {
+    if &word[..n] != b"--resume".as_slice() {
         return false;
     }
     let m = args::arg(rt, 2, &mut word);

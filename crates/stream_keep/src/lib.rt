@@ -200,9 +200,7 @@ fn keep_from(
     if !back.read {
         return Err(NotKept::NotRead);
     }
-    Ok(begin(
-        live, input, given, file, to, expected, back, buys, sells,
-    ))
+    Ok(begin(live, input, given, file, to, expected, back, buys, sells))
 }
 
 // The same, with tables and a room of its own.

@@ -5,8 +5,8 @@ use Rattle.stream_keep.proofs.keep_from.Goals as goal
 
 ruleset answers = (rules, kept-ran, kept-unread)
 
-pub returns-then-not-read : goal.returns-then-not-read
-returns-then-not-read c = search answers
+pub returns-then-not-back : goal.returns-then-not-back
+returns-then-not-back c = search answers
 
 pub returns : goal.returns
 returns c = search answers
