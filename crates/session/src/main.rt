@@ -48,27 +48,11 @@ fn keep(rt: &HostRuntime, live: &mut Live, path: &[u8]) {
     }
 }
 
-// Whether some bytes are the word `--resume`.
-fn is_resume(word: &[u8]) -> bool {
-    let asked = b"--resume";
-    if word.len() != asked.len() {
-        return false;
-    }
-    let mut i: usize = 0;
-    while i < asked.len() {
-        if word[i] != asked[i] {
-            return false;
-        }
-        i += 1;
-    }
-    true
-}
-
 // The file that the arguments name, `--resume FILE`.
 fn keep_named(rt: &HostRuntime, live: &mut Live) -> bool {
     let mut word = [0u8; 4096];
     let n = args::arg(rt, 1, &mut word);
-    if !is_resume(&word[0..n]) {
+    if &word[..n] != b"--resume" {
         return false;
     }
     let m = args::arg(rt, 2, &mut word);

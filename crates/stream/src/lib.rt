@@ -121,15 +121,13 @@ fn read_all(
         held: first,
         from: from,
     };
-    let mut turns = u64::MAX;
-    while turns > 0 {
+    for _turn in 0..u64::MAX {
         h = read_on(live, mode, expected, given, h, buf, buys, sells);
         let now = h.held;
         let reading = now.reading;
         if !is_on(reading) {
             return h;
         }
-        turns -= 1;
     }
     h
 }

@@ -73,13 +73,11 @@ module _ (h : Coming) (buf buys sells buys' sells' : List ℕ) (p : Passed)
 
 pub record WentOn (given : List ℕ) (turns : ℕ) (from₀ : Source) (h₀ : Coming) (buf₀ buys₀ sells₀ : List ℕ) (from : Source) (h : Coming) (buf buys sells : List ℕ) : Type 0 where
   pub within : h.have ≤ length buf
-  pub least : ℕ
-  pub turned : 2 ^ 64 - 1 ≤ turns + least
-  pub went : Went given least from₀ (stands_on buf₀ buys₀ sells₀ h₀) from (stands_on buf buys sells h)
+  pub went : Went given turns from₀ (stands_on buf₀ buys₀ sells₀ h₀) from (stands_on buf buys sells h)
 
 pub pieces_start : (given : List ℕ) (from : Source) (h : Coming) (buf buys sells : List ℕ) → h.have ≤ length buf →
-    WentOn given (2 ^ 64 - 1) from h buf buys sells from h buf buys sells
-pieces_start given from h buf buys sells l = record { within = l; least = 0; turned = omega arith; went = went_unread given from (onward-none _) }
+    WentOn given 0 from h buf buys sells from h buf buys sells
+pieces_start given from h buf buys sells l = record { within = l; went = went_unread given from (onward-none _) }
 
 module _ {given : List ℕ} {turns : ℕ} {from₀ : Source} {h₀ : Coming} {buf₀ buys₀ sells₀ : List ℕ} {from : Source} {h : Coming} {buf buys sells : List ℕ}
     (g : WentOn given turns from₀ h₀ buf₀ buys₀ sells₀ from h buf buys sells) where
@@ -90,20 +88,18 @@ module _ {given : List ℕ} {turns : ℕ} {from₀ : Source} {h₀ : Coming} {bu
   pieces_there = g.within
 
   module _ {buf' buys' sells' : List ℕ} {r : Piece} (k : ComesOn given from h buf buys sells buf' buys' sells' r) where
-    pub pieces_on : not r.coming.more ≡ false → WentOn given (turns - 1) from₀ h₀ buf₀ buys₀ sells₀ r.from r.coming buf' buys' sells'
+    pub pieces_on : not r.coming.more ≡ false → WentOn given (turns + 1) from₀ h₀ buf₀ buys₀ sells₀ r.from r.coming buf' buys' sells'
     pieces_on n =
         record {
           within = k.comes.within;
-          least = g.least + 1;
-          turned = omega (arith, g.turned);
           went = went_then g.went (k.comes.on (not-false r.coming.more n));
         }
 
     pub pieces_back : not r.coming.more ≡ true → First buys' sells' r.coming.back
     pieces_back n = went_back g.went (k.comes.off (not-true r.coming.more n))
 
-  -- the turns have run out, so the bytes are too many
-  pub pieces_out : {r : Back} → turns ≤ 0 → r ≡ unread_back → First buys sells r
+  -- all turns were made, so the bytes are too many
+  pub pieces_out : {r : Back} → 2 ^ 64 - 1 ≤ turns → r ≡ unread_back → First buys sells r
   pieces_out {r} z e =
       let s = gives-some given from in
       let w = g.went in
@@ -112,7 +108,7 @@ module _ {given : List ℕ} {turns : ℕ} {from₀ : Source} {h₀ : Coming} {bu
       let m = length-append w.got s.bytes in
       record {
         comes =
-            too_long all s.whole (w.leads.behind s.bytes s.whole s.gives) (omega (arith, w.some, g.turned, z)) (ap (λ (x : Back). x.read) e);
+            too_long all s.whole (w.leads.behind s.bytes s.whole s.gives) (omega (arith, w.some, z)) (ap (λ (x : Back). x.read) e);
       }
 
 -- ---- the first piece: what stands behind the settings line is moved to the front

@@ -172,8 +172,7 @@ fn take_pieces(
 {
     let mut source = from;
     let mut h = first;
-    let mut turns = u64::MAX;
-    while turns > 0 {
+    for _turn in 0..u64::MAX {
         let piece = next_piece(live, source, given, h, buf, buys, sells, room);
         source = piece.from;
         h = piece.coming;
@@ -181,7 +180,6 @@ fn take_pieces(
         if !more {
             return h.back;
         }
-        turns -= 1;
     }
     resume_pieces::unread()
 }

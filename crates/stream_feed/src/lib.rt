@@ -181,12 +181,7 @@ pub fn to_front(buf: &mut [u8], start: usize, end: usize)
     requires { (start ≤ end) × (end ≤ length buf.old) }
     ensures { ToFront buf.old start end buf.new }
 {
-    let n = end - start;
-    let mut i: usize = 0;
-    while i < n {
-        buf[i] = buf[start + i];
-        i += 1;
-    }
+    buf.copy_within(start..end, 0);
 }
 
 fn reading_to(to: Sink) -> Reading

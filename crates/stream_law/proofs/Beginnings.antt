@@ -2,13 +2,13 @@
 use Prim.Native.Nat.{ℕ, zero, suc, ◌+◌, ◌-◌, ◌≤◌, ◌<◌}
 use native.Mathlib.Omega.{arith}
 use native.Mathlib.Nat.{le_of_eq, le_of_lt}
-use native.Mathlib.Numerals.{add-one}
 use mathlib.Core.Path.{◌≡◌, refl, sym, ap, ◌∙◌}
 use mathlib.Core.Bool.{Bool, true, false, cond, false≢true}
 use mathlib.Core.List.{List, [], ◌∷◌, ◌++◌}
-use lib.ListN.{length, get_or, take, drop, length-append, length-drop, drop_of_length-le}
-use lib.Seq.{drop-cons, take_all}
+use lib.ListN.{length, take, drop, length-append, length-drop, drop_of_length-le}
+use lib.Seq.{take_all}
 use lib.Dec.{eqb}
+use lib.Pointwise.{pointwise}
 use borrow.Author.Tests.{eqb-true, eq-eqb, ne_eqb}
 use Rattle.terms.proofs.Logic.{cases}
 use Rattle.stream_law.specs.Sinks.{begins}
@@ -47,55 +47,13 @@ begins-append (x ∷ xs) zs [] = refl
 begins-append (x ∷ xs) zs (y ∷ ys) =
     cases (eqb x y) (λ h. rw h (begins-append xs zs ys)) (λ h. rw h)
 
--- ---- a byte at a time
+-- ---- std's word for it
 
--- bytes that are longer than others are not their first bytes
-longer : (xs ys : List ℕ) → length ys < length xs → begins xs ys ≡ false
+begins_point : (xs ys : List ℕ) → pointwise eqb xs (take (length xs) ys) ≡ begins xs ys
 unfolding begins
-longer [] ys h = absurd (omega arith)
-longer (x ∷ xs) [] h = refl
-longer (x ∷ xs) (y ∷ ys) h =
-    let l : length ys < length xs = omega arith in
-    cases (eqb x y) (λ e. rw e (longer xs ys l)) (λ e. rw e)
-
-pub not_longer : (xs ys : List ℕ) → length ys < length xs → false ≡ begins xs ys
-not_longer xs ys h = sym (longer xs ys h)
-
-none : (xs ys : List ℕ) → length xs ≤ 0 → begins xs ys ≡ true
-unfolding begins
-none [] ys h = refl
-none (x ∷ xs) ys h = absurd (let z : suc (length xs) ≤ 0 = h in omega arith)
-
--- the first i bytes are alike, so the bytes behind them decide
-pub record Agree (xs ys : List ℕ) (i : ℕ) : Type 0 where
-  pub within : i ≤ length xs
-  pub long : length xs ≤ length ys
-  pub rest : begins xs ys ≡ begins (drop i xs) (drop i ys)
-
-pub agree_start : (xs ys : List ℕ) → length xs ≤ length ys → Agree xs ys 0
-agree_start xs ys h = record { within = omega arith; long = h; rest = refl }
-
-module _ {xs ys : List ℕ} {i : ℕ} (a : Agree xs ys i) where
-  pub agree_end : length xs ≤ i → true ≡ begins xs ys
-  agree_end h = sym (a.rest ∙ none (drop i xs) (drop i ys) (rw (length-drop i xs) (omega arith)))
-
-  module _ (h : i < length xs) where
-    there : i < length ys
-    there = omega (arith, a.long)
-
-    pub agree_not : (get_or xs i 0 ≡ get_or ys i 0 → ⊥) → false ≡ begins xs ys
-    unfolding begins
-    agree_not d = let l = there in sym (a.rest ∙ rw (drop-cons xs i 0, drop-cons ys i 0, ne_eqb (get_or xs i 0) (get_or ys i 0) d))
-
-    pub agree_on : get_or xs i 0 ≡ get_or ys i 0 → Agree xs ys (i + 1)
-    unfolding begins
-    agree_on d =
-        let l = there in
-        record {
-          within = omega arith;
-          long = a.long;
-          rest = a.rest ∙ rw (add-one i, drop-cons xs i 0, drop-cons ys i 0, eq-eqb (get_or xs i 0) (get_or ys i 0) d);
-        }
+begins_point [] ys = refl
+begins_point (x ∷ xs) [] = refl
+begins_point (x ∷ xs) (y ∷ ys) = cases (eqb x y) (λ h. rw h (begins_point xs ys)) (λ h. rw h)
 
 -- ---- the place up to which an expected output was printed
 
@@ -115,8 +73,9 @@ past_end [] ys at h = eq-eqb 0 0 refl
 past_end (x ∷ xs) ys at h = rw (drop_of_length-le ys (le_of_lt h)) (ne_eqb (suc (length xs)) 0 (λ e. omega arith))
 
 -- the bytes of the expected output behind the place decide
-pub begins-there : (xs ys : List ℕ) (at : ℕ) {found : Bool} → found ≡ begins xs (take (length ys - at) (drop at ys)) → found ≡ begins xs (drop at ys)
-begins-there xs ys at e = e ∙ ap (begins xs) (rest_is ys at)
+pub begins-there : (xs ys : List ℕ) (at : ℕ) {found : Bool} →
+    found ≡ pointwise eqb xs (take (length xs) (take (length ys - at) (drop at ys))) → found ≡ begins xs (drop at ys)
+begins-there xs ys at e = e ∙ ap (λ (r : List ℕ). pointwise eqb xs (take (length xs) r)) (rest_is ys at) ∙ begins_point xs (drop at ys)
 
 -- Bytes that agree from a place on end within the expected output, or there are none: so the next place fits a machine number too.
 pub next_fits : (xs ys : List ℕ) (at most : ℕ) {found : Bool} → found ≡ begins xs (drop at ys) → found ≡ true → at < most → length ys < most →

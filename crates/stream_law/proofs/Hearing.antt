@@ -1,5 +1,5 @@
 -- Reads are made one after the other, and each leads the run on.
-use Prim.Native.Nat.{ℕ, ◌+◌, ◌-◌, ◌≤◌, ◌<◌}
+use Prim.Native.Nat.{ℕ, ◌+◌, ◌≤◌, ◌<◌}
 use native.Mathlib.Omega.{arith}
 use mathlib.Core.Path.{◌≡◌, refl, sym, ap, ◌∙◌, subst}
 use mathlib.Core.Bool.{Bool, true, false, not, true≢false, false≢true}
@@ -45,19 +45,18 @@ on_is Reading.On e = refl
 on_is Reading.Done e = absurd (false≢true e)
 on_is Reading.Failed e = absurd (false≢true e)
 
--- ---- reads, one after the other, while more is to be read: each gave a byte at least, so the bytes that came and the turns that are left are
--- together no fewer than all turns
+-- ---- reads, one after the other, while more is to be read: each gave a byte at least, so no fewer bytes came than reads were made
 
-pub record Listens (says : Says ℕ) (expected given : List ℕ) (left : ℕ) (h₀ : Buffered) (from₀ : Source) (buf₀ buys₀ sells₀ buf buys sells : List ℕ) (h : Buffered)
+pub record Listens (says : Says ℕ) (expected given : List ℕ) (made : ℕ) (h₀ : Buffered) (from₀ : Source) (buf₀ buys₀ sells₀ buf buys sells : List ℕ) (h : Buffered)
     (from : Source) : Type 0 where
   pub on : h.reading ≡ Reading.On
   pub heard : HearsOn says expected given 0 h₀ from₀ buf₀ buys₀ sells₀ buf buys sells h from
-  pub count : too_many ≤ left + length heard.hears.got
+  pub count : made ≤ length heard.hears.got
 
 -- before the first read nothing is kept
-pub listens_start : (says : Says ℕ) (expected given buf buys sells : List ℕ) (from : Source) {left : ℕ} {run : Run} {to : Sink} {h : Buffered} → h ≡ held_as run 0 to Reading.On →
-    too_many ≤ left → Listens says expected given left h from buf buys sells buf buys sells h from
-listens_start says expected given buf buys sells from {h = h} e all =
+pub listens_start : (says : Says ℕ) (expected given buf buys sells : List ℕ) (from : Source) {run : Run} {to : Sink} {h : Buffered} → h ≡ held_as run 0 to Reading.On →
+    Listens says expected given 0 h from buf buys sells buf buys sells h from
+listens_start says expected given buf buys sells from {h = h} e =
     let z = ap (λ (x : Buffered). x.have) e in
     let was : h.reading ≡ Reading.On = ap (λ (x : Buffered). x.reading) e in
     record {
@@ -77,8 +76,8 @@ listens_start says expected given buf buys sells from {h = h} e all =
       count = omega arith;
     }
 
-module _ {says : Says ℕ} {expected given : List ℕ} {left : ℕ} {h₀ : Buffered} {from₀ : Source} {buf₀ buys₀ sells₀ buf buys sells : List ℕ} {h : Buffered} {from : Source}
-    (p : Listens says expected given left h₀ from₀ buf₀ buys₀ sells₀ buf buys sells h from) where
+module _ {says : Says ℕ} {expected given : List ℕ} {made : ℕ} {h₀ : Buffered} {from₀ : Source} {buf₀ buys₀ sells₀ buf buys sells : List ℕ} {h : Buffered} {from : Source}
+    (p : Listens says expected given made h₀ from₀ buf₀ buys₀ sells₀ buf buys sells h from) where
   -- what is kept is short, so there is room behind it
   pub listens_room : line_room < length buf → h.have < length buf
   listens_room w = let l = p.heard.hears.room.short p.on in omega arith
@@ -103,13 +102,13 @@ module _ {says : Says ℕ} {expected given : List ℕ} {left : ℕ} {h₀ : Buff
               };
         }
 
-    pub listens_then : not reads ≡ false → Listens says expected given (left - 1) h₀ from₀ buf₀ buys₀ sells₀ buf' buys' sells' r from'
+    pub listens_then : not reads ≡ false → Listens says expected given (made + 1) h₀ from₀ buf₀ buys₀ sells₀ buf' buys' sells' r from'
     listens_then n =
         let was : r.reading ≡ Reading.On = on_is r.reading (sym e ∙ not-false reads n) in
         let l = length-append p.heard.hears.got q.hears.got in
         let m = q.hears.some was in
         let k = p.count in
-        let all : too_many ≤ left - 1 + length (p.heard.hears.got ++ q.hears.got) = omega arith in
+        let all : made + 1 ≤ length (p.heard.hears.got ++ q.hears.got) = omega arith in
         record { on = was; heard = heard_then 0 (λ _. omega arith); count = all }
 
     -- the last read: it does not matter how many bytes came
@@ -117,8 +116,8 @@ module _ {says : Says ℕ} {expected given : List ℕ} {left : ℕ} {h₀ : Buff
         Hears says expected given least (holding run buys₀ sells₀ []) from₀ to buf' buys' sells' r from'
     listens_off {least} f n = hears-first f (heard_then least (λ g. absurd (true≢false (sym (ap is_on g) ∙ sym e ∙ not-true reads n))))
 
-  -- the turns are over
-  pub listens_all : {run : Run} {to : Sink} {reading : Reading} → h₀ ≡ held_as run 0 to reading → left ≤ 0 →
+  -- all reads are made
+  pub listens_all : {run : Run} {to : Sink} {reading : Reading} → h₀ ≡ held_as run 0 to reading → too_many ≤ made →
       Hears says expected given too_many (holding run buys₀ sells₀ []) from₀ to buf buys sells h from
   listens_all e n =
       hears-first e

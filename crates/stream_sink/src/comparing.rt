@@ -4,23 +4,6 @@ ghost use Rattle.stream_law.specs.Sinks.{begins, matched, passed};
 
 use stream_law::Sink;
 
-// Whether some bytes are the first bytes of others.
-fn begins(bytes: &[u8], all: &[u8]) -> bool
-    ensures { result ≡ begins bytes.now all.now }
-{
-    if all.len() < bytes.len() {
-        return false;
-    }
-    let mut i: usize = 0;
-    while i < bytes.len() {
-        if bytes[i] != all[i] {
-            return false;
-        }
-        i += 1;
-    }
-    true
-}
-
 // Whether some bytes come next in an expected text.
 fn is_next(expected: &[u8], at: usize, bytes: &[u8]) -> bool
     ensures { result ≡ begins bytes.now (drop at expected.now) }
@@ -28,7 +11,7 @@ fn is_next(expected: &[u8], at: usize, bytes: &[u8]) -> bool
     if expected.len() < at {
         return bytes.len() == 0;
     }
-    begins(bytes, &expected[at..])
+    expected[at..].starts_with(bytes)
 }
 
 // Holds some bytes against an expected text.

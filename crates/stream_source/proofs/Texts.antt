@@ -1,12 +1,11 @@
 -- A text that is lent: its next bytes are copied, and behind the last is its end, or a read that fails.
-use Prim.Native.Nat.{ℕ, zero, suc, ◌+◌, ◌-◌, ◌^◌, ◌≤◌, ◌<◌, min}
+use Prim.Native.Nat.{ℕ, zero, suc, ◌+◌, ◌^◌, ◌≤◌, ◌<◌}
 use native.Mathlib.Omega.{arith}
-use native.Mathlib.Numerals.{add-one}
 use mathlib.Core.Path.{◌≡◌, refl, sym, ap, ◌∙◌, subst}
 use mathlib.Core.Bool.{Bool, true, false}
-use mathlib.Core.List.{List, [], ◌∷◌, ◌++◌}
-use lib.ListN.{length, get_or, take, drop, set, length-set, length-drop, take-append-drop, drop_of_length-le}
-use lib.Seq.{take-suc, take-suc-set, drop-drop, get_or-drop}
+use mathlib.Core.List.{List, [], ◌++◌}
+use lib.ListN.{length, take, drop, take-append-drop, drop_of_length-le}
+use lib.Seq.{drop-drop}
 use lib.IntN.{ℤ}
 use mir.Syntax.{w64}
 use mir.Val.{Fits}
@@ -16,37 +15,6 @@ use Rattle.stream_law.specs.declared.Source.{Source}
 use Rattle.stream_law.specs.Sources.{Gives, Leads}
 use Rattle.stream_source.specs.declared.Read.{Read}
 use Rattle.stream_source.specs.Reads.{read_to, CopiedAs, StandsBy, ReadAs}
-
--- ---- a copy, byte by byte
-
--- the first i bytes were copied
-pub record Copied (given : List ℕ) (at i : ℕ) (buf₀ buf : List ℕ) : Type 0 where
-  pub same : length buf ≡ length buf₀
-  pub front : take i buf ≡ take i (drop at given)
-
-pub copied_start : (given : List ℕ) (at : ℕ) (buf : List ℕ) → Copied given at 0 buf buf
-copied_start given at buf = record { same = refl; front = refl }
-
-pub copied_on : {given : List ℕ} {at i v : ℕ} {buf₀ buf : List ℕ} → Copied given at i buf₀ buf → i < length buf → at + i < length given →
-    v ≡ get_or given (at + i) 0 → Copied given at (i + 1) buf₀ (set buf i v)
-copied_on {given} {at} {i} {v} {buf₀} {buf} c here there e =
-    let l : i < length (drop at given) = rw (length-drop at given) (omega arith) in
-    record {
-      same = length-set buf i v ∙ c.same;
-      front =
-          rw (add-one i)
-          (take-suc-set buf i v here
-          ∙ (λ j. c.front j ++ ((e ∙ sym (get_or-drop at given i 0)) j ∷ []))
-          ∙ sym (take-suc (drop at given) i 0 l));
-    }
-
-pub copied_all : {given : List ℕ} {at n i : ℕ} {buf₀ buf : List ℕ} → Copied given at i buf₀ buf → n ≡ min (length given - at) (length buf₀) → i ≡ n →
-    CopiedAs given at buf n
-copied_all {given} {at} {n} {i} {buf₀} {buf} c e h =
-    record {
-      count = e ∙ ap (min (length given - at)) (sym c.same);
-      front = subst (λ (k : ℕ). take k buf ≡ take k (drop at given)) h c.front;
-    }
 
 -- ---- what a copy is for a source
 

@@ -6,7 +6,7 @@
 
 #![tactic(auto)]
 
-ghost use Rattle.std.specs.Prelude.{◌<◌, ◌-◌, min, ◌≡◌, length};
+ghost use Rattle.std.specs.Prelude.{◌<◌, ◌≡◌, length};
 ghost use Rattle.stream_law.specs.declared.Source.{Source};
 ghost use Rattle.stream_source.specs.Reads.{read_to, CopiedAs, ReadAs, ReadBehind, FilledAs};
 
@@ -23,30 +23,13 @@ pub struct Read {
 
 // ---- a text that is lent
 
-// How many bytes of a text are to be copied: those behind its first ones, as many as fit in a room.
-fn to_copy(given: &[u8], at: usize, room: usize) -> usize
-    ensures { result ≡ min (length given.now - at) room }
-{
-    if given.len() < at {
-        return 0;
-    }
-    let left = given.len() - at;
-    if left < room {
-        return left;
-    }
-    room
-}
-
 // Copies the next bytes of a text into a buffer, as many as there are and fit. Answers how many.
 fn copy(given: &[u8], at: usize, buf: &mut [u8]) -> usize
     ensures { CopiedAs given.now at buf.new result }
 {
-    let n = to_copy(given, at, buf.len());
-    let mut i: usize = 0;
-    while i < n {
-        buf[i] = given[at + i];
-        i += 1;
-    }
+    let rest = &given[at.min(given.len())..];
+    let n = rest.len().min(buf.len());
+    buf[..n].copy_from_slice(&rest[..n]);
     n
 }
 
@@ -108,7 +91,7 @@ pub fn read_behind(live: &Live, from: Source, given: &[u8], have: usize, buf: &m
 pub fn fill(live: &Live, from: Source, given: &[u8], buf: &mut [u8]) -> Read
     ensures { FilledAs given.now from buf.new result }
 {
-    let mut at: usize = 0;
+    let mut at = 0;
     let mut source = from;
     while at < buf.len() {
         let read = read_behind(live, source, given, at, buf);

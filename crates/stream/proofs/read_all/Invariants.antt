@@ -1,4 +1,4 @@
--- The loop keeps what the reads came to, that each gave a byte at least, and that the buffer has room for another; the number of turns left falls.
+-- The loop keeps what the reads came to, that each gave a byte at least, and that the buffer has room for another.
 use Prim.Native.Nat.{◌<◌}
 use mathlib.Core.Path.{◌≡◌}
 use lib.ListN.{length}
@@ -8,14 +8,11 @@ use Rattle.stream_law.specs.Streams.{says_of}
 use Rattle.stream_law.proofs.Hearing.{Listens}
 use Rattle.stream.proofs.read_all.Given as goal
 
-abbrev pub invariant-loop-turns : goal.invariant-loop-turns
-invariant-loop-turns l =
-    Listens (says_of l.mode) l.expected l.given l.turns l.initial.h.held l.initial.h.from l.initial.buf l.initial.buys l.initial.sells l.buf l.buys l.sells l.h.held l.h.from
+abbrev pub invariant-loop-_turn : goal.invariant-loop-_turn
+invariant-loop-_turn l =
+    Listens (says_of l.mode) l.expected l.given l._turn l.initial.h.held l.initial.h.from l.initial.buf l.initial.buys l.initial.sells l.buf l.buys l.sells l.h.held l.h.from
     × LongTables l.buys l.sells
     × (line_room < length l.buf)
     × (length l.buf ≡ length l.initial.buf)
     × (length l.buys ≡ length l.initial.buys)
     × (length l.sells ≡ length l.initial.sells)
-
-abbrev pub decreases-loop-turns : goal.decreases-loop-turns
-decreases-loop-turns l = l.turns

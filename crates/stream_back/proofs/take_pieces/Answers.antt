@@ -1,4 +1,4 @@
--- The loop keeps that the same is still to come, and that a byte was read in each turn; the number of turns left falls.
+-- The loop keeps that the same is still to come, and that a byte was read in each turn.
 use borrow.Author.Rules.{rules}
 use Rattle.resume_law.proofs.Replays.{long_kept}
 use Rattle.stream_back.proofs.Onwards.{pieces_start, pieces_there, pieces_on, pieces_back, pieces_out}
@@ -9,8 +9,8 @@ ruleset answers = (rules, long_kept, pieces_start, pieces_there, pieces_on, piec
 pub returns-then-not-more : goal.returns-then-not-more
 returns-then-not-more c = search answers
 
-pub loop-turns-preserved : goal.loop-turns-preserved
-loop-turns-preserved c = search answers
+pub loop-_turn-preserved : goal.loop-_turn-preserved
+loop-_turn-preserved c = search answers
 
 pub returns : goal.returns
 returns c = search answers

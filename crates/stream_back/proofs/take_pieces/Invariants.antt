@@ -1,4 +1,4 @@
--- The loop keeps that the same is still to come, and that a byte was read in each turn; the number of turns left falls.
+-- The loop keeps that the same is still to come, and that a byte was read in each turn.
 use Prim.Native.Nat.{◌<◌}
 use mathlib.Core.Path.{◌≡◌}
 use lib.ListN.{length}
@@ -7,15 +7,12 @@ use Rattle.engine_law.specs.Calls.{LongEnough}
 use Rattle.stream_back.proofs.Onwards.{WentOn}
 use Rattle.stream_back.proofs.take_pieces.Given as goal
 
-abbrev pub invariant-loop-turns : goal.invariant-loop-turns
-invariant-loop-turns l =
-    WentOn l.given l.turns l.initial.source l.initial.h l.initial.buf l.initial.buys l.initial.sells l.source l.h l.buf l.buys l.sells
+abbrev pub invariant-loop-_turn : goal.invariant-loop-_turn
+invariant-loop-_turn l =
+    WentOn l.given l._turn l.initial.source l.initial.h l.initial.buf l.initial.buys l.initial.sells l.source l.h l.buf l.buys l.sells
     × LongEnough l.buys l.sells l.room
     × (line_room < length l.buf)
     × (length l.buf ≡ length l.initial.buf)
     × (length l.buys ≡ length l.initial.buys)
     × (length l.sells ≡ length l.initial.sells)
     × (length l.room ≡ length l.initial.room)
-
-abbrev pub decreases-loop-turns : goal.decreases-loop-turns
-decreases-loop-turns l = l.turns

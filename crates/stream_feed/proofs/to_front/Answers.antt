@@ -1,10 +1,6 @@
--- Before each turn the first i bytes were moved: that is what the loop keeps.
-use borrow.Author.Rules.{rules}
-use Rattle.stream_law.proofs.Front.{moved_on, moved_front}
+-- The part that std copies to the front stands there.
+use Rattle.stream_law.proofs.Front.{moved_front}
 use Rattle.stream_feed.proofs.to_front.Goals as goal
 
-pub loop-i-preserved : goal.loop-i-preserved
-loop-i-preserved c = (search rules, moved_on c.loop-i.invariant.1 (search rules))
-
 pub returns : goal.returns
-returns c = moved_front c.loop-i.invariant.1 (search rules) (search rules)
+returns c = moved_front c.args.buf.now c.args.start c.args.end c.requires.1 c.copy_within.ensures.after

@@ -7,3 +7,6 @@ ruleset answers = (rules, past_end, begins-there)
 
 pub returns-then-expected-at : goal.returns-then-expected-at
 returns-then-expected-at c = search answers
+
+pub returns : goal.returns
+returns c = begins-there c.args.bytes.now c.args.expected.now c.args.at c.starts_with.ensures.value
