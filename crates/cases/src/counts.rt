@@ -35,23 +35,23 @@ pub fn tell(told: Ending, count: Count) -> Count {
             io::write_all(1, b" right\n");
             Count {
                 right: std::num::wrapping_add_u64(right, 1),
-                wrong: wrong,
-                unread: unread,
+                wrong,
+                unread,
             }
         }
         Ending::Wrong => {
             io::write_all(1, b" WRONG\n");
             Count {
-                right: right,
+                right,
                 wrong: std::num::wrapping_add_u64(wrong, 1),
-                unread: unread,
+                unread,
             }
         }
         Ending::Unread => {
             io::write_all(1, b" UNREAD\n");
             Count {
-                right: right,
-                wrong: wrong,
+                right,
+                wrong,
                 unread: std::num::wrapping_add_u64(unread, 1),
             }
         }

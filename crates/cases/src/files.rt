@@ -7,11 +7,7 @@ use descriptors::live::Live;
 fn end_with(path: &mut [u8], n: usize, ending: &[u8])
     requires { n + length ending.now ≤ length path.old }
 {
-    let mut i: usize = 0;
-    while i < ending.len() {
-        path[n + i] = ending[i];
-        i += 1;
-    }
+    path[n..n + ending.len()].copy_from_slice(ending);
 }
 
 // Opens a file of a case: its name is the first n bytes of a path, followed by an ending.

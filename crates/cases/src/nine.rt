@@ -39,14 +39,14 @@ fn read(text: &[u8], from: usize) -> Word
         at += 1;
         if d < 48 {
             return Word {
-                value: value,
+                value,
                 next: at,
             };
         }
         value = value % 1_000_000_000_000_000_000 * 10 + (d - 48) % 10;
     }
     Word {
-        value: value,
+        value,
         next: at,
     }
 }
@@ -67,7 +67,7 @@ pub fn nine(text: &[u8], from: usize) -> Line
         at += 1;
     }
     Line {
-        words: words,
+        words,
         next: at,
     }
 }

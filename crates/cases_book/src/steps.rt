@@ -55,9 +55,9 @@ fn incoming(side: Side, w: [u64; 9]) -> Incoming
     let kind = kind_of(w[2], w[3]);
     let range = range_of(w[6], w[7]);
     Incoming {
-        side: side,
-        kind: kind,
-        range: range,
+        side,
+        kind,
+        range,
         number: w[5],
         lots: w[4],
         time: 60_000,
@@ -66,10 +66,8 @@ fn incoming(side: Side, w: [u64; 9]) -> Incoming
 }
 
 fn fill(t: &mut [u64], from: usize, value: u64) {
-    let mut i = from;
-    while i < t.len() {
+    for i in from..t.len() {
         t[i] = value;
-        i += 1;
     }
 }
 

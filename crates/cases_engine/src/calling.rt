@@ -35,10 +35,10 @@ fn entry_of(act: u64, lots: u64, price: u64) -> Entry {
     let kind = kind_of(act / 2 % 2, price);
     let life = life_of(act / 4 % 2);
     Entry {
-        side: side,
-        kind: kind,
-        life: life,
-        lots: lots,
+        side,
+        kind,
+        life,
+        lots,
     }
 }
 
@@ -66,7 +66,7 @@ fn up_to(n: u64, most: usize) -> usize
 pub fn begin(w: [u64; 9]) -> Opened {
     let category = setting::category_of(w[1]);
     let g = Settings {
-        category: category,
+        category,
         base: w[2],
         close: w[3],
         settle: w[4],
@@ -89,7 +89,7 @@ pub fn apply_event(
     let act = act_of(w[5], w[6], w[7]);
     let e = Event {
         time: w[4],
-        act: act,
+        act,
     };
     let nbuys = up_to(w[1], buys.len());
     let nsells = up_to(w[2], sells.len());

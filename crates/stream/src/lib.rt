@@ -33,10 +33,10 @@ fn held(run: Run, have: usize, to: Sink, reading: Reading) -> Buffered
     ensures { result ≡ held_as run have to reading }
 {
     Buffered {
-        run: run,
-        have: have,
-        to: to,
-        reading: reading,
+        run,
+        have,
+        to,
+        reading,
     }
 }
 
@@ -68,7 +68,7 @@ fn read_on(
             let off = held(run, have, to, Reading::Failed);
             Heard {
                 held: off,
-                from: from,
+                from,
             }
         }
         Got::Bytes(n) => {
@@ -76,14 +76,14 @@ fn read_on(
                 let off = held(run, have, to, Reading::Done);
                 return Heard {
                     held: off,
-                    from: from,
+                    from,
                 };
             }
             let end = have + n;
             let on = stream_feed::take_in(live, mode, to, expected, run, buf, end, buys, sells);
             Heard {
                 held: on,
-                from: from,
+                from,
             }
         }
     }
@@ -119,7 +119,7 @@ fn read_all(
     let first = held(run, 0, to, Reading::On);
     let mut h = Heard {
         held: first,
-        from: from,
+        from,
     };
     for _turn in 0..u64::MAX {
         h = read_on(live, mode, expected, given, h, buf, buys, sells);

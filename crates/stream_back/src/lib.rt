@@ -47,8 +47,8 @@ fn coming_to(have: usize, before: usize, session: Session) -> Coming
     ensures { result ≡ coming_to have before session }
 {
     Coming {
-        have: have,
-        before: before,
+        have,
+        before,
         back: resume_pieces::back_to(Comeback::Counts(before), session),
         more: true,
     }
@@ -60,7 +60,7 @@ fn coming_end(back: Back) -> Coming
     Coming {
         have: 0,
         before: 0,
-        back: back,
+        back,
         more: false,
     }
 }
@@ -71,8 +71,8 @@ fn stopped(before: usize, session: Session, read: bool) -> Coming
 {
     coming_end(Back {
         answer: Comeback::Counts(before),
-        session: session,
-        read: read,
+        session,
+        read,
     })
 }
 
@@ -148,7 +148,7 @@ fn next_piece(
     if !more {
         return Piece {
             coming: coming_end(came),
-            from: from,
+            from,
         };
     }
     let now = came.session;

@@ -71,9 +71,9 @@ fn hand_in(
     let more = has_more(stop, sent);
     Handed {
         run: after,
-        used: used,
+        used,
         to: sent,
-        more: more,
+        more,
     }
 }
 
@@ -232,7 +232,7 @@ pub fn take_in(
         run: after,
         have: left,
         to: sink,
-        reading: reading,
+        reading,
     }
 }
 

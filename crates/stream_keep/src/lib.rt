@@ -35,7 +35,7 @@ fn trading(session: Session) -> Run
 {
     Run {
         stage: Stage::Trading,
-        session: session,
+        session,
     }
 }
 

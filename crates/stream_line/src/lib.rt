@@ -82,9 +82,9 @@ fn keep_in(
     let more = goes_on(used, shown);
     Handed {
         run: after,
-        used: used,
+        used,
         to: shown,
-        more: more,
+        more,
     }
 }
 

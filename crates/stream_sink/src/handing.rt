@@ -38,11 +38,11 @@ fn took(place: Place, taken: usize) -> Wrote
 {
     if taken == 0 {
         let to = failed(place);
-        return Wrote { to: to, taken: 0 };
+        return Wrote { to, taken: 0 };
     }
     Wrote {
         to: Sink::Print,
-        taken: taken,
+        taken,
     }
 }
 
@@ -52,7 +52,7 @@ fn held(expected: &[u8], at: usize, bytes: &[u8]) -> Wrote
 {
     let to = comparing::hold(expected, at, bytes);
     Wrote {
-        to: to,
+        to,
         taken: bytes.len(),
     }
 }
@@ -61,7 +61,7 @@ fn held(expected: &[u8], at: usize, bytes: &[u8]) -> Wrote
 fn none(to: Sink) -> Wrote
     ensures { result ≡ held_by to 0 }
 {
-    Wrote { to: to, taken: 0 }
+    Wrote { to, taken: 0 }
 }
 
 // Hands on the first bytes: as many as one write takes.

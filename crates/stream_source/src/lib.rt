@@ -39,8 +39,8 @@ fn read_to(got: Got, from: Source) -> Read
     ensures { result ≡ read_to got from }
 {
     Read {
-        got: got,
-        from: from,
+        got,
+        from,
     }
 }
 

@@ -5,11 +5,11 @@ use Rattle.stream.proofs.read_all.Goals as goal
 
 ruleset answers = (rules, listens_start, listens_room, listens_then, listens_off, listens_all)
 
-pub loop-_turn-init : goal.loop-_turn-init
-loop-_turn-init c = search answers
+pub loop-turn-init : goal.loop-turn-init
+loop-turn-init c = search answers
 
 pub returns-then-not-is_on : goal.returns-then-not-is_on
 returns-then-not-is_on c = search answers
 
-pub loop-_turn-preserved : goal.loop-_turn-preserved
-loop-_turn-preserved c = search answers
+pub loop-turn-preserved : goal.loop-turn-preserved
+loop-turn-preserved c = search answers

@@ -8,8 +8,8 @@ use Rattle.stream_law.specs.Streams.{says_of}
 use Rattle.stream_law.proofs.Hearing.{Listens}
 use Rattle.stream.proofs.read_all.Given as goal
 
-abbrev pub invariant-loop-_turn : goal.invariant-loop-_turn
-invariant-loop-_turn l =
+abbrev pub invariant-loop-turn : goal.invariant-loop-turn
+invariant-loop-turn l =
     Listens (says_of l.mode) l.expected l.given l._turn l.initial.h.held l.initial.h.from l.initial.buf l.initial.buys l.initial.sells l.buf l.buys l.sells l.h.held l.h.from
     × LongTables l.buys l.sells
     × (line_room < length l.buf)

@@ -9,8 +9,8 @@ ruleset answers = (rules, long_kept, pieces_start, pieces_there, pieces_on, piec
 pub returns-then-not-more : goal.returns-then-not-more
 returns-then-not-more c = search answers
 
-pub loop-_turn-preserved : goal.loop-_turn-preserved
-loop-_turn-preserved c = search answers
+pub loop-turn-preserved : goal.loop-turn-preserved
+loop-turn-preserved c = search answers
 
 pub returns : goal.returns
 returns c = search answers

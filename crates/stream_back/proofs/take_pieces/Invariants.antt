@@ -7,8 +7,8 @@ use Rattle.engine_law.specs.Calls.{LongEnough}
 use Rattle.stream_back.proofs.Onwards.{WentOn}
 use Rattle.stream_back.proofs.take_pieces.Given as goal
 
-abbrev pub invariant-loop-_turn : goal.invariant-loop-_turn
-invariant-loop-_turn l =
+abbrev pub invariant-loop-turn : goal.invariant-loop-turn
+invariant-loop-turn l =
     WentOn l.given l._turn l.initial.source l.initial.h l.initial.buf l.initial.buys l.initial.sells l.source l.h l.buf l.buys l.sells
     × LongEnough l.buys l.sells l.room
     × (line_room < length l.buf)
