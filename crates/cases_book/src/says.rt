@@ -11,13 +11,8 @@ pub fn truth(b: bool) {
 
 // Prints the numbers from one place up to another, as far as there are any.
 pub fn part(t: &[u64], from: usize, to: usize) {
-    let mut i = from;
-    while i < t.len() {
-        if to <= i {
-            return;
-        }
+    for i in from..to.min(t.len()) {
         print::number(t[i]);
-        i += 1;
     }
 }
 
@@ -27,14 +22,9 @@ pub fn bar() {
 
 // How many of the numbers from one place up to another are not 0.
 fn nonzero(t: &[u64], from: usize, to: usize) -> u64 {
-    let mut i = from;
     let mut found: u64 = 0;
-    while i < t.len() {
-        if to <= i {
-            return found;
-        }
+    for i in from..to.min(t.len()) {
         found = found % 1_000_000 + u64::from(t[i] != 0);
-        i += 1;
     }
     found
 }

@@ -67,10 +67,8 @@ fn incoming(side: Side, w: [u64; 9]) -> Incoming
 }
 
 fn fill(t: &mut [u64], from: usize, value: u64) {
-    let mut i = from;
-    while i < t.len() {
+    for i in from..t.len() {
         t[i] = value;
-        i += 1;
     }
 }
 

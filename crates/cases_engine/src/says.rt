@@ -45,11 +45,9 @@ pub fn session(s: Session) {
 
 // Prints a sum over the numbers of a slice and their places: changing one of them by less than 1,000,003 changes the sum.
 pub fn sum(t: &[u64]) {
-    let mut i: usize = 0;
     let mut sum: u64 = 0;
-    while i < t.len() {
-        sum = (sum % 1_000_003 * 31 + t[i] % 1_000_003) % 1_000_003;
-        i += 1;
+    for x in t {
+        sum = (sum % 1_000_003 * 31 + *x % 1_000_003) % 1_000_003;
     }
     print::number(sum);
 }

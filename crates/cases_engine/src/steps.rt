@@ -18,20 +18,14 @@ fn set(t: &mut [u64], place: u64, value: u64) {
 
 // Puts orders of one price and equal lots into a table, numbered from the first on, as many as fit.
 fn put_orders(t: &mut [u64], count: u64, first: u64, price: u64, lots: u64) {
-    let mut at: usize = 0;
-    let mut put: u64 = 0;
-    while at + lengths::WIDTH <= t.len() {
-        if count <= put {
-            return;
-        }
+    let fit = count.min((t.len() / lengths::WIDTH) as u64);
+    for put in 0..fit {
         let o = Order {
             number: first % 1_000_000 + put,
             price,
             lots,
         };
-        orders::store(t, at, o);
-        at += lengths::WIDTH;
-        put += 1;
+        orders::store(t, lengths::WIDTH * put as usize, o);
     }
 }
 

@@ -97,14 +97,12 @@ fn line_end(bytes: &[u8], at: usize) -> usize
     requires { at < length bytes.now }
     ensures { (at < result) × (result ≤ length bytes.now) }
 {
-    let mut p = at;
-    while p < bytes.len() {
+    for p in at..bytes.len() {
         if bytes[p] == b'\n' {
             return p + 1;
         }
-        p += 1;
     }
-    p
+    bytes.len()
 }
 
 // Shows line after line: settings first, then events. Each is read with all that follows it.
@@ -118,22 +116,18 @@ fn show_lines(bytes: &[u8]) {
 
 // Shows a line cut after each of its bytes.
 fn cut(settings: bool, line: &[u8]) {
-    let mut k = 0;
-    while k < line.len() {
-        show_line(settings, &line[0..k]);
-        k += 1;
+    for k in 0..line.len() {
+        show_line(settings, &line[..k]);
     }
 }
 
 // Shows a line with each of its bytes changed.
 fn change(settings: bool, line: &mut [u8]) {
-    let mut i = 0;
-    while i < line.len() {
+    for i in 0..line.len() {
         let b = line[i];
         line[i] = b ^ 1;
         show_line(settings, line);
         line[i] = b;
-        i += 1;
     }
 }
 

@@ -11,14 +11,12 @@ use terms::Side;
 
 // Where the first line ends, with its newline.
 fn first_line(saved: &[u8]) -> usize {
-    let mut i: usize = 0;
-    while i < saved.len() {
-        if saved[i] == b'\n' {
+    for (i, b) in saved.iter().enumerate() {
+        if *b == b'\n' {
             return i + 1;
         }
-        i += 1;
     }
-    i
+    saved.len()
 }
 
 // Whether an event is among the bytes that count: then, and only then, the tables are written.

@@ -33,12 +33,9 @@ fn case(rt: &HostRuntime, live: &mut Live, i: usize, count: Count) -> Count {
 
 fn main(rt: HostRuntime) {
     let mut live = Live::none();
-    let n = args::count(&rt);
     let mut count = counts::none();
-    let mut i: usize = 1;
-    while i < n {
+    for i in 1..args::count(&rt) {
         count = case(&rt, &mut live, i, count);
-        i += 1;
     }
     controls::all();
     counts::total(count, b"cases");

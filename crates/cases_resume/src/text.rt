@@ -32,17 +32,9 @@ fn put(room: &mut [u8], at: usize, bytes: &[u8]) -> usize
     requires { at ≤ length room.old }
     ensures { result ≤ length room.old }
 {
-    let mut to = at;
-    let mut i: usize = 0;
-    while i < bytes.len() {
-        if room.len() <= to {
-            return to;
-        }
-        room[to] = bytes[i];
-        to += 1;
-        i += 1;
-    }
-    to
+    let fit = bytes.len().min(room.len() - at);
+    room[at..at + fit].copy_from_slice(&bytes[..fit]);
+    at + fit
 }
 
 fn put_number(room: &mut [u8], at: usize, x: u64) -> usize
@@ -71,10 +63,8 @@ fn put_numbers(room: &mut [u8], at: usize, xs: &[u64]) -> usize
     ensures { result ≤ length room.old }
 {
     let mut to = at;
-    let mut i: usize = 0;
-    while i < xs.len() {
-        to = put_next(room, to, i == 0, xs[i]);
-        i += 1;
+    for (i, x) in xs.iter().enumerate() {
+        to = put_next(room, to, i == 0, *x);
     }
     to
 }

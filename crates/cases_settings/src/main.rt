@@ -79,17 +79,13 @@ fn show(field: usize, v: u64) {
 
 // Judges a field at every value.
 fn show_all(field: usize) {
-    let mut i: usize = 0;
-    while i < VALUES {
+    for i in 0..VALUES {
         show(field, value(i));
-        i += 1;
     }
 }
 
 fn main() {
-    let mut field: usize = 0;
-    while field < FIELDS {
+    for field in 0..FIELDS {
         show_all(field);
-        field += 1;
     }
 }

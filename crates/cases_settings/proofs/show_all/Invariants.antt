@@ -1,9 +1,0 @@
--- The loop stays within the list of values.
-use Prim.Native.Nat.{◌≤◌, ◌-◌}
-use Rattle.cases_settings.proofs.show_all.Given as goal
-
-abbrev pub invariant-loop-i : goal.invariant-loop-i
-invariant-loop-i l = l.i ≤ 18
-
-abbrev pub decreases-loop-i : goal.decreases-loop-i
-decreases-loop-i l = 18 - l.i
