@@ -38,7 +38,7 @@ fn begin(s: Session, t: u64, buys: &mut [u64], sells: &mut [u64], room: &mut [u6
     let at = step_in(s, stepped, buys, sells, room);
     Begun {
         session: stepped,
-        at: at,
+        at,
     }
 }
 

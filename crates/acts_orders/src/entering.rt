@@ -28,13 +28,13 @@ fn incoming(s: Session, n: Entry, number: u64) -> Incoming
     let range = force::range_now(s);
     let last = close::last_or(s.settings.settle, tape);
     Incoming {
-        side: side,
-        kind: kind,
-        range: range,
-        number: number,
+        side,
+        kind,
+        range,
+        number,
         lots: n.lots,
         time: s.clock.time,
-        last: last,
+        last,
     }
 }
 
@@ -65,10 +65,7 @@ fn cross(
     let x = incoming(s, n, number);
     let first = telling::tell(room, at, s.clock.time, Said::Accept(number));
     let matched = crossing::sweep(theirs, count, room, first, x);
-    Crossed {
-        first: first,
-        matched: matched,
-    }
+    Crossed { first, matched }
 }
 
 // Accepts and matches the order, and remembers its trades in the session.
@@ -88,7 +85,7 @@ fn meet(
     let m = c.matched;
     let session = numbered(s, band, room, c.first, m.trades);
     Met {
-        session: session,
+        session,
         count: m.count,
         at: m.at,
         left: m.left,
@@ -133,7 +130,7 @@ pub fn enter(
         behind,
     );
     Entered {
-        session: session,
+        session,
         mine: p.count,
         theirs: m.count,
         at: p.at,

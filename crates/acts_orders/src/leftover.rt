@@ -51,9 +51,9 @@ fn order_of(number: u64, price: u64, lots: u64) -> Order
     ensures { result ≡ record { number = number; price = price; lots = lots } }
 {
     Order {
-        number: number,
-        price: price,
-        lots: lots,
+        number,
+        price,
+        lots,
     }
 }
 
@@ -83,23 +83,17 @@ pub fn settle(
     ensures { Settled side time number left fate (decode n mine.old) mine.old room.old at mine.new room.new result }
 {
     match fate {
-        Fate::Done => Placed { count: n, at: at },
+        Fate::Done => Placed { count: n, at },
         Fate::Rests(price) => {
             let o = order_of(number, price, left);
             let count = rest(mine, n, side, o);
-            Placed {
-                count: count,
-                at: at,
-            }
+            Placed { count, at }
         }
         Fate::Turns(price) => {
             let o = order_of(number, price, left);
             let count = rest(mine, n, side, o);
             let next = telling::tell(room, at, time, Said::Convert(o));
-            Placed {
-                count: count,
-                at: next,
-            }
+            Placed { count, at: next }
         }
         Fate::Ends(why) => {
             let next = telling::tell_cancel(room, at, time, number, left, why);

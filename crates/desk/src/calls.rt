@@ -22,7 +22,7 @@ fn opened(gs: &[u64]) -> Opened
         let session = sessions::fixed();
         return Opened {
             verdict: Err(Refusal::SettingsRange),
-            session: session,
+            session,
         };
     }
     opening::begin(settings::unpack(gs))

@@ -23,14 +23,14 @@ fn standing_now(s: Session) -> Standing
     let price = close::last_or(0, tape);
     let lots = close::last_lots(tape);
     Standing {
-        percent: percent,
-        band: band,
-        range: range,
+        percent,
+        band,
+        range,
         reference: s.reckoning.reference,
         cooling: ends != 0,
-        ends: ends,
-        price: price,
-        lots: lots,
+        ends,
+        price,
+        lots,
         buys: s.live.buys,
         sells: s.live.sells,
         given: s.live.given,
@@ -45,7 +45,7 @@ fn none() -> Standing
     let band = Band { low: 0, high: 0 };
     Standing {
         percent: 0,
-        band: band,
+        band,
         range: band,
         reference: 0,
         cooling: false,
@@ -66,7 +66,7 @@ fn refused(r: Refusal) -> Stood
     let standing = none();
     Stood {
         verdict: Err(r),
-        standing: standing,
+        standing,
     }
 }
 
@@ -86,6 +86,6 @@ pub fn standing(s: Session, buys: &[u64], sells: &[u64]) -> Stood
     let standing = standing_now(s);
     Stood {
         verdict: Ok(()),
-        standing: standing,
+        standing,
     }
 }

@@ -42,10 +42,10 @@ fn taken(run: Run, used: usize, wrote: usize, stop: Stop) -> Taken
     ensures { result ≡ taken_to run used wrote stop }
 {
     Taken {
-        run: run,
-        used: used,
-        wrote: wrote,
-        stop: stop,
+        run,
+        used,
+        wrote,
+        stop,
     }
 }
 
@@ -95,7 +95,7 @@ fn while_room(
             return Taken {
                 run: now,
                 used: at,
-                wrote: wrote,
+                wrote,
                 stop: stop_at(stage),
             };
         }
@@ -139,7 +139,7 @@ fn finish(t: Taken, bytes: usize, out: &mut [u8]) -> Taken
     let told = printing::tell_end(stage, bytes - used, &mut out[wrote..]);
     let over = Run {
         stage: Stage::Over,
-        session: session,
+        session,
     };
     taken(over, used, wrote + told, Stop::Over)
 }

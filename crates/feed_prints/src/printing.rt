@@ -7,7 +7,6 @@ ghost use Rattle.feed_law.specs.declared.Stage.{Stage};
 ghost use Rattle.feed_law.specs.Feeds.{Prints, EndTold, RecordTold};
 
 use feed_law::Stage;
-
 use tables::lengths;
 use terms::Refusal;
 
@@ -56,9 +55,7 @@ fn tell_record(room: &[u64], at: usize, out: &mut [u8]) -> usize
     ensures { RecordTold room.now at out.old result out.new }
 {
     match records::read_record(room, at) {
-        Some(report) => {
-            lines_writing_reports::write_report(report, out).unwrap_or(0)
-        }
+        Some(report) => { lines_writing_reports::write_report(report, out).unwrap_or(0) }
         None => 0,
     }
 }

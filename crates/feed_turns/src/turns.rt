@@ -17,13 +17,10 @@ fn turned(stage: Stage, session: Session, used: usize, saves: usize, wrote: usiz
     ensures { result ≡ turned_to stage session used saves wrote }
 {
     Turned {
-        run: Run {
-            stage: stage,
-            session: session,
-        },
-        used: used,
-        saves: saves,
-        wrote: wrote,
+        run: Run { stage, session },
+        used,
+        saves,
+        wrote,
     }
 }
 
@@ -90,9 +87,9 @@ fn goes(
                     stage: Stage::Trading,
                     session: after,
                 },
-                used: used,
+                used,
                 saves: used,
-                wrote: wrote,
+                wrote,
             }
         }
         Err(refusal) => {
@@ -102,9 +99,9 @@ fn goes(
                     stage: Stage::Trading,
                     session: after,
                 },
-                used: used,
+                used,
                 saves: 0,
-                wrote: wrote,
+                wrote,
             }
         }
     }

@@ -16,8 +16,8 @@ ghost use Rattle.resume_law.specs.code.Replaying.{bare_from, LaidIf, Scratch, Al
 ghost use Rattle.resume_law.specs.Calls.{all_long, Scrubbed, ResumedBy, ResumedAs, ResumedLent, resumed_to, tables_long};
 
 use engine::apply;
-use resume_law::{BadLine, Resumed};
 use lines_text_law::LineError;
+use resume_law::{BadLine, Resumed};
 use state::opening;
 use state_law::Session;
 use tables::{flat, lengths};
@@ -65,7 +65,7 @@ fn from_opening(
     let moved = r.moved;
     lay_if(moved, buys, sells, bought, sold);
     Resumed {
-        answer: answer,
+        answer,
         session: after,
     }
 }

@@ -12,8 +12,8 @@ ghost use Rattle.resume_law.specs.code.Replaying.{AppliedLong, line_for, line_re
 
 use engine::apply;
 use engine_law::{Answer, Applied};
-use resume_law::{BadLine, Comeback, Halt, Halted, LineReplayed, Replayed, SavedLine};
 use lines_text_law::LineError;
+use resume_law::{BadLine, Comeback, Halt, Halted, LineReplayed, Replayed, SavedLine};
 use state::opening;
 use state_law::Session;
 use terms::{Event, Refusal};
@@ -21,10 +21,7 @@ use terms::{Event, Refusal};
 fn line_replayed(line: SavedLine, session: Session) -> LineReplayed
     ensures { result ≡ line_replayed_to line session }
 {
-    LineReplayed {
-        line: line,
-        session: session,
-    }
+    LineReplayed { line, session }
 }
 
 // What became of a line of so many bytes, by the engine's answer.
@@ -109,9 +106,9 @@ fn replayed(answer: Comeback, session: Session, moved: bool) -> Replayed
     ensures { result ≡ replayed_to answer session moved }
 {
     Replayed {
-        answer: answer,
-        session: session,
-        moved: moved,
+        answer,
+        session,
+        moved,
     }
 }
 
@@ -162,19 +159,19 @@ fn until_halted(
             }
             Err(halt) => {
                 return Halted {
-                    halt: halt,
-                    at: at,
+                    halt,
+                    at,
                     session: now,
-                    moved: moved,
+                    moved,
                 };
             }
         }
     }
     Halted {
         halt: Halt::Unfinished,
-        at: at,
+        at,
         session: now,
-        moved: moved,
+        moved,
     }
 }
 

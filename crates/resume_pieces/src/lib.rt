@@ -9,8 +9,8 @@ ghost use Rattle.std.specs.Prelude.{◌≡◌};
 ghost use Rattle.engine_law.specs.Calls.{LongEnough};
 ghost use Rattle.resume_law.specs.Pieces.{back_to, unread_back, passed_to, passed_end, StartTold, StoodAs, PassedAs};
 
-use resume_law::{Back, BadLine, Comeback, Passed, Replayed};
 use lines_text_law::LineError;
+use resume_law::{Back, BadLine, Comeback, Passed, Replayed};
 use state::opening;
 use state_law::Session;
 
@@ -19,8 +19,8 @@ pub fn back_to(answer: Comeback, session: Session) -> Back
     ensures { result ≡ back_to answer session }
 {
     Back {
-        answer: answer,
-        session: session,
+        answer,
+        session,
         read: true,
     }
 }
@@ -40,8 +40,8 @@ fn passed_to(used: usize, before: usize, session: Session) -> Passed
     ensures { result ≡ passed_to used before session }
 {
     Passed {
-        used: used,
-        before: before,
+        used,
+        before,
         back: back_to(Ok(before), session),
         more: true,
     }
@@ -53,7 +53,7 @@ fn passed_end(back: Back) -> Passed
     Passed {
         used: 0,
         before: 0,
-        back: back,
+        back,
         more: false,
     }
 }

@@ -22,9 +22,9 @@ fn blank() -> Tape
     };
     Tape {
         trades: 0,
-        prices: prices,
-        sizes: sizes,
-        half: half,
+        prices,
+        sizes,
+        half,
     }
 }
 
@@ -47,10 +47,10 @@ fn at_open(g: Settings, reckoning: Reckoning) -> Session
     let tape = blank();
     Session {
         settings: g,
-        clock: clock,
-        live: live,
-        reckoning: reckoning,
-        tape: tape,
+        clock,
+        live,
+        reckoning,
+        tape,
     }
 }
 

@@ -20,8 +20,8 @@ ghost use Rattle.stream_back.specs.Filled.{stopped_at, coming_after, ComesOn, Re
 
 use descriptors::Failed;
 use descriptors::live::Live;
-use resume_law::{Back, BadLine, Coming};
 use lines_text_law::LineError;
+use resume_law::{Back, BadLine, Coming};
 use state::opening;
 use state_law::Session;
 use stream_law::Source;
