@@ -224,6 +224,7 @@ pub fn run(text: &[u8], buys: &mut [u64], sells: &mut [u64])
 {
     let mut c = Counts { own: 0, other: 0 };
     let mut at: usize = 0;
+    // no `for` is plainer: the place goes on by the length of each line
     while at < text.len() {
         let l = nine::nine(text, at);
         let w = l.words;

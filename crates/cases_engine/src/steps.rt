@@ -99,6 +99,7 @@ pub fn run(text: &[u8], buys: &mut [u64], sells: &mut [u64], room: &mut [u64]) {
     let first = calling::begin([0; 9]);
     let mut s = first.session;
     let mut at: usize = 0;
+    // no `for` is plainer: the place goes on by the length of each line
     while at < text.len() {
         let l = nine::nine(text, at);
         let w = l.words;

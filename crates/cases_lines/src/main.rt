@@ -108,6 +108,7 @@ fn line_end(bytes: &[u8], at: usize) -> usize
 // Shows line after line: settings first, then events. Each is read with all that follows it.
 fn show_lines(bytes: &[u8]) {
     let mut at = 0;
+    // no `for` is plainer: the place goes on by the length of each line
     while at < bytes.len() {
         show_line(at == 0, &bytes[at..]);
         at = line_end(bytes, at);
@@ -133,6 +134,7 @@ fn change(settings: bool, line: &mut [u8]) {
 
 fn damage(bytes: &mut [u8]) {
     let mut at = 0;
+    // no `for` is plainer: the place goes on by the length of each line
     while at < bytes.len() {
         let end = line_end(bytes, at);
         cut(at == 0, &bytes[at..end]);
@@ -176,6 +178,7 @@ fn show_report(room: &[u64], at: usize) {
 
 fn show_reports(room: &[u64]) {
     let mut at = 0;
+    // no `for` is plainer: the last turn shows what is no whole record, too
     while at < room.len() {
         show_report(room, at);
         if room.len() - at < lengths::RECORD {

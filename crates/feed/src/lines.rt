@@ -80,6 +80,7 @@ fn while_room(
     let mut now = run;
     let mut at: usize = 0;
     let mut wrote: usize = 0;
+    // no `for` is plainer: the place goes on by the length of each line
     while at < bytes.len() {
         let stands = now.stage;
         if out.len() - wrote < most_at(stands) {

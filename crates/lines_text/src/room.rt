@@ -55,6 +55,7 @@ fn put_number(room: &mut [u8], at: usize, v: u64) -> usize
     let end = at + digits(v);
     let mut p = end;
     let mut w = v;
+    // no `for` is plainer: the number gets shorter, and no place is counted
     while 10 <= w {
         p -= 1;
         room[p] = b'0' + (w % 10) as u8;

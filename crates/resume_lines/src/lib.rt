@@ -149,6 +149,7 @@ fn until_halted(
     let mut now = session;
     let mut at = first;
     let mut moved = false;
+    // no `for` is plainer: the place goes on by the length of each line
     while at < bytes.len() {
         let t = line_at(now, bytes, at, buys, sells, room);
         now = t.session;
