@@ -7,7 +7,7 @@ use terms::Verdict;
 pub fn verdict(v: Verdict) {
     match v {
         Ok(()) => print::number(0),
-        Err(r) => print::number(terms::numbers::of_refusal(r)),
+        Err(r) => print::number(u64::from(r)),
     }
 }
 
@@ -19,7 +19,7 @@ pub fn answer(a: Answer) {
         }
         Err(r) => {
             print::number(1);
-            print::number(terms::numbers::of_refusal(r));
+            print::number(u64::from(r));
         }
     }
 }

@@ -7,7 +7,7 @@ ghost use Rattle.std.specs.Prelude.{◌<◌, ◌≤◌, length};
 
 use lines_text_law::LineError;
 use tables::lengths;
-use terms::{Act, Event, Refusal, numbers, sizes};
+use terms::{Act, Event, Refusal, sizes};
 
 // The descriptors of standard input and standard output.
 const INPUT: i32 = 0;
@@ -32,7 +32,7 @@ fn show(wrote: Result<usize, Refusal>, line: &[u8]) {
         }
         Err(r) => {
             io::write_all(OUTPUT, b"refused ");
-            io::print_decimal(OUTPUT, numbers::of_refusal(r));
+            io::print_decimal(OUTPUT, u64::from(r));
             io::write_all(OUTPUT, b"\n");
         }
     }

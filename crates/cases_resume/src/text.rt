@@ -6,7 +6,7 @@ use engine::looking;
 use resume_law::Comeback;
 use state_law::Session;
 use tables::lengths;
-use terms::{Side, numbers};
+use terms::Side;
 
 // The room for an answer: three lines of words, and for each number of both tables nine digits and a space.
 pub const ROOM: usize = lengths::TABLE * 20 + 64;
@@ -15,7 +15,7 @@ pub const ROOM: usize = lengths::TABLE * 20 + 64;
 pub fn code_of(answer: Comeback) -> u64 {
     match answer {
         Ok(_) => 0,
-        Err(bad) => numbers::of_refusal(bad.refusal),
+        Err(bad) => u64::from(bad.refusal),
     }
 }
 

@@ -41,7 +41,7 @@ fn with(field: usize, v: u64) -> Settings {
 fn code(g: Settings) -> u64 {
     match terms::judge::check(g) {
         Ok(()) => 0,
-        Err(r) => terms::numbers::of_refusal(r),
+        Err(r) => u64::from(r),
     }
 }
 
