@@ -18,7 +18,7 @@ pub fn read_whole(live: &Live, fd: i32, buf: &mut [u8]) -> Result<usize, LoadErr
     ensures { LoadWithin (length buf.old) result }
 {
     let mut at: usize = 0;
-    // no `for` is plainer: the place goes on by what each read gives
+    // no `for`: each turn goes on by as many bytes as one read gave
     while at < buf.len() {
         let n = read_some(live, fd, &mut buf[at..])?;
         if n == 0 {

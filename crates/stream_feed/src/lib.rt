@@ -139,7 +139,7 @@ fn hand_over(
     let mut now = run;
     let mut sink = to;
     let mut at: usize = 0;
-    // no `for` is plainer: the place goes on by the lines that each call takes
+    // no `for`: each turn goes on by as many bytes as the lines that were taken have
     while at < bytes.len() {
         let h = hand_next(live, mode, sink, expected, now, bytes, at, buys, sells);
         now = h.run;

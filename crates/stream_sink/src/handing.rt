@@ -79,7 +79,7 @@ pub fn write_all(live: &Live, to: Sink, expected: &[u8], place: Place, bytes: &[
 {
     let mut sink = to;
     let mut at: usize = 0;
-    // no `for` is plainer: the place goes on by what each write takes
+    // no `for`: each turn goes on by as many bytes as one write took
     while at < bytes.len() {
         let wrote = write_once(live, sink, expected, place, &bytes[at..]);
         sink = wrote.to;

@@ -97,7 +97,7 @@ pub fn fill(live: &Live, from: Source, given: &[u8], buf: &mut [u8]) -> Read
 {
     let mut at: usize = 0;
     let mut source = from;
-    // no `for` is plainer: the place goes on by what each read gives
+    // no `for`: each turn goes on by as many bytes as one read gave
     while at < buf.len() {
         let read = read_behind(live, source, given, at, buf);
         source = read.from;
