@@ -1,7 +1,6 @@
 // Reports are written into the room, one behind the other.
 ghost use Rattle.std.specs.Prelude.{not, [], ◌∷◌, ◌+◌, ◌*◌, ◌≤◌, eqb, length};
-ghost use Rattle.terms.specs.Sizes.{slots};
-ghost use Rattle.tables.specs.Lengths.{record_length, table_length};
+ghost use Rattle.tables.specs.Lengths.{record_length};
 ghost use Rattle.tables.specs.Live.{orders_in};
 ghost use Rattle.book_law.specs.Matching.{report_at};
 ghost use Rattle.state_law.specs.Now.{Clocked};

@@ -1,5 +1,5 @@
 // What is said is printed into an output room, and the count of bytes is answered.
-ghost use Rattle.std.specs.Prelude.{◌≡◌, ◌+◌, ◌*◌, ◌≤◌, length};
+ghost use Rattle.std.specs.Prelude.{◌+◌, ◌*◌, ◌≤◌, length};
 ghost use Rattle.terms.specs.Sizes.{line_room};
 ghost use Rattle.tables.specs.Lengths.{record_length};
 ghost use Rattle.feed_law.specs.Texts.{records_text, refused_text, bad_text, end_text};

@@ -1,5 +1,5 @@
 // The tests of a session's numbers, part by part as the paragraph on soundness lists them.
-ghost use Rattle.std.specs.Prelude.{◌≡◌, true, ◌*◌, ◌≤◌, take};
+ghost use Rattle.std.specs.Prelude.{◌≡◌, true, ◌*◌, ◌≤◌};
 ghost use Rattle.terms.specs.Sizes.{price_most, lots_most, trades_most, time_most, tick_most, sizes};
 ghost use Rattle.terms.specs.Truth.{◌⊓◌, between};
 ghost use Rattle.terms.specs.Numbers.{is_price, is_lots, on_tick};

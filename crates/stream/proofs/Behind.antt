@@ -7,7 +7,7 @@ use mathlib.Core.List.{List, []}
 use lib.ListN.{length, take, drop, length-drop}
 use mir.Syntax.{w64}
 use mir.Val.{Fits}
-use Rattle.std.specs.Prelude.{Result, Ok, Err}
+use Rattle.std.specs.Prelude.{Ok, Err}
 use Rattle.descriptors.specs.declared.Failed.{Failed}
 use Rattle.descriptors.proofs.Parts.{got-within}
 use Rattle.feed_law.specs.Turns.{Says}

@@ -31,7 +31,7 @@ use Rattle.stream_law.specs.declared.Finish.{Finish}
 use Rattle.stream_law.specs.declared.NotKept.{NotKept}
 use Rattle.stream_law.specs.Sinks.{SentAs, CutAs, is_open, finish_of, saved_part, shown_part}
 use Rattle.stream_law.specs.Streams.{logging, holding, ThroughAs}
-use Rattle.stream_law.specs.Keeping.{Part, save, show, handing, saves_of, shows_of, log_of, LogsTell, GoesOnFrom, OnAs, trading_run, no_day, RefusedAs, BadLaid, BadTold, KeepsAs, BegunAs, KeptAs, are_open, Any, OpenedAs, OpensAs}
+use Rattle.stream_law.specs.Keeping.{Part, save, show, handing, saves_of, shows_of, log_of, LogsTell, GoesOnFrom, OnAs, trading_run, no_day, RefusedAs, BadLaid, BadTold, KeepsAs, BegunAs, KeptAs, Any, OpenedAs, OpensAs}
 use Rattle.stream_law.specs.Keeping.GoesOnFrom.{uncut, on}
 use Rattle.stream_law.specs.Keeping.KeptAs.{unread, long, ran, told}
 use Rattle.stream_law.proofs.Goes.{room-text}

@@ -1,18 +1,15 @@
 -- A text that is lent: its next bytes are copied, and behind the last is its end, or a read that fails.
-use Prim.Native.Nat.{ℕ, zero, suc, ◌+◌, ◌-◌, ◌^◌, ◌≤◌, ◌<◌, min}
+use Prim.Native.Nat.{ℕ, zero, suc, ◌+◌, ◌-◌, ◌^◌, ◌≤◌, ◌<◌}
 use native.Mathlib.Omega.{arith}
-use native.Mathlib.Numerals.{add-one}
 use mathlib.Core.Path.{◌≡◌, refl, sym, ap, ◌∙◌, subst}
 use mathlib.Core.Bool.{Bool, true, false}
-use mathlib.Core.List.{List, [], ◌∷◌, ◌++◌}
-use lib.ListN.{length, get_or, take, drop, set, length-set, length-drop, take-append-drop, drop_of_length-le}
-use lib.Seq.{take-suc, take-suc-set, drop-drop, get_or-drop}
-use lib.IntN.{ℤ}
+use mathlib.Core.List.{List, [], ◌++◌}
+use lib.ListN.{length, take, drop, take-append-drop, drop_of_length-le}
+use lib.Seq.{drop-drop}
 use mir.Syntax.{w64}
 use mir.Val.{Fits}
-use Rattle.std.specs.Prelude.{Result, Ok, Err}
+use Rattle.std.specs.Prelude.{Ok, Err}
 use Rattle.descriptors.specs.declared.Failed.{Failed}
-use Rattle.descriptors.specs.Counted.{GotWithin}
 use Rattle.stream_law.specs.declared.Source.{Source}
 use Rattle.stream_law.specs.Sources.{Gives, Leads}
 use Rattle.stream_source.specs.declared.Read.{Read}

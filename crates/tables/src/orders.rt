@@ -3,7 +3,7 @@ ghost use Rattle.std.specs.Prelude.{◌≡◌, ◌∷◌, ◌++◌, ◌+◌, ◌
 ghost use Rattle.terms.specs.Sizes.{slots};
 ghost use Rattle.tables.specs.Lengths.{width, table_length};
 ghost use Rattle.tables.specs.Put.{put};
-ghost use Rattle.tables.specs.Tables.{numbers_of, order_at, decode, table_of, Holds, TableFor};
+ghost use Rattle.tables.specs.Tables.{numbers_of, order_at, decode, table_of, Holds};
 
 use crate::{flat, lengths};
 use terms::Order;

@@ -1,12 +1,11 @@
 -- The pass over a side, as the code makes it: each order is sound, its key is above the last one, and the low bits of its number are not marked.
-use Rattle.std.specs.Prelude.{ℕ, ◌+◌, ◌-◌, ◌*◌, ◌≤◌, ◌<◌, Bool, true, ◌&&◌, ◌||◌, not, cond, List, [], ◌∷◌, ◌++◌, leb, ltb, length}
+use Rattle.std.specs.Prelude.{ℕ, ◌+◌, ◌-◌, ◌*◌, ◌≤◌, ◌<◌, Bool, true, ◌&&◌, ◌||◌, not, cond, List, [], ◌∷◌, ◌++◌, leb, ltb}
 use Rattle.std.specs.Int.Bits.{bit_and}
 use Rattle.terms.specs.declared.Side.{Side}
 use Rattle.terms.specs.declared.Side.TheVariants.{Buy, Sell}
 use Rattle.terms.specs.declared.Order.{Order}
 use Rattle.terms.specs.declared.Band.{Band}
-use Rattle.terms.specs.Sizes.{slots, numbers_most}
-use Rattle.tables.specs.Lengths.{table_length}
+use Rattle.terms.specs.Sizes.{numbers_most}
 use Rattle.terms.specs.code.Ticks.{scale, factor_of, Dividing}
 use Rattle.book_law.specs.Priority.{sorted}
 use Rattle.book_sound_law.specs.declared.Limits.{Limits}
