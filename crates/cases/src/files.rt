@@ -1,12 +1,15 @@
 // The files of a case, by its name.
-ghost use Rattle.std.specs.Prelude.{◌+◌, ◌≤◌, ◌≡◌, length, IfSome};
+ghost use Rattle.std.specs.Prelude.{◌+◌, ◌≤◌, ◌≡◌, ◌↔◌, length, take, drop, IsSome, IfSome, OnErr};
 
 use descriptors::Failed;
 use descriptors::live::Live;
 
 // Puts an ending behind the first n bytes of a path. Answers how many bytes it has then, if they fit.
 pub fn end_with(path: &mut [u8], n: usize, ending: &[u8]) -> Option<usize>
-    ensures ends { IfSome result (λ end. (end ≡ n + length ending.now) × (end ≤ length path.new)) }
+    ensures fits { IsSome result ↔ (n + length ending.now ≤ length path.old) }
+    ensures ends { IfSome result (λ end. end ≡ n + length ending.now) }
+    ensures there { IfSome result (λ _. take (length ending.now) (drop n path.new) ≡ ending.now) }
+    ensures kept { take n path.new ≡ take n path.old }
     ensures same { length path.new ≡ length path.old }
 {
     if path.len() < n || path.len() - n < ending.len() {
@@ -30,7 +33,9 @@ pub fn open_file(
 }
 
 // Closes a file that was opened.
-pub fn close(live: &mut Live, opened: Result<i32, Failed>) {
+pub fn close(live: &mut Live, opened: Result<i32, Failed>)
+    ensures { OnErr opened (live.new ≡ live.old) }
+{
     if let Ok(fd) = opened {
         live.close(fd);
     }

@@ -14,7 +14,7 @@ fn is_there(rt: &HostRuntime, i: usize, buf: &mut [u8]) -> bool {
 
 // How many there are, the program's own name among them.
 pub fn count(rt: &HostRuntime) -> usize {
-    let mut buf = io::buffer();
+    let mut buf = [0u8; 1];
     for i in 0..usize::MAX {
         if !is_there(rt, i, &mut buf) {
             return i;

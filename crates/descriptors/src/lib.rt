@@ -1,6 +1,6 @@
 // descriptors: reads bytes from a descriptor and writes them to one. A call that was interrupted, or that found the other side not ready, is
 // made again; any other failure is reported.
-// It may use io and std. It promises that it is safe and ends; that what a call came to is what its answer says
+// It may use std. It promises that it is safe and ends; that what a call came to is what its answer says
 // (`outcome_by`), that an answer is not that of a call which is to be made again (`SettledAs`), and is what that says (`got_by`, `taken_by`: a
 // read that failed is answered as one); and that no count is more than there is room for. That it is the call that was made of which is
 // answered, and which bytes are read and written, no contract can say: those of std name neither.
