@@ -1,7 +1,9 @@
 // The rows of the table of refusals, 2 to 11, for an event on a day.
 ghost use Rattle.std.specs.Prelude.{◌≡◌, cond, ◌≤◌, leb, ltb, length};
-ghost use Rattle.terms.specs.Sizes.{sizes};
+ghost use Rattle.terms.specs.Sizes.{slots, sizes};
 ghost use Rattle.tables.specs.Lengths.{table_length};
+ghost use Rattle.tables.specs.Tables.{decode};
+ghost use Rattle.book_law.specs.Priority.{rests};
 ghost use Rattle.terms.specs.Truth.{◌⊓◌};
 ghost use Rattle.terms.specs.Numbers.{is_price, is_lots, is_time, is_number, on_tick};
 ghost use Rattle.terms.specs.Options.{of_any};
@@ -57,20 +59,24 @@ fn band_right(s: Session, t: u64, limit: Option<u64>) -> bool
     limit.is_none_or(|price| rules::slabs::in_band(clock::band_at(s, t), price))
 }
 
+// Whether an order rests among the first orders of a table.
+fn rests_in(table: &[u64], count: u64, number: u64) -> bool
+    requires { (count ≤ slots) × (table_length ≤ length table.now) }
+    ensures { result ≡ rests number (decode count table.now) }
+{
+    let orders = Orders {
+        table,
+        count: count as usize,
+    };
+    book::side::is_resting(orders, number)
+}
+
 // Row 9: whether the order to cancel rests.
 fn finds_it(s: Session, number: Option<u64>, buys: &[u64], sells: &[u64]) -> bool
     requires { Tabled s buys.now sells.now }
     ensures { result ≡ of_any (rests_on (day_in s buys.now sells.now)) number }
 {
-    let bought = Orders {
-        table: buys,
-        count: s.live.buys as usize,
-    };
-    let sold = Orders {
-        table: sells,
-        count: s.live.sells as usize,
-    };
-    number.is_none_or(|n| book::side::is_resting(bought, n) || book::side::is_resting(sold, n))
+    number.is_none_or(|n| rests_in(buys, s.live.buys, n) || rests_in(sells, s.live.sells, n))
 }
 
 // How many orders of a side are live.
