@@ -7,7 +7,7 @@
 use terms::Why;
 
 // What becomes of the lots that an order has left: none is left; it rests at its limit; it becomes a limit at a price and rests; it is
-// cancelled, for a reason.
+// cancelled, for a reason. Four ends, none of them a failure, so no Result.
 #[derive(Clone, Copy)]
 pub enum Fate {
     Done,

@@ -1,5 +1,5 @@
 // The files of a case, by its name.
-ghost use Rattle.std.specs.Prelude.{◌+◌, ◌≤◌, ◌≡◌, ◌↔◌, length, take, drop, IsSome, IfSome, OnErr};
+ghost use Rattle.std.specs.Prelude.{◌+◌, ◌≤◌, ◌≡◌, ◌↔◌, length, take, drop, IsSome, IfSome};
 
 use descriptors::Failed;
 use descriptors::live::Live;
@@ -30,13 +30,4 @@ pub fn open_file(
 ) -> Result<i32, Failed> {
     let end = end_with(path, n, ending).ok_or(Failed)?;
     live.open_read(rt, &path[..end])
-}
-
-// Closes a file that was opened.
-pub fn close(live: &mut Live, opened: Result<i32, Failed>)
-    ensures { OnErr opened (live.new ≡ live.old) }
-{
-    if let Ok(fd) = opened {
-        live.close(fd);
-    }
 }

@@ -34,7 +34,7 @@ pub fn run(live: &mut Live, saved: Result<i32, Failed>, answer: Result<i32, Fail
     let mut bytes = [0u8; SAVED];
     let mut room = [0u8; text::ROOM];
     let told = hold(live, saved, answer, &mut bytes, &mut room);
-    files::close(live, saved);
-    files::close(live, answer);
+    live.close_opened(saved);
+    live.close_opened(answer);
     told.map_or(Ending::Unread, judged)
 }

@@ -45,8 +45,8 @@ fn run(live: &mut Live, input: Result<i32, Failed>, expected: Result<i32, Failed
     let mut text = [0u8; INPUT];
     let mut room = [0u8; EXPECTED];
     let told = hold(live, input, expected, &mut text, &mut room);
-    files::close(live, input);
-    files::close(live, expected);
+    live.close_opened(input);
+    live.close_opened(expected);
     ending(told)
 }
 

@@ -59,9 +59,9 @@ fn run(
     let told = hold(
         live, broken, saved, input, expected, &mut file, &mut text, &mut room,
     );
-    files::close(live, saved);
-    files::close(live, input);
-    files::close(live, expected);
+    live.close_opened(saved);
+    live.close_opened(input);
+    live.close_opened(expected);
     told
 }
 

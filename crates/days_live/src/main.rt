@@ -37,8 +37,8 @@ fn run(live: &mut Live, file: Result<i32, Failed>, expected: Result<i32, Failed>
     let mut bytes = [0u8; FILE];
     let mut room = [0u8; FILE];
     let told = hold(live, file, expected, &mut bytes, &mut room);
-    files::close(live, file);
-    files::close(live, expected);
+    live.close_opened(file);
+    live.close_opened(expected);
     match told {
         Ok(true) => Ending::Right,
         Ok(false) => Ending::Wrong,
@@ -64,7 +64,7 @@ fn case(rt: &HostRuntime, live: &mut Live, i: usize, count: Count) -> Count {
     let input = files::open_file(rt, live, &mut path, n, b".in");
     let day = files::end_with(&mut path, n, b".day").unwrap_or(0);
     let kept = stream_keep::keep(rt, live, input.unwrap_or(NOT_OPEN), &path[..day]);
-    files::close(live, input);
+    live.close_opened(input);
     let file = live.open_read(rt, &path[..day]);
     let expected = files::open_file(rt, live, &mut path, n, b".saved");
     let told = ending(kept, run(live, file, expected));

@@ -21,7 +21,7 @@ pub const INPUT: i32 = 0;
 
 pub const OUTPUT: i32 = 1;
 
-// A call failed; `Live::last_error` has the error's number.
+// A call failed; where it was one of `Live`, `Live::last_error` has the error's number.
 #[derive(Clone, Copy, Debug, PartialEq, Eq)]
 pub struct Failed;
 

@@ -233,4 +233,13 @@ impl Live {
             }
         }
     }
+
+    // Closes a file that was opened, if it was.
+    pub fn close_opened(&mut self, opened: Result<i32, Failed>)
+        ensures { OnErr opened (self.new ≡ self.old) }
+    {
+        if let Ok(fd) = opened {
+            self.close(fd);
+        }
+    }
 }

@@ -26,7 +26,7 @@ pub struct Begun {
 
 // Where a session stands: the percent in force with its band, the execution range with the reference that it lies around, whether a
 // cooling-off runs and when it ends (0 where none runs), the last trade's price and lots (0 before any trade), live orders a side,
-// order numbers given so far, trades made.
+// order numbers given so far, trades made. `cooling` and `ends` are two of the 14 numbers that apps are handed (the C interface), so no Option.
 #[derive(Clone, Copy)]
 pub struct Standing {
     pub percent: u64,

@@ -1,4 +1,4 @@
-// The pieces of a line are read here: a word, a number, the two together, and the last field.
+// The pieces of a line are read here: a byte, a word, a number, a word and a number, and the last field.
 ghost use Rattle.std.specs.Prelude.{◌≡◌, ◌<◌, length, drop, OnOk};
 ghost use Rattle.lines_text_law.specs.code.Pieces.{byte_on, word_on, number_on, field_on, last_on};
 

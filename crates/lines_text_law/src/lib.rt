@@ -4,7 +4,7 @@
 
 #![tactic(auto)]
 
-// Why nothing was read: the bytes end within it, or the place of the first byte that is wrong.
+// Why nothing was read: the bytes end within what is read, or a byte is wrong, the first of them at this place.
 #[derive(Clone, Copy, Debug, PartialEq, Eq)]
 pub enum LineError {
     Unfinished,

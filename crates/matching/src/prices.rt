@@ -39,7 +39,7 @@ fn is_beyond(side: Side, kind: Kind, first: u64, price: u64) -> bool
     }
 }
 
-// The price of the order's first trade, once it has traded at this price.
+// The price of the order's first trade, once it has traded at this price; 0 stands for none, as in `first_after` and `beyond` of book_law.
 pub fn first_after(first: u64, price: u64) -> u64
     ensures { result ≡ first_after first price }
 {

@@ -10,7 +10,7 @@ ghost use Rattle.records_law.specs.Back.{RecordRead, why_by, said_by};
 use tables::room;
 use terms::{Band, Closing, Deal, Ended, Order, Report, Said, Why};
 
-// The reason with this number; a number that is none's is taken for the last.
+// The reason with this number; a number that is none's is taken for the last. No TryFrom: what is made is packed again and compared as a whole.
 fn why_by(n: u64) -> Why
     ensures { result ≡ why_by n }
 {

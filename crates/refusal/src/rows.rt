@@ -22,7 +22,7 @@ use tables::side::Orders;
 use terms::parts::Parts;
 use terms::{Entry, Event, Life, Refusal, Side, Verdict, numbers, parts, sizes};
 
-// Row 4: whether every number of the event that it carries is in its range.
+// Row 4: whether every number that the event carries is in its range.
 fn numbers_right(t: u64, p: Parts) -> bool
     ensures { result ≡ (is_time t ⊓ (of_any is_lots p.lots ⊓ of_any is_price p.price ⊓ of_any is_number p.number)) }
 {
@@ -112,7 +112,7 @@ fn has_numbers(given: u64, trades: u64, entry: Option<Entry>) -> bool
     entry.is_none_or(|_| (given < sizes::NUMBERS) & (trades <= sizes::TRADES))
 }
 
-// Rows 8 to 11, which look at the book; p are the parts of the event's act.
+// Rows 8 to 11, which look at the book; p are the parts of the event's act. Each row is a test with its refusal, as in the document's table.
 fn book_rows(s: Session, e: Event, p: Parts, buys: &[u64], sells: &[u64]) -> Verdict
     requires { Clocked s × Tabled s buys.now sells.now × (p ≡ carries e.act) }
     ensures { result ≡ first_failed (book_rules sizes (day_in s buys.now sells.now) e) }

@@ -8,7 +8,8 @@ use rules_law::{Reckoning, Tape};
 use terms::{Settings, Verdict};
 
 // What the clock goes by: the time of the last accepted event and whether it was the close; how often the band has been widened and
-// when the cooling-off ends, 0 where none runs; the underlying now, 0 where none is known.
+// when the cooling-off ends, 0 where none runs; the underlying now, 0 where none is known. They stay numbers, and `closed` a flag: `clock_step`
+// computes with them, and apps keep them so (the C interface).
 #[derive(Clone, Copy)]
 pub struct Dial {
     pub time: u64,

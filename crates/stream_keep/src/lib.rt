@@ -242,13 +242,6 @@ fn keep_both(
     keep_open(live, saved, &[], input, &[], file, Sink::Print, &[])
 }
 
-// Closes a file that was opened.
-fn close(live: &mut Live, opened: Result<i32, Failed>) {
-    if let Ok(fd) = opened {
-        live.close(fd);
-    }
-}
-
 // Keeps the day of a file that was opened twice or could not be; then what was opened is closed, which leaves the error that is told.
 fn keep_opened(
     live: &mut Live,
@@ -259,15 +252,15 @@ fn keep_opened(
     ensures { OpenedAs saved file result }
 {
     let kept = keep_both(live, input, saved, file);
-    close(live, saved);
-    close(live, file);
+    live.close_opened(saved);
+    live.close_opened(file);
     kept
 }
 
 // Makes the file that a path names where it is missing, and opens it to read it. Answers its descriptor.
 fn open_or_make(rt: &HostRuntime, live: &mut Live, path: &[u8]) -> Result<i32, Failed> {
     let made = live.create(rt, path);
-    close(live, made);
+    live.close_opened(made);
     live.open_read(rt, path)
 }
 

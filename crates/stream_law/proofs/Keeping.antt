@@ -31,7 +31,7 @@ use Rattle.stream_law.specs.declared.Finish.{Finish}
 use Rattle.stream_law.specs.declared.NotKept.{NotKept}
 use Rattle.stream_law.specs.Sinks.{SentAs, CutAs, is_open, finish_of, saved_part, shown_part}
 use Rattle.stream_law.specs.Streams.{logging, holding, ThroughAs}
-use Rattle.stream_law.specs.Keeping.{Part, save, show, handing, saves_of, shows_of, log_of, LogsTell, GoesOnFrom, OnAs, trading_run, no_day, RefusedAs, BadLaid, BadTold, KeepsAs, BegunAs, KeptAs, Any, OpenedAs, OpensAs}
+use Rattle.stream_law.specs.Keeping.{Part, save, show, handing, saves_of, shows_of, log_of, LogsTell, GoesOnFrom, OnAs, trading_run, no_day, RefusedAs, BadLaid, BadTold, KeepsAs, BegunAs, KeptAs, are_open, Any, OpenedAs, OpensAs}
 use Rattle.stream_law.specs.Keeping.GoesOnFrom.{uncut, on}
 use Rattle.stream_law.specs.Keeping.KeptAs.{unread, long, ran, told}
 use Rattle.stream_law.proofs.Goes.{room-text}
@@ -155,6 +155,12 @@ module _ (expected : List ℕ) {saves : List ℕ → Bool → Type 0} (gives : L
 -- ---- the file is opened
 
 module _ {E : Type 0} {saved file : Result ℤ E} {r : Result Finish NotKept} where
+  pub both_open : {fd fd' : ℤ} → saved ≡ Ok fd → file ≡ Ok fd' → are_open saved file ≡ true
+  both_open s f = rw (s, f)
+
+  pub opened-not : are_open saved file ≡ false → r ≡ Err NotKept.NotOpened → OpenedAs saved file r
+  opened-not n h = record { kept = rw n h }
+
   -- either opening failed
   pub opened_unsaved : {e : E} → saved ≡ Err e → r ≡ Err NotKept.NotOpened → OpenedAs saved file r
   opened_unsaved s h = record { kept = rw s h }

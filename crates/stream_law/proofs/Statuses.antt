@@ -1,14 +1,23 @@
--- The descriptor of a place, as code hands it on, and what a write took.
+-- What a call's answer says of the file, the descriptor of a place, as code hands it on, and what a write took.
 use Prim.Native.Nat.{ℕ}
-use mathlib.Core.Path.{◌≡◌, sym, ap, ◌∙◌}
+use mathlib.Core.Path.{◌≡◌, refl, sym, ap, ◌∙◌}
 use lib.IntN.{ℤ, pos}
 use borrow.Author.Tests.{eq-eqb, ne_eqb}
 use mir.Syntax.{w32}
 use mir.Val.{of_z, to_z, SFits}
 use mir.Facts.{to_z-of_z}
+use Rattle.std.specs.Prelude.{Ok, Err}
 use Rattle.stream_law.specs.declared.Sink.{Sink}
 use Rattle.stream_law.specs.declared.Place.{Place}
-use Rattle.stream_law.specs.Sinks.{descriptor_of, failed_at, held_by, took_by}
+use Rattle.stream_law.specs.Sinks.{kept_by, descriptor_of, failed_at, held_by, took_by}
+
+-- ---- a call that was done, and one that failed
+
+pub kept-zero : {T E : Type 0} (done : T) → Sink.Print ≡ kept_by {T} {E} (Ok done)
+kept-zero done = refl
+
+pub kept-not : {T E : Type 0} (failed : E) → Sink.Unsaved ≡ kept_by {T} {E} (Err failed)
+kept-not failed = refl
 
 -- ---- the descriptor of a place
 

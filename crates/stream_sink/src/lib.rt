@@ -2,7 +2,7 @@
 // It may use descriptors and the definitions of stream_law. It promises, of any bytes: a comparison sees every call that a live sink makes,
 // in its order (the bytes of a place behind its mark, write by write until all are taken, each wait for the disk, and the cut) and answers what
 // stream_law says; a sink that met a difference or a call that failed stays as it is, and makes no other; and what a call came to is said of its
-// number by an equation. That a live sink makes the call that a comparison sees is one line for each, in `write_once`, `settle` and `shorten`,
+// answer by an equation. That a live sink makes the call that a comparison sees is one line for each, in `write_once`, `settle` and `shorten`,
 // by descriptors::live. The contracts of std name no bytes, so none can say it of those three; days_live runs them, and host/calls holds them to the logs.
 
 #![tactic(auto)]

@@ -24,7 +24,8 @@ pub enum Category {
     Other,
 }
 
-// One contract on one day. Prices in paise, times in milliseconds from the open; an underlying of 0 means none known.
+// One contract on one day. Prices in paise, times in milliseconds from the open; an underlying of 0 means none known, and is no Option, since
+// lines and the numbers that apps keep (the C interface) have the 0.
 #[derive(Clone, Copy, Debug, PartialEq, Eq)]
 pub struct Settings {
     pub category: Category,

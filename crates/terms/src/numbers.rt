@@ -66,19 +66,6 @@ impl From<Category> for u64 {
     }
 }
 
-// The numbers of refusals and reasons under the names that docs/PROMISES.md cites.
-pub fn of_refusal(r: Refusal) -> u64
-    ensures { result ≡ number_of r }
-{
-    u64::from(r)
-}
-
-pub fn of_why(w: Why) -> u64
-    ensures { result ≡ why_of w }
-{
-    u64::from(w)
-}
-
 // The number of a report's kind. It is a function and no `From`, since the number leaves out all that the report says of its kind.
 pub fn of_said(s: Said) -> u64
     ensures { result ≡ kind_of s }

@@ -1,4 +1,5 @@
 // The sizes of the base, each named once for code; specs/Sizes.antt names each once for definitions.
+// A session's counts are u64 and places are usize: where they meet stands an `as`, since std has no From between them and the proof has the bound.
 
 // How many orders a side can hold.
 pub const SLOTS: usize = 256;
