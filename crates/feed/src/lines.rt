@@ -31,8 +31,7 @@ fn stop_at(stage: Stage) -> Stop
     ensures { result ≡ stop_at stage }
 {
     match stage {
-        Stage::Awaiting => Stop::Waits,
-        Stage::Trading => Stop::Waits,
+        Stage::Awaiting | Stage::Trading => Stop::Waits,
         Stage::Over => Stop::Over,
     }
 }

@@ -14,6 +14,8 @@ ghost use Rattle.terms.specs.Sizes.{line_room};
 ghost use Rattle.engine_law.specs.Calls.{LongTables, LongEnough};
 ghost use Rattle.resume_law.specs.Pieces.{is_unbegun};
 ghost use Rattle.descriptors.specs.declared.Failed.{Failed};
+ghost use Rattle.stream_law.specs.declared.Sink.{Sink};
+ghost use Rattle.stream_law.specs.declared.Source.{Source};
 ghost use Rattle.stream_law.specs.Sources.{Gives};
 ghost use Rattle.stream_law.specs.Streams.{holding};
 ghost use Rattle.stream_law.specs.Keeping.{OnAs, trading_run, RefusedAs, BadLaid, BadTold, BegunAs, KeptAs, OpenedAs, OpensAs, LogCompared, BrokenCompared};
@@ -275,17 +277,22 @@ pub fn keep(rt: &HostRuntime, live: &mut Live, input: i32, path: &[u8]) -> Resul
     keep_opened(live, input, saved, file)
 }
 
-// Holds all that keeping a day would hand on, to its file and to the output, against an expected log, for a file and an input that are lent as
-// texts; nothing is written.
-pub fn compare(kept: &[u8], given: &[u8], expected: &[u8]) -> Result<Finish, NotKept>
-    ensures { LogCompared kept.now given.now expected.now result }
+// What keeping a day comes to where all that it hands on is held against an expected log; nothing is written, so the file is no descriptor's.
+fn held_against(
+    saved: Source,
+    kept: &[u8],
+    given: &[u8],
+    expected: &[u8],
+) -> Result<Finish, NotKept>
+    ensures { KeptAs expected.now (Gives kept.now saved) (Gives given.now (Source.Text 0)) (Sink.Match 0) result }
 {
     let live = Live::none();
+    let input = Source::Text(0);
     keep_open(
         &live,
-        Source::Text(0),
+        saved,
         kept,
-        Source::Text(0),
+        input,
         given,
         -1,
         Sink::Match(0),
@@ -293,19 +300,17 @@ pub fn compare(kept: &[u8], given: &[u8], expected: &[u8]) -> Result<Finish, Not
     )
 }
 
+// Holds all that keeping a day would hand on, to its file and to the output, against an expected log, for a file and an input that are lent as
+// texts.
+pub fn compare(kept: &[u8], given: &[u8], expected: &[u8]) -> Result<Finish, NotKept>
+    ensures { LogCompared kept.now given.now expected.now result }
+{
+    held_against(Source::Text(0), kept, given, expected)
+}
+
 // The same, where a read of the file fails behind the text.
 pub fn compare_broken(kept: &[u8], given: &[u8], expected: &[u8]) -> Result<Finish, NotKept>
     ensures { BrokenCompared kept.now given.now expected.now result }
 {
-    let live = Live::none();
-    keep_open(
-        &live,
-        Source::Broken(0),
-        kept,
-        Source::Text(0),
-        given,
-        -1,
-        Sink::Match(0),
-        expected,
-    )
+    held_against(Source::Broken(0), kept, given, expected)
 }

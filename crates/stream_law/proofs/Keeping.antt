@@ -1,5 +1,5 @@
 -- A day that is kept: what the log is of, and what each way of the program comes to.
-use Prim.Native.Nat.{ℕ, ◌-◌}
+use Prim.Native.Nat.{ℕ}
 use mathlib.Core.Path.{◌≡◌, refl, sym, ap, ◌∙◌, subst}
 use mathlib.Core.Bool.{Bool, true, false, not, true≢false, false≢true}
 use mathlib.Core.List.{List, [], ◌∷◌, ◌++◌, append_assoc, append-nil}
@@ -154,10 +154,10 @@ module _ (expected : List ℕ) {saves : List ℕ → Bool → Type 0} (gives : L
 
 -- ---- the file is opened
 
-module _ {E : Type 0} {saved file : Result ℤ E} {r : Result Finish NotKept} where
-  pub both_open : {fd fd' : ℤ} → saved ≡ Ok fd → file ≡ Ok fd' → are_open saved file ≡ true
-  both_open s f = rw (s, f)
+pub both_open : {E : Type 0} {saved file : Result ℤ E} {fd fd' : ℤ} → saved ≡ Ok fd → file ≡ Ok fd' → are_open saved file ≡ true
+both_open s f = rw (s, f)
 
+module _ {E : Type 0} {saved file : Result ℤ E} {r : Result Finish NotKept} where
   pub opened-not : are_open saved file ≡ false → r ≡ Err NotKept.NotOpened → OpenedAs saved file r
   opened-not n h = record { kept = rw n h }
 

@@ -13,11 +13,11 @@ use Rattle.stream_law.specs.Sinks.{kept_by, descriptor_of, failed_at, held_by, t
 
 -- ---- a call that was done, and one that failed
 
-pub kept-zero : {T E : Type 0} (done : T) → Sink.Print ≡ kept_by {T} {E} (Ok done)
-kept-zero done = refl
+pub kept-zero : {T : Type 0} (E : Type 0) (done : T) → Sink.Print ≡ kept_by {T = T} {E = E} (Ok done)
+kept-zero E done = refl
 
-pub kept-not : {T E : Type 0} (failed : E) → Sink.Unsaved ≡ kept_by {T} {E} (Err failed)
-kept-not failed = refl
+pub kept-not : (T : Type 0) {E : Type 0} (failed : E) → Sink.Unsaved ≡ kept_by {T = T} {E = E} (Err failed)
+kept-not T failed = refl
 
 -- ---- the descriptor of a place
 
