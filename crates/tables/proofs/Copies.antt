@@ -2,7 +2,7 @@
 use Prim.Native.Nat.{ℕ, ◌+◌, ◌-◌, ◌≤◌}
 use native.Mathlib.Omega.{arith}
 use mathlib.Core.Path.{◌≡◌, refl}
-use mathlib.Core.List.{List, ◌++◌, append_assoc}
+use mathlib.Core.List.{List, append_assoc}
 use lib.ListN.{length, take, drop, replicate, length-drop, length-replicate}
 use lib.Seq.{paste, drop-drop, length-take-le}
 use borrow.Rule.Slice.PartMut.{put_mid}
@@ -15,11 +15,6 @@ copied_put t u to from count h e =
     let d : from + count - from ≡ count = omega arith in
     let l : length (take count (drop from t)) ≡ count = length-take-le count (drop from t) (omega (arith, length-drop from t)) in
     rw (l, drop-drop count to t, ← append_assoc) (rw d at e)
-
--- numbers laid over the front
-pub laid_put : (run ns ms : List ℕ) → ms ≡ ns → ms ++ drop (length ns) run ≡ put run 0 ns
-unfolding put
-laid_put run ns ms e = rw e refl
 
 -- a part filled with zeros
 pub cleared_put : (t zs : List ℕ) (at count : ℕ) → zs ≡ replicate count 0 → put_mid at (at + count - at) t zs ≡ put t at (replicate count 0)

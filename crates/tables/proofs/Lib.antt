@@ -1,6 +1,7 @@
 pub mod Records
 pub mod Puts
 pub mod Copies
+pub mod Lays
 pub mod Slots
 pub mod Whole
 pub mod Written

@@ -26,13 +26,25 @@ pub sets_put : (vs t : List ℕ) (at : ℕ) → at + length vs ≤ length t → 
 unfolding put
 sets_put vs t at h = rw (sets-eq vs t at h, append_assoc, drop-drop)
 
--- ---- one more number stored in front of a run
+-- ---- one more number stored, in front of a run and behind it
 
 pub put_cons : (t : List ℕ) (at a : ℕ) (vs : List ℕ) → at < length t → set (put t (suc at) vs) at a ≡ put t at (a ∷ vs)
 unfolding put
 put_cons [] at a vs h = absurd (not-suc-le-zero h)
 put_cons (x ∷ t) zero a vs h = refl
 put_cons (x ∷ t) (suc at) a vs h = ap (λ (l : List ℕ). x ∷ l) (put_cons t at a vs (le_of_suc-le-suc h))
+
+snoc_front : (t : List ℕ) (a : ℕ) (vs : List ℕ) → length vs < length t → set (put t 0 vs) (length vs) a ≡ put t 0 (vs ++ (a ∷ []))
+unfolding put
+snoc_front [] a vs h = absurd (not-suc-le-zero h)
+snoc_front (x ∷ t) a [] h = refl
+snoc_front (x ∷ t) a (v ∷ vs) h = ap (λ (l : List ℕ). v ∷ l) (snoc_front t a vs (le_of_suc-le-suc h))
+
+pub put_snoc : (t : List ℕ) (at a : ℕ) (vs : List ℕ) → at + length vs < length t → set (put t at vs) (at + length vs) a ≡ put t at (vs ++ (a ∷ []))
+unfolding put
+put_snoc [] at a vs h = absurd (not-suc-le-zero h)
+put_snoc (x ∷ t) zero a vs h = rw zero-add (snoc_front (x ∷ t) a vs (omega arith))
+put_snoc (x ∷ t) (suc at) a vs h = rw suc-add (ap (λ (l : List ℕ). x ∷ l) (put_snoc t at a vs (omega arith)))
 
 -- ---- two runs that touch are one run, whichever was written first
 

@@ -15,7 +15,10 @@ pub fn lay(run: &mut [u64], ns: &[u64])
     requires { length ns.now ≤ length run.old }
     ensures { run.new ≡ put run.old 0 ns.now }
 {
-    run[..ns.len()].copy_from_slice(ns);
+    // No copy_from_slice: where an app lends both (the C interface) it becomes a memmove, and kakoludar.h asks for memcpy and memset alone.
+    for j in 0..ns.len() {
+        run[j] = ns[j];
+    }
 }
 
 pub fn clear(t: &mut [u64], at: usize, count: usize)
