@@ -1,5 +1,6 @@
 // What a program has open: standard input and output, and the files that it opened, each by its descriptor.
-ghost use Rattle.std.specs.Prelude.{◌≡◌, ◌≤◌, ◌^◌, IfSome, IsOk, IsErr, OnOk, OnErr};
+ghost use Rattle.std.specs.Prelude.{◌≡◌, ◌≤◌, ◌^◌, ◌<ℤ◌, ◌≤ℤ◌, pos, IfSome, IsSome, IsOk, IsErr, OnOk, OnErr};
+ghost use Rattle.std.specs.List.{All};
 ghost use Rattle.std.specs.IoError.{raw_os_error};
 ghost use Rattle.std.specs.Fd.{file_raw_fd};
 ghost use Rattle.descriptors.specs.Answered.{AnsweredAs};
@@ -181,26 +182,29 @@ impl Live {
         }
     }
 
-    // Cuts a file to its first bytes; it fails where they are more than the C library takes.
-    pub fn cut(&self, fd: i32, count: usize) -> Result<(), Failed>
-        ensures { 2 ^ 63 ≤ count → IsErr result }
+    // Cuts a file to its first bytes, as many as a whole number says; it fails where that is negative, or more than the C library takes.
+    pub fn cut(&self, fd: i32, length: i128) -> Result<(), Failed>
+        ensures negative { length <ℤ pos 0 → IsErr result }
+        ensures long { pos (2 ^ 63) ≤ℤ length → IsErr result }
     {
-        self.status(self.shorten(fd, count as u64))
+        match u64::try_from(length) {
+            Ok(count) => self.status(self.shorten(fd, count)),
+            Err(_) => Err(self.failed(Error::from_raw_os_error(NOT_TAKEN))),
+        }
     }
 
     // Takes in a file that was opened. Answers its descriptor.
     fn take_in(&mut self, opened: Result<File, Error>) -> Result<i32, Failed>
-        ensures { OnErr opened (IsErr result) }
+        ensures unopened { OnErr opened (IsErr result) }
+        ensures full { All (λ slot. IsSome slot) self.old.files → IsErr result }
     {
         let file = opened.map_err(|error| self.failed(error))?;
         let fd = file.as_raw_fd();
-        for slot in &mut self.files {
-            if slot.is_none() {
-                *slot = Some(file);
-                return Ok(fd);
-            }
-        }
-        Err(self.failed(Error::from_raw_os_error(TOO_MANY)))
+        let Some(place) = self.files.iter().position(|slot| slot.is_none()) else {
+            return Err(self.failed(Error::from_raw_os_error(TOO_MANY)));
+        };
+        self.files[place] = Some(file);
+        Ok(fd)
     }
 
     // Opens the file that a path names, to read it. Answers its descriptor.

@@ -1,8 +1,8 @@
 // An event written as six numbers, and read from them.
-ghost use Rattle.std.specs.Prelude.{◌≡◌, ◌≤◌, length};
+ghost use Rattle.std.specs.Prelude.{◌≡◌, ◌≤◌, get_or, length};
 ghost use Rattle.terms.specs.Carried.{limit_of};
 ghost use Rattle.desk_packing_law.specs.Runs.{event_length};
-ghost use Rattle.desk_packing_law.specs.Events.{side_number, kind_number, life_number, or_zero, event_numbers, kind_by, life_by, entry_by, act_by, found_in, event_from};
+ghost use Rattle.desk_packing_law.specs.Events.{side_number, kind_number, life_number, or_zero, event_numbers, kind_by, life_by, entry_by, event_if, found_in, event_from, six_in};
 
 use terms::{Act, Entry, Event, Kind, Life, Side};
 
@@ -95,33 +95,46 @@ fn entry_by(side: Side, kind: u64, life: u64, lots: u64, price: u64) -> Entry
     }
 }
 
-// The act that some numbers make, a row for each number of what it does; a number that is none of these is taken for a clock event's.
-#[tactic(auto, unfolding(desk_packing_law::specs::Events::act_by))]
-fn act_by(what: u64, kind: u64, life: u64, amount: u64, price: u64) -> Act
-    ensures { result ≡ act_by what kind life amount price }
+// The event of this act, if the six numbers are its own.
+#[tactic(auto, using(desk_packing_law::proofs::Packs::told_if))]
+fn told_if(act: Act, numbers: [u64; 6]) -> Option<Event>
+    ensures { result ≡ event_if (record { time = get_or numbers 0 0; act = act }) (six_in numbers) }
 {
+    let [time, what, kind, life, amount, price] = numbers;
+    let event = Event { time, act };
+    (pack(event) == [time, what, kind, life, amount, price]).then_some(event)
+}
+
+// The event that six numbers stand for, a row for each number of what it does; a number that is none of these is taken for a clock event's.
+// Each row compares by itself, where it is known what the event does: behind the rows, the comparison would ask for it again.
+#[tactic(auto, unfolding(desk_packing_law::specs::Events::found_in, desk_packing_law::specs::Events::found_from, desk_packing_law::specs::Events::act_by))]
+fn found_in(numbers: [u64; 6]) -> Option<Event>
+    ensures { result ≡ found_in numbers }
+{
+    let [_, what, kind, life, amount, price] = numbers;
     match what {
-        1 => Act::Enter(entry_by(Side::Buy, kind, life, amount, price)),
-        2 => Act::Enter(entry_by(Side::Sell, kind, life, amount, price)),
-        3 => Act::Withdraw(amount),
-        4 => Act::Under(price),
-        6 => Act::Finish(price),
-        _ => Act::Clock,
+        1 => told_if(
+            Act::Enter(entry_by(Side::Buy, kind, life, amount, price)),
+            numbers,
+        ),
+        2 => told_if(
+            Act::Enter(entry_by(Side::Sell, kind, life, amount, price)),
+            numbers,
+        ),
+        3 => told_if(Act::Withdraw(amount), numbers),
+        4 => told_if(Act::Under(price), numbers),
+        6 => told_if(Act::Finish(price), numbers),
+        _ => told_if(Act::Clock, numbers),
     }
 }
 
 // The event that some numbers stand for, if they are an event's.
+#[tactic(auto, unfolding(desk_packing_law::specs::Events::found_in))]
 pub fn find(ns: &[u64]) -> Option<Event>
     requires { event_length ≤ length ns.now }
     ensures { result ≡ found_in ns.now }
 {
-    let numbers = [ns[0], ns[1], ns[2], ns[3], ns[4], ns[5]];
-    let [time, what, kind, life, amount, price] = numbers;
-    let event = Event {
-        time,
-        act: act_by(what, kind, life, amount, price),
-    };
-    (pack(event) == numbers).then_some(event)
+    found_in([ns[0], ns[1], ns[2], ns[3], ns[4], ns[5]])
 }
 
 // The event that some numbers stand for; where they are no event's, a clock event at the greatest time, which is refused.

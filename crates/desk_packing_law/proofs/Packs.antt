@@ -124,3 +124,8 @@ module _ (ns own : List ℕ) (act : Act) (same : Bool) where
       told : (b : Bool) → b ≡ are_same (event_numbers made) six → then_some b made ≡ event_if made six
       told true h = sym (cond_true (are_same (event_numbers made) six) (Some made) None (sym h))
       told false h = sym (cond_false (are_same (event_numbers made) six) (Some made) None (sym h))
+
+-- an event is told just where the numbers are its own
+pub told_if : (e : Event) (ns own : List ℕ) (same : Bool) → own ≡ event_numbers e → same ≡ are_same own ns → then_some same e ≡ event_if e ns
+told_if e ns own true g h = sym (cond_true (are_same (event_numbers e) ns) (Some e) None (sym (rw g at h)))
+told_if e ns own false g h = sym (cond_false (are_same (event_numbers e) ns) (Some e) None (sym (rw g at h)))

@@ -81,6 +81,10 @@ unfoldable pub found_from : ℕ → ℕ → ℕ → ℕ → ℕ → ℕ → Opti
 found_from time what kind life amount price =
     event_if (record { time = time; act = act_by what kind life amount price }) (time ∷ what ∷ kind ∷ life ∷ amount ∷ price ∷ [])
 
+-- the first six of some numbers
+abbrev pub six_in : List ℕ → List ℕ
+six_in ns = get_or ns 0 0 ∷ get_or ns 1 0 ∷ get_or ns 2 0 ∷ get_or ns 3 0 ∷ get_or ns 4 0 ∷ get_or ns 5 0 ∷ []
+
 -- the event that some numbers stand for, or that they stand for none
 unfoldable pub found_in : List ℕ → Option Event
 found_in ns = found_from (get_or ns 0 0) (get_or ns 1 0) (get_or ns 2 0) (get_or ns 3 0) (get_or ns 4 0) (get_or ns 5 0)

@@ -3,9 +3,9 @@
 
 #![tactic(auto)]
 
-ghost use Rattle.std.specs.Prelude.{◌≡◌, take, drop};
+ghost use Rattle.std.specs.Prelude.{◌≡◌, get_or, take, drop};
 ghost use Rattle.tables.specs.Lengths.{record_length};
-ghost use Rattle.records_law.specs.Back.{RecordRead, why_by, said_by};
+ghost use Rattle.records_law.specs.Back.{RecordRead, why_by, report_if, report_in, six_in};
 
 use tables::room;
 use terms::{Band, Closing, Deal, Ended, Order, Report, Said, Why};
@@ -23,32 +23,53 @@ fn why_by(n: u64) -> Why
     }
 }
 
-// What a report of this kind says by its four fields, a row for each kind; a number that is no kind's is taken for the last.
-#[tactic(auto, unfolding(records_law::specs::Back::said_by))]
-fn said_by(kind: u64, a: u64, b: u64, c: u64, d: u64) -> Said
-    ensures { result ≡ said_by kind a b c d }
+// The report that says this, if the six numbers are its record.
+#[tactic(auto, using(records_law::proofs::Told::told_if))]
+fn told_if(said: Said, numbers: [u64; 6]) -> Option<Report>
+    ensures { result ≡ report_if (record { time = get_or numbers 1 0; said = said }) (six_in numbers) }
 {
+    let [kind, time, a, b, c, d] = numbers;
+    let report = Report { time, said };
+    (room::record(report) == [kind, time, a, b, c, d]).then_some(report)
+}
+
+// The report that six numbers stand for, a row for each kind; a number that is no kind's is taken for the last. Each row compares by itself,
+// where the kind is known: behind the rows, the comparison would ask for it again.
+#[tactic(auto, unfolding(records_law::specs::Back::report_from, records_law::specs::Back::said_by))]
+fn report_in(numbers: [u64; 6]) -> Option<Report>
+    ensures { result ≡ report_in numbers }
+{
+    let [kind, _, a, b, c, d] = numbers;
     match kind {
-        1 => Said::Accept(a),
-        2 => Said::Trade(Deal {
-            buy: a,
-            sell: b,
-            lots: c,
-            price: d,
-        }),
-        3 => Said::Convert(Order {
-            number: a,
-            price: c,
-            lots: b,
-        }),
-        4 => Said::Cancel(Ended {
-            number: a,
-            lots: b,
-            why: why_by(c),
-        }),
-        5 => Said::Slab(Band { low: a, high: b }),
-        6 => Said::Ref(a),
-        _ => Said::Close(Closing { price: a, base: b }),
+        1 => told_if(Said::Accept(a), numbers),
+        2 => {
+            let deal = Deal {
+                buy: a,
+                sell: b,
+                lots: c,
+                price: d,
+            };
+            told_if(Said::Trade(deal), numbers)
+        }
+        3 => {
+            let order = Order {
+                number: a,
+                price: c,
+                lots: b,
+            };
+            told_if(Said::Convert(order), numbers)
+        }
+        4 => {
+            let ended = Ended {
+                number: a,
+                lots: b,
+                why: why_by(c),
+            };
+            told_if(Said::Cancel(ended), numbers)
+        }
+        5 => told_if(Said::Slab(Band { low: a, high: b }), numbers),
+        6 => told_if(Said::Ref(a), numbers),
+        _ => told_if(Said::Close(Closing { price: a, base: b }), numbers),
     }
 }
 
@@ -57,10 +78,5 @@ pub fn read_record(room: &[u64], at: usize) -> Option<Report>
     ensures { RecordRead (take record_length (drop at room.now)) result }
 {
     let numbers: &[u64; 6] = room.get(at..)?.first_chunk()?;
-    let [kind, time, a, b, c, d] = *numbers;
-    let report = Report {
-        time,
-        said: said_by(kind, a, b, c, d),
-    };
-    (room::record(report) == *numbers).then_some(report)
+    report_in(*numbers)
 }

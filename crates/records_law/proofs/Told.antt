@@ -144,7 +144,7 @@ told-front r l =
 six_of : (ns : List ℕ) → length ns ≡ record_length → ns ≡ six (get_or ns 0 0) (get_or ns 1 0) (get_or ns 2 0) (get_or ns 3 0) (get_or ns 4 0) (get_or ns 5 0)
 six_of ns l = sym (take_all record_length ns (omega arith)) ∙ six_at ns 0 (omega arith)
 
-told_if : (r : Report) (ns : List ℕ) (same : Bool) → same ≡ are_same (record_of r) ns → then_some same r ≡ report_if r ns
+pub told_if : (r : Report) (ns : List ℕ) (same : Bool) → same ≡ are_same (record_of r) ns → then_some same r ≡ report_if r ns
 told_if r ns true e = sym (cond_true (are_same (record_of r) ns) (Some r) None (sym e))
 told_if r ns false e = sym (cond_false (are_same (record_of r) ns) (Some r) None (sym e))
 
@@ -171,3 +171,11 @@ record_read s part ns own n said same o p l t k e g f h =
     let rest : part ≡ drop n s = p ∙ take_all (length s - n) (drop n s) (omega (arith, length-drop n s)) in
     let six : length ns ≡ record_length = ap length t ∙ length-take-le record_length part k in
     rw (h, ← rest, ← t) (whole_read ns own said same six e g f)
+
+-- what the six numbers at a place stand for, where they are there
+pub record_found : (s part ns : List ℕ) (n : ℕ) (o : Option Report) → part ≡ slice_range s n (length s) → length part + n ≡ length s
+    → ns ≡ take record_length part → record_length ≤ length part → o ≡ report_in ns → RecordRead (take record_length (drop n s)) o
+record_found s part ns n o p l t k e =
+    let rest : part ≡ drop n s = p ∙ take_all (length s - n) (drop n s) (omega (arith, length-drop n s)) in
+    let whole : length ns ≡ record_length = ap length t ∙ length-take-le record_length part k in
+    rw (e, ← rest, ← t) (subst (λ (m : List ℕ). RecordRead m (report_in ns)) (sym (six_of ns whole)) (told-right _ _ _ _ _ _))

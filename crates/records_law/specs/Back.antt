@@ -38,6 +38,10 @@ report_if r numbers = cond (are_same (record_of r) numbers) (Some r) None
 unfoldable pub report_from : ℕ → ℕ → ℕ → ℕ → ℕ → ℕ → Option Report
 report_from kind time a b c d = report_if (record { time = time; said = said_by kind a b c d }) (kind ∷ time ∷ a ∷ b ∷ c ∷ d ∷ [])
 
+-- the first six of some numbers
+abbrev pub six_in : List ℕ → List ℕ
+six_in ns = get_or ns 0 0 ∷ get_or ns 1 0 ∷ get_or ns 2 0 ∷ get_or ns 3 0 ∷ get_or ns 4 0 ∷ get_or ns 5 0 ∷ []
+
 -- the report that the first six of some numbers stand for
 abbrev pub report_in : List ℕ → Option Report
 report_in ns = report_from (get_or ns 0 0) (get_or ns 1 0) (get_or ns 2 0) (get_or ns 3 0) (get_or ns 4 0) (get_or ns 5 0)

@@ -45,9 +45,9 @@ fn pushed(mut ten: [u64; 10], n: u64, x: u64) -> [u64; 10]
         ten[n as usize] = x;
         return ten;
     }
-    ten.copy_within(1..10, 0);
-    ten[9] = x;
-    ten
+    // No copy_within: what was stored number by number is then loaded in other widths, and a sweep over many orders waits for each.
+    let [_, b, c, d, e, f, g, h, i, j] = ten;
+    [b, c, d, e, f, g, h, i, j, x]
 }
 
 // The half hour's tally after a trade; late says whether it is in the half hour.

@@ -1,16 +1,15 @@
 -- The tape: how its arrays of ten numbers change with a trade, which of them is the last trade's, and the sum of the last ten trades.
-use Prim.Native.Nat.{ℕ, ◌+◌, ◌-◌, ◌*◌, ◌≤◌, ◌<◌}
+use Prim.Native.Nat.{ℕ, zero, suc, ◌+◌, ◌-◌, ◌*◌, ◌≤◌, ◌<◌}
 use native.Mathlib.Omega.{arith}
 use native.Mathlib.Nat.{mul-le-mul_right, min-eq_left, min-eq_right}
 use native.Mathlib.Numerals.{add-one}
-use mathlib.Core.Path.{◌≡◌, refl, sym, ◌∙◌}
-use mathlib.Core.List.{List, [], ◌∷◌}
+use mathlib.Core.Path.{◌≡◌, refl, sym, ap, ◌∙◌}
+use mathlib.Core.List.{List, [], ◌∷◌, ◌++◌}
 use mathlib.Core.Bool.{Bool, true, false}
 use borrow.Author.Tests.{ltb-true, ltb-false, le-ltb, le-leb, lt-leb, ne_eqb}
 use lib.Dec.{ltb}
-use lib.ListN.{length, get_or, take, drop, set, length-take, length-drop, drop_of_length-le}
-use lib.Seq.{drop-cons, get_or-set_same, length-take-le, paste, set_at, get_or_at}
-use Rattle.std.proofs.lemmas.Slice.{between_is}
+use lib.ListN.{length, get_or, take, drop, drop_of_length-le}
+use lib.Seq.{drop-cons, get_or-set_same}
 use Rattle.terms.specs.Sizes.{price_most, lots_most, trades_most}
 use Rattle.terms.proofs.Logic.{cases}
 use Rattle.rules_law.specs.declared.Tally.{Tally}
@@ -19,15 +18,22 @@ use Rattle.rules_law.specs.Close.{tallied, tally_all, kept, remembered, half_aft
 
 -- ---- the ten numbers of an array
 
+-- n numbers from place i on, read one by one
+abbrev reads : ℕ → ℕ → List ℕ → List ℕ
+reads zero i a = []
+reads (suc n) i a = get_or a i 0 ∷ reads n (suc i) a
+
+reads_is : (n i : ℕ) (a : List ℕ) → i + n ≤ length a → reads n i a ≡ take n (drop i a)
+reads_is zero i a h = refl
+reads_is (suc n) i a h =
+    let k : i < length a = omega arith in
+    rw (drop-cons a i 0 k) (ap (λ (l : List ℕ). get_or a i 0 ∷ l) (reads_is n (suc i) a (omega arith)))
+
 -- with ten remembered, the oldest goes and the new one comes last
-pub shifted : (a b : List ℕ) (n x : ℕ) → length a ≡ 10 → 10 ≤ n → b ≡ paste a 0 (drop 1 a) 9 → set b 9 x ≡ remembered a n x
+pub shifted : (a : List ℕ) (n x : ℕ) → length a ≡ 10 → 10 ≤ n → reads 9 1 a ++ (x ∷ []) ≡ remembered a n x
 unfolding remembered
-shifted a b n x l h e =
-    let k : length (take 9 (drop 1 a)) ≡ 9 = length-take-le 9 (drop 1 a) (omega (arith, length-drop 1 a)) in
-    let d : drop 9 a ≡ get_or a 9 0 ∷ drop 10 a = drop-cons a 9 0 (omega arith) in
-    let w : length a ≤ 10 = omega arith in
-    let z : drop 10 a ≡ [] = drop_of_length-le a w in
-    rw (le-ltb n 10 h, e, d, z, set_at (take 9 (drop 1 a)) (get_or a 9 0) [] x 9 k, between_is a 1 10)
+shifted a n x l h =
+    rw (le-ltb n 10 h) (ap (λ (t : List ℕ). drop 1 t ++ (x ∷ [])) (reads_is 10 0 a (omega arith)))
 
 -- ---- the last trade
 
@@ -43,16 +49,14 @@ last_of_few other n ten some h =
 
 -- the newest trade becomes the last
 newest : (old : List ℕ) (n x : ℕ) → length old ≡ 10 → get_or (remembered old n x) (kept (n + 1) - 1) 0 ≡ x
-unfolding remembered
 newest old n x l =
     cases (ltb n 10)
     (λ e. let h : n < 10 = ltb-true n 10 e in
     let place : kept (n + 1) - 1 ≡ n = omega arith in
-    rw (place, e) (get_or-set_same old n x 0 (omega arith)))
+    rw place (unfold remembered in rw e (get_or-set_same old n x 0 (omega arith))))
     (λ e. let h : 10 ≤ n = ltb-false n 10 e in
     let place : kept (n + 1) - 1 ≡ 9 = omega arith in
-    let k : length (drop 1 (take 10 old)) ≡ 9 = simp (length-drop, length-take) (omega arith) in
-    rw (place, e) (get_or_at (drop 1 (take 10 old)) x [] 0 9 k))
+    rw (place, ← shifted old n x l h))
 
 pub last_newest : (other : ℕ) (t : Tape) (late : Bool) (price lots : ℕ) → length t.prices ≡ 10 → last_or other (tape_after t late price lots) ≡ price
 unfolding last_or tape_after

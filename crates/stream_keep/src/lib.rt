@@ -18,7 +18,7 @@ ghost use Rattle.stream_law.specs.declared.Sink.{Sink};
 ghost use Rattle.stream_law.specs.declared.Source.{Source};
 ghost use Rattle.stream_law.specs.Sources.{Gives};
 ghost use Rattle.stream_law.specs.Streams.{holding};
-ghost use Rattle.stream_law.specs.Keeping.{OnAs, trading_run, RefusedAs, BadLaid, BadTold, BegunAs, KeptAs, OpenedAs, OpensAs, LogCompared, BrokenCompared};
+ghost use Rattle.stream_law.specs.Keeping.{OnAs, trading_run, RefusedAs, BadLaid, BadTold, BegunAs, KeptAs, OpenedAs, opened_by, OpensAs, LogCompared, BrokenCompared};
 
 use descriptors::Failed;
 use descriptors::live::Live;
@@ -228,6 +228,13 @@ fn keep_open(
 
 // ---- the file
 
+// The descriptors of a file that was opened to be read and to be appended to, if both could be.
+fn opened(saved: Result<i32, Failed>, file: Result<i32, Failed>) -> Option<(i32, i32)>
+    ensures { result ≡ opened_by saved file }
+{
+    saved.ok().zip(file.ok())
+}
+
 // Keeps the day of a file that was opened to be read and to be appended to, if both could be; no text is lent, and none is expected.
 fn keep_both(
     live: &Live,
@@ -237,7 +244,7 @@ fn keep_both(
 ) -> Result<Finish, NotKept>
     ensures { OpenedAs saved file result }
 {
-    let (Ok(saved), Ok(file)) = (saved, file) else {
+    let Some((saved, file)) = opened(saved, file) else {
         return Err(NotKept::NotOpened);
     };
     let (saved, input) = (Source::Live(saved), Source::Live(input));

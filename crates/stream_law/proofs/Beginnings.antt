@@ -47,6 +47,18 @@ begins-append (x ∷ xs) zs [] = refl
 begins-append (x ∷ xs) zs (y ∷ ys) =
     cases (eqb x y) (λ h. rw h (begins-append xs zs ys)) (λ h. rw h)
 
+-- bytes that are longer than others are not their first bytes
+longer : (xs ys : List ℕ) → length ys < length xs → begins xs ys ≡ false
+unfolding begins
+longer [] ys h = absurd (omega arith)
+longer (x ∷ xs) [] h = refl
+longer (x ∷ xs) (y ∷ ys) h =
+    let l : length ys < length xs = omega arith in
+    cases (eqb x y) (λ e. rw e (longer xs ys l)) (λ e. rw e)
+
+pub not_longer : (xs ys : List ℕ) → length ys < length xs → false ≡ begins xs ys
+not_longer xs ys h = sym (longer xs ys h)
+
 -- ---- as std compares a slice with its beginning
 
 begins-prefix : (xs ys : List ℕ) → pointwise eqb xs (take (length xs) ys) ≡ begins xs ys

@@ -6,7 +6,7 @@ use mathlib.Core.List.{List, [], ◌∷◌, ◌++◌, append_assoc, append-nil}
 use lib.ListN.{length, take}
 use lib.IntN.{ℤ}
 use borrow.Author.Tests.{not-true, not-false}
-use Rattle.std.specs.Prelude.{Ok, Err, Result}
+use Rattle.std.specs.Prelude.{Ok, Err, Result, Option, Some, None, is_some}
 use Rattle.terms.specs.declared.Refusal.{Refusal}
 use Rattle.tables.specs.Tables.{decode}
 use Rattle.state_law.specs.Opening.{fixed_session}
@@ -31,7 +31,7 @@ use Rattle.stream_law.specs.declared.Finish.{Finish}
 use Rattle.stream_law.specs.declared.NotKept.{NotKept}
 use Rattle.stream_law.specs.Sinks.{SentAs, CutAs, is_open, finish_of, saved_part, shown_part}
 use Rattle.stream_law.specs.Streams.{logging, holding, ThroughAs}
-use Rattle.stream_law.specs.Keeping.{Part, save, show, handing, saves_of, shows_of, log_of, LogsTell, GoesOnFrom, OnAs, trading_run, no_day, RefusedAs, BadLaid, BadTold, KeepsAs, BegunAs, KeptAs, are_open, Any, OpenedAs, OpensAs}
+use Rattle.stream_law.specs.Keeping.{Part, save, show, handing, saves_of, shows_of, log_of, LogsTell, GoesOnFrom, OnAs, trading_run, no_day, RefusedAs, BadLaid, BadTold, KeepsAs, BegunAs, KeptAs, are_open, opened_by, Any, OpenedAs, OpensAs}
 use Rattle.stream_law.specs.Keeping.GoesOnFrom.{uncut, on}
 use Rattle.stream_law.specs.Keeping.KeptAs.{unread, long, ran, told}
 use Rattle.stream_law.proofs.Goes.{room-text}
@@ -154,12 +154,22 @@ module _ (expected : List ℕ) {saves : List ℕ → Bool → Type 0} (gives : L
 
 -- ---- the file is opened
 
-pub both_open : {E : Type 0} {saved file : Result ℤ E} {fd fd' : ℤ} → saved ≡ Ok fd → file ≡ Ok fd' → are_open saved file ≡ true
-both_open s f = rw (s, f)
+-- there are descriptors just where both openings gave one, whatever the openings came to
+pub both_open : {E : Type 0} (saved file : Result ℤ E) → is_some (opened_by saved file) ≡ are_open saved file
+both_open (Ok saved) (Ok file) = refl
+both_open (Ok saved) (Err e) = refl
+both_open (Err e) file = refl
 
 module _ {E : Type 0} {saved file : Result ℤ E} {r : Result Finish NotKept} where
   pub opened-not : are_open saved file ≡ false → r ≡ Err NotKept.NotOpened → OpenedAs saved file r
   opened-not n h = record { kept = rw n h }
+
+  -- by the descriptors that there are
+  pub opened_none : opened_by saved file ≡ None → r ≡ Err NotKept.NotOpened → OpenedAs saved file r
+  opened_none n h = record { kept = rw (sym (both_open saved file) ∙ ap is_some n) h }
+
+  pub opened_some : {p : ℤ × ℤ} → opened_by saved file ≡ Some p → KeptAs [] Any Any Sink.Print r → OpenedAs saved file r
+  opened_some n h = record { kept = rw (sym (both_open saved file) ∙ ap is_some n) h }
 
   -- either opening failed
   pub opened_unsaved : {e : E} → saved ≡ Err e → r ≡ Err NotKept.NotOpened → OpenedAs saved file r

@@ -1,15 +1,16 @@
--- What a call's answer says of the file, the descriptor of a place, as code hands it on, and what a write took.
-use Prim.Native.Nat.{ℕ}
+-- What a call's answer says of the file, a number of bytes and the descriptor of a place, as code hands them on, and what a write took.
+use Prim.Native.Nat.{ℕ, ◌≤◌, ◌<◌}
+use native.Mathlib.Omega.{arith}
 use mathlib.Core.Path.{◌≡◌, refl, sym, ap, ◌∙◌}
-use lib.IntN.{ℤ, pos}
-use borrow.Author.Tests.{eq-eqb, ne_eqb}
-use mir.Syntax.{w32}
+use lib.IntN.{ℤ, pos, negsuc}
+use borrow.Author.Tests.{le-leb, lt-leb, eq-eqb, ne_eqb}
+use mir.Syntax.{w32, w64}
 use mir.Val.{of_z, to_z, SFits}
-use mir.Facts.{to_z-of_z}
+use mir.Facts.{to_z-of_z, to_z_pos}
 use Rattle.std.specs.Prelude.{Ok, Err}
 use Rattle.stream_law.specs.declared.Sink.{Sink}
 use Rattle.stream_law.specs.declared.Place.{Place}
-use Rattle.stream_law.specs.Sinks.{kept_by, descriptor_of, failed_at, held_by, took_by}
+use Rattle.stream_law.specs.Sinks.{kept_by, length_most, length_of, descriptor_of, failed_at, held_by, took_by}
 
 -- ---- a call that was done, and one that failed
 
@@ -18,6 +19,14 @@ kept-zero E done = refl
 
 pub kept-not : (T : Type 0) {E : Type 0} (failed : E) → Sink.Unsaved ≡ kept_by {T = T} {E = E} (Err failed)
 kept-not T failed = refl
+
+-- ---- a number of bytes
+
+pub length_long : {n : ℕ} → length_most < n → negsuc 0 ≡ length_of n
+length_long {n} h = rw (lt-leb n length_most h)
+
+pub length-there : {n : ℕ} → n ≤ length_most → to_z w64 n ≡ length_of n
+length-there {n} h = to_z_pos w64 {n = n} (omega arith) ∙ rw (le-leb n length_most h)
 
 -- ---- the descriptor of a place
 

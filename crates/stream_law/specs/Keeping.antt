@@ -1,6 +1,6 @@
 -- A DAY THAT IS KEPT IN A FILE. Document 02, item 4: "The app saves each accepted event as its line, after the settings line, before showing
 -- any report."
-use Rattle.std.specs.Prelude.{ℕ, ◌≤◌, ◌<◌, ◌≡◌, Bool, true, false, cond, ◌&&◌, List, [], ◌∷◌, ◌++◌, length, take, ℤ, Ok, Err, Result, is_ok}
+use Rattle.std.specs.Prelude.{ℕ, ◌≤◌, ◌<◌, ◌≡◌, Bool, true, false, cond, ◌&&◌, List, [], ◌∷◌, ◌++◌, length, take, ℤ, Ok, Err, Result, is_ok, Option, Some, None}
 use Rattle.terms.specs.declared.Refusal.{Refusal}
 use Rattle.state_law.specs.declared.Session.{Session}
 use Rattle.state_law.specs.Opening.{fixed_session}
@@ -160,6 +160,12 @@ pub record BrokenCompared (kept given expected : List ℕ) (r : Result Finish No
 -- both openings gave a descriptor
 abbrev pub are_open : {E : Type 0} → Result ℤ E → Result ℤ E → Bool
 are_open saved file = is_ok saved && is_ok file
+
+-- the descriptors, to be read and to be appended to, where they are
+abbrev pub opened_by : {E : Type 0} → Result ℤ E → Result ℤ E → Option (ℤ × ℤ)
+opened_by (Ok saved) (Ok file) = Some (saved, file)
+opened_by (Ok saved) (Err e) = None
+opened_by (Err e) file = None
 
 -- a descriptor gives some bytes or other
 abbrev pub Any : List ℕ → Bool → Type 0

@@ -1,5 +1,5 @@
 -- What is saved and printed, and where it goes: to a day's file and to standard output, or held against an expected text.
-use Rattle.std.specs.Prelude.{ℕ, ◌+◌, ◌≤◌, ◌<◌, ◌≡◌, Bool, true, false, cond, List, [], ◌∷◌, ◌++◌, length, take, drop, eqb, leb, ℤ, pos, Result, Ok, Err}
+use Rattle.std.specs.Prelude.{ℕ, ◌+◌, ◌≤◌, ◌<◌, ◌≡◌, Bool, true, false, cond, List, [], ◌∷◌, ◌++◌, length, take, drop, eqb, leb, ℤ, pos, negsuc, Result, Ok, Err}
 use Rattle.stream_law.specs.declared.Sink.{Sink}
 use Rattle.stream_law.specs.declared.Finish.{Finish}
 use Rattle.stream_law.specs.declared.Place.{Place}
@@ -58,6 +58,14 @@ is_open Sink.Lost = false
 abbrev pub kept_by : {T E : Type 0} → Result T E → Sink
 kept_by (Ok done) = Sink.Print
 kept_by (Err failed) = Sink.Unsaved
+
+-- the most bytes that a file can be cut to
+abbrev pub length_most : ℕ
+length_most = 9223372036854775807
+
+-- a number of bytes as the C library takes it; a larger one is -1, at which it fails
+abbrev pub length_of : ℕ → ℤ
+length_of n = cond (leb n length_most) (pos n) (negsuc 0)
 
 -- the descriptor of a place, and how a sink stands that could not hand it its bytes
 abbrev pub descriptor_of : Place → ℤ

@@ -1,6 +1,6 @@
 // The file of a day: bytes are saved in it, and it is cut; each with a wait until that has reached the disk.
 ghost use Rattle.std.specs.Prelude.{◌≡◌};
-ghost use Rattle.stream_law.specs.Sinks.{SentAs, kept_by, settled, saved_part, ShortAs, CutAs};
+ghost use Rattle.stream_law.specs.Sinks.{SentAs, kept_by, length_of, settled, saved_part, ShortAs, CutAs};
 
 use crate::{comparing, handing};
 use descriptors::Failed;
@@ -42,12 +42,19 @@ pub fn save(live: &Live, to: Sink, expected: &[u8], file: i32, bytes: &[u8]) -> 
     settle(live, handed, expected, file)
 }
 
+// A number of bytes as the C library takes it; a larger one is -1, at which it fails.
+fn length_of(count: usize) -> i64
+    ensures { result ≡ length_of count }
+{
+    i64::try_from(count).unwrap_or(-1)
+}
+
 // Cuts the file to its first bytes; a comparison passes over as many bytes.
 fn shorten(live: &Live, to: Sink, expected: &[u8], file: i32, count: usize) -> Sink
     ensures { ShortAs expected.now to count result }
 {
     match to {
-        Sink::Print => kept(live.cut(file, count)),
+        Sink::Print => kept(live.cut(file, i128::from(length_of(count)))),
         Sink::Match(at) => comparing::pass(expected, at, count),
         shut => shut,
     }

@@ -4,7 +4,7 @@ use native.Mathlib.Omega.{arith}
 use native.Mathlib.Nat.{zero-add, suc-add, not-suc-le-zero, le_of_suc-le-suc}
 use mathlib.Core.Path.{◌≡◌, refl, ap}
 use mathlib.Core.List.{List, [], ◌∷◌, ◌++◌, append_assoc}
-use lib.ListN.{length, set, length-append, length-take, length-drop, take-append-drop}
+use lib.ListN.{length, get_or, set, length-append, length-take, length-drop, take-append-drop}
 use lib.Seq.{drop-drop, take_at, drop_at, sets, sets-eq}
 use Rattle.tables.specs.Put.{put}
 
@@ -45,6 +45,29 @@ unfolding put
 put_snoc [] at a vs h = absurd (not-suc-le-zero h)
 put_snoc (x ∷ t) zero a vs h = rw zero-add (snoc_front (x ∷ t) a vs (omega arith))
 put_snoc (x ∷ t) (suc at) a vs h = rw suc-add (ap (λ (l : List ℕ). x ∷ l) (put_snoc t at a vs (omega arith)))
+
+-- ---- a number past a run, or before it, reads as it did
+
+above-front : (t vs : List ℕ) (k : ℕ) → length vs ≤ k → k < length t → get_or (put t 0 vs) k 0 ≡ get_or t k 0
+unfolding put
+above-front [] vs k g h = absurd (not-suc-le-zero h)
+above-front (x ∷ t) [] k g h = refl
+above-front (x ∷ t) (v ∷ vs) zero g h = absurd (not-suc-le-zero g)
+above-front (x ∷ t) (v ∷ vs) (suc k) g h = above-front t vs k (le_of_suc-le-suc g) (le_of_suc-le-suc h)
+
+pub get_or-put-above : (t : List ℕ) (at : ℕ) (vs : List ℕ) (k : ℕ) → at + length vs ≤ k → k < length t → get_or (put t at vs) k 0 ≡ get_or t k 0
+unfolding put
+get_or-put-above [] at vs k g h = absurd (not-suc-le-zero h)
+get_or-put-above (x ∷ t) zero vs k g h = above-front (x ∷ t) vs k (omega arith) h
+get_or-put-above (x ∷ t) (suc at) vs zero g h = absurd (omega arith)
+get_or-put-above (x ∷ t) (suc at) vs (suc k) g h = get_or-put-above t at vs k (omega arith) (le_of_suc-le-suc h)
+
+pub get_or-put-below : (t : List ℕ) (at : ℕ) (vs : List ℕ) (k : ℕ) → k < at → k < length t → get_or (put t at vs) k 0 ≡ get_or t k 0
+unfolding put
+get_or-put-below [] at vs k g h = absurd (not-suc-le-zero h)
+get_or-put-below (x ∷ t) zero vs k g h = absurd (not-suc-le-zero g)
+get_or-put-below (x ∷ t) (suc at) vs zero g h = refl
+get_or-put-below (x ∷ t) (suc at) vs (suc k) g h = get_or-put-below t at vs k (le_of_suc-le-suc g) (le_of_suc-le-suc h)
 
 -- ---- two runs that touch are one run, whichever was written first
 

@@ -1,7 +1,7 @@
 -- Reports as records: one record written behind another, and a record written over a part of the room.
 use Prim.Native.Nat.{ℕ, ◌+◌, ◌-◌, ◌*◌, ◌≤◌}
 use native.Mathlib.Omega.{arith}
-use mathlib.Core.Path.{◌≡◌, refl, sym}
+use mathlib.Core.Path.{◌≡◌, refl, sym, ap, ◌∙◌}
 use mathlib.Core.List.{List, [], ◌∷◌, ◌++◌, append_assoc}
 use lib.ListN.{length, get_or}
 use borrow.Rule.Slice.PartMut.{put_mid}
@@ -43,6 +43,22 @@ fields_again (Cancel e) = refl
 fields_again (Slab b) = refl
 fields_again (Ref price) = refl
 fields_again (Close c) = refl
+
+-- the six numbers of a record, taken apart and written as two runs of three
+record_again : (r : Report)
+    → get_or (record_of r) 0 0 ∷ get_or (record_of r) 1 0 ∷ get_or (record_of r) 2 0
+    ∷ get_or (record_of r) 3 0 ∷ get_or (record_of r) 4 0 ∷ get_or (record_of r) 5 0 ∷ [] ≡ record_of r
+unfolding record_of
+record_again r = ap (λ (fs : List ℕ). kind_of r.said ∷ r.time ∷ fs) (fields_again r.said)
+
+pub record_stored : (t u v ns : List ℕ) (at : ℕ) (r : Report) → ns ≡ record_of r
+    → u ≡ put t at (get_or ns 0 0 ∷ get_or ns 1 0 ∷ get_or ns 2 0 ∷ [])
+    → v ≡ put u (at + 3) (get_or ns 3 0 ∷ get_or ns 4 0 ∷ get_or ns 5 0 ∷ [])
+    → at + record_length ≤ length t → v ≡ put t at (record_of r)
+record_stored t u v ns at r e p q h =
+    let xs : List ℕ = get_or (record_of r) 0 0 ∷ get_or (record_of r) 1 0 ∷ get_or (record_of r) 2 0 ∷ [] in
+    let ys : List ℕ = get_or (record_of r) 3 0 ∷ get_or (record_of r) 4 0 ∷ get_or (record_of r) 5 0 ∷ [] in
+    rw (q, p, e) (put-put t at xs ys (omega arith)) ∙ ap (put t at) (record_again r)
 
 pub record_made : (r : Report) (kind : ℕ) (fields : List ℕ) → kind ≡ kind_of r.said → fields ≡ fields_of r.said
     → kind ∷ r.time ∷ get_or fields 0 0 ∷ get_or fields 1 0 ∷ get_or fields 2 0 ∷ get_or fields 3 0 ∷ [] ≡ record_of r

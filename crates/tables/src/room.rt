@@ -4,7 +4,7 @@ ghost use Rattle.tables.specs.Lengths.{record_length};
 ghost use Rattle.tables.specs.Records.{fields_of, record_of};
 ghost use Rattle.tables.specs.Put.{put};
 
-use crate::lengths;
+use crate::flat;
 use terms::{Report, Said, numbers};
 
 // The fields of a report, in the order of its printed line; zero where there is none.
@@ -42,5 +42,8 @@ pub fn put_record(room: &mut [u64], at: usize, r: Report)
     requires { at + record_length ≤ length room.old }
     ensures { room.new ≡ put room.old at (record_of r) }
 {
-    room[at..at + lengths::RECORD].copy_from_slice(&record(r));
+    // No copy_from_slice: the record would go through the stack, which makes a close with full books half as long again.
+    let [kind, time, first, second, third, fourth] = record(r);
+    flat::store3(room, at, kind, time, first);
+    flat::store3(room, at + 3, second, third, fourth);
 }

@@ -1,6 +1,6 @@
 -- The place is past the room's end, or there is no whole record, or one is read.
 use borrow.Author.Rules.{rules}
-use Rattle.records_law.proofs.Told.{past_end, not_whole, record_read}
+use Rattle.records_law.proofs.Told.{past_end, not_whole, record_found}
 use Rattle.records.proofs.read_record.Goals as goal
 
 pub returns-in_err-get : goal.returns-in_err-get
@@ -11,5 +11,5 @@ returns-in_err-numbers c = not_whole c.args.room.now c.in_ok-get.field-0.now c.a
 
 pub returns : goal.returns
 returns c =
-    record_read c.args.room.now c.in_ok-get.field-0.now c.in_ok-numbers.numbers.now _ c.args.at _ _ _ (search rules) (search rules) (search rules) (search rules) c.said_by.ensures
-    c.record.ensures c.eq.ensures c.then_some.ensures
+    record_found c.args.room.now c.in_ok-get.field-0.now c.in_ok-numbers.numbers.now c.args.at _ (search rules) (search rules) (search rules) (search rules)
+    c.report_in.ensures

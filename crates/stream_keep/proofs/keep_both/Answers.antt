@@ -1,9 +1,8 @@
--- The file could not be opened, or its day was kept.
-use Rattle.stream_law.proofs.Keeping.{opened_unsaved, opened_unfiled, opened_both}
+-- The day of the descriptors that there are was kept.
+use mathlib.Core.Path.{sym, ◌∙◌}
+use Rattle.stream_law.proofs.Keeping.{opened_some}
 use borrow.Author.Rules.{rules}
 use Rattle.stream_keep.proofs.keep_both.Goals as goal
 
-ruleset answers = (rules, opened_unsaved, opened_unfiled, opened_both)
-
 pub returns : goal.returns
-returns c = search answers
+returns c = opened_some (sym c.opened.ensures ∙ c.in-Some.is) (search rules)

@@ -10,4 +10,4 @@ unfolding remembered
 returns-then-n-lt10 c = simp (lt-ltb _ _ c.if-n-lt10.true)
 
 pub returns : goal.returns
-returns c = search (rules, shifted)
+returns c = shifted c.args.ten c.args.n c.args.x (search rules) c.if-n-lt10.false

@@ -1,7 +1,7 @@
--- The record stands in the place of the part.
+-- The record is written as two runs of three numbers, one behind the other.
 use borrow.Author.Rules.{rules}
-use Rattle.tables.proofs.Written.{record_done}
+use Rattle.tables.proofs.Written.{record_stored}
 use Rattle.tables.proofs.room.put_record.Goals as goal
 
 pub returns : goal.returns
-returns c = search (rules, record_done)
+returns c = search (rules, record_stored)
